@@ -1,0 +1,68 @@
+-- The language of a pattern: source document 001, section 3, "Semantics", clause by clause and in its order.
+-- A word is the kind and boat of each line of a chain: 001's data word, the kind its letter and the boat its data value.
+use mathlib.Core.Path.{_≡_}
+use mathlib.Core.Bool.{Bool, cond, true, false}
+use mathlib.Core.List.{List, [], _∷_, _++_}
+use mathlib.Core.Logic.{_⊎_}
+use mathlib.Core.Option.{Option, none, some}
+use Prim.Native.Nat.{ℕ}
+use lib.Dec.{eqb}
+use Rattle.meaning.specs.Record.{Boat, agree}
+use Rattle.meaning.specs.Pattern.{Rule, same, other, Pattern, nothing, line, test, either, then, repeat, keep}
+
+pub record Letter : Type 0 where
+  pub kind : ℕ
+  pub boat : Boat
+
+abbrev pub Word : Type 0
+Word = List Letter
+
+-- a valuation: the boat of each slot that has one
+abbrev pub Valuation : Type 0
+Valuation = ℕ → Option Boat
+
+-- no slot has a boat
+abbrev pub unbound : Valuation
+unbound s = none
+
+-- ν[s ← b]
+abbrev pub bind : Valuation → ℕ → Boat → Valuation
+bind ν s b t = cond (eqb t s) (some b) (ν t)
+
+-- ---- a line's boat against a slot's boat
+
+-- what comparing two boats tells
+pub data Compared : Type 0 where
+  same-boat other-boat : Compared
+
+abbrev pub compared : Boat → Boat → Compared
+compared a b = cond (agree a b) same-boat other-boat
+
+-- what a command asks of it
+abbrev pub meets : Rule → Compared → Bool
+meets same same-boat = true
+meets same other-boat = false
+meets other same-boat = false
+meets other other-boat = true
+
+-- a slot without a boat accepts nothing
+abbrev pub Meets : Rule → Option Boat → Boat → Type 0
+Meets r none b = ⊥
+Meets r (some kept) b = meets r (compared b kept) ≡ true
+
+-- ---- the language
+
+-- none or more words of P, one after the other
+pub data Star (P : Word → Type 0) : Word → Type 0 where
+  stop : {w : Word} → w ≡ [] → Star P w
+  more : {w : Word} (u v : Word) → w ≡ u ++ v → P u → Star P v → Star P w
+
+-- ε; a; a[x=] and a[x≠]; r₁ + r₂; r₁ · r₂; r₁*; a↓x(r₁)
+abbrev pub L : Pattern → Valuation → Word → Type 0
+L nothing ν w = w ≡ []
+L (line k) ν w = (a : Letter) × (w ≡ a ∷ []) × (a .kind ≡ k)
+L (test r k s) ν w = (a : Letter) × (w ≡ a ∷ []) × (a .kind ≡ k) × Meets r (ν s) (a .boat)
+L (either p q) ν w = L p ν w ⊎ L q ν w
+L (then p q) ν w = (u : Word) × (v : Word) × (w ≡ u ++ v) × L p ν u × L q ν v
+L (repeat p) ν w = Star (L p ν) w
+L (keep k s p) ν w = (a : Letter) × (u : Word) × (w ≡ a ∷ u) × (a .kind ≡ k) × L p (bind ν s (a .boat)) u

@@ -1,0 +1,6 @@
+pub mod Outcome
+pub mod Record
+pub mod Writing
+pub mod Pattern
+pub mod Language
+pub mod Rows

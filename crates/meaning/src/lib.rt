@@ -1,0 +1,1 @@
+// What a reader must believe stands in specs/; no code is here.
