@@ -127,20 +127,22 @@ pub record Part : Type 0 where
 abbrev pub part : Pattern → ℕ → Outcome Part
 part p n = passed (record { tree = p; next = n })
 
--- a command and the patterns after it, which `read` reads
-abbrev pub whole : (ℕ → ℕ → List ℕ → ℕ → Outcome Part) → Command → ℕ → List ℕ → ℕ → Outcome Part
-whole read c before kept depth =
-    cond (eqb (c .patterns) 0) (part (leaf (c .code) (c .kind) (c .slot)) (c .next))
-    (andThen (read (c .next) (before + 1) (keptIn (c .code) (c .slot) kept) (depthIn (c .code) depth)) (λ p.
-    cond (eqb (c .patterns) 1) (part (around (c .code) (c .kind) (c .slot) (p .tree)) (p .next))
-    (andThen (read (p .next) (before + 1 + commands (p .tree)) kept depth) (λ q.
-    part (joined (c .code) (p .tree) (q .tree)) (q .next)))))
+-- a command and the patterns after it, none, one or two, which `read` reads
+abbrev pub whole : ℕ → (ℕ → ℕ → List ℕ → ℕ → Outcome Part) → Command → ℕ → List ℕ → ℕ → Outcome Part
+whole zero read c before kept depth = part (leaf (c .code) (c .kind) (c .slot)) (c .next)
+whole (suc zero) read c before kept depth =
+    andThen (read (c .next) (before + 1) (keptIn (c .code) (c .slot) kept) (depthIn (c .code) depth)) (λ p.
+    part (around (c .code) (c .kind) (c .slot) (p .tree)) (p .next))
+whole (suc (suc n)) read c before kept depth =
+    andThen (read (c .next) (before + 1) kept depth) (λ p.
+    andThen (read (p .next) (before + 1 + commands (p .tree)) kept depth) (λ q.
+    part (joined (c .code) (p .tree) (q .tree)) (q .next)))
 
 -- the pattern at a place; the first number only bounds how deep patterns stand in each other
 unfoldable pub readAt : ℕ → List ℕ → ℕ → ℕ → List ℕ → ℕ → Outcome Part
 readAt zero s at before kept depth = refused 8
 readAt (suc bound) s at before kept depth =
-    andThen (commandAt s at before kept depth) (λ c. whole (λ a b k d. readAt bound s a b k d) c before kept depth)
+    andThen (commandAt s at before kept depth) (λ c. whole (c .patterns) (λ a b k d. readAt bound s a b k d) c before kept depth)
 
 -- a pattern's bytes: questions 8 to 14; `given` marks the slots that have a boat from outside
 unfoldable pub readPattern : List ℕ → List ℕ → Outcome Pattern
