@@ -63,6 +63,10 @@ placesBelow places l = ltb (l .from) places && ltb (l .to) places
 abbrev pub kindAllowed : ℕ → Bool
 kindAllowed k = leb 1 k && leb k 15
 
+-- questions 5 and 6 of a line
+abbrev pub askLine : {A : Type 0} → ℕ → Line → Outcome A → Outcome A
+askLine places l rest = ask (placesBelow places l) 5 (ask (kindAllowed (l .kind)) 6 rest)
+
 -- what stands at a command of the record after the first
 pub data Entry : Type 0 where
   line : Line → Entry
@@ -75,9 +79,7 @@ entryAt places s =
     (cond (eqb (byte s 0) 0x00) (ask (eqb (length s) 1) 7 (passed end))
     (ask (eqb (byte s 0) 0x02) 3
     (ask (leb 10 (length s)) 4
-    (ask (placesBelow places (lineOf s)) 5
-    (ask (kindAllowed (lineOf s .kind)) 6
-    (passed (line (lineOf s))))))))
+    (askLine places (lineOf s) (passed (line (lineOf s)))))))
 
 -- a line is followed by the lines after it, the end by nothing
 abbrev pub followed : Entry → Outcome (List Line) → Outcome (List Line)

@@ -5,7 +5,7 @@ use Prim.Native.Nat.{ℕ, _+_, _-_, _/_, _%_}
 use lib.Dec.{ltb, leb}
 use lib.ListN.{length, getD, take, drop}
 use Rattle.meaning.specs.Outcome.{Outcome, refused, passed, ask, andThen}
-use Rattle.meaning.specs.Record.{Boat, Line, Day, bytesOf, countAllowed, placesBelow, kindAllowed, readRecord}
+use Rattle.meaning.specs.Record.{Boat, Line, Day, bytesOf, countAllowed, askLine, readRecord}
 
 -- a buffer with new bytes from a place on; all other bytes stay
 abbrev pub written : ℕ → List ℕ → List ℕ → List ℕ
@@ -29,16 +29,19 @@ beginAfter buffer n = unlessRefused (beginOf buffer n) (written 0 (emptyRecord n
 
 -- ---- add a line to the record in the first len bytes of a buffer: the new length
 
+-- the questions about the new line and the room for it, of a record of so many places and lines
+abbrev pub askNew : ℕ → ℕ → ℕ → ℕ → Line → Outcome ℕ
+askNew places lines room len l =
+    askLine places l
+    (ask (ltb (l .boat .sail) 16777216) 21
+    (ask (ltb lines 4096) 22
+    (ask (leb (len + 10) room) 23
+    (passed (len + 10)))))
+
 unfoldable pub addOf : List ℕ → ℕ → Line → Outcome ℕ
 addOf buffer len l =
     ask (leb len (length buffer)) 20
-    (andThen (readRecord (take len buffer)) (λ day.
-    ask (placesBelow (day .places) l) 5
-    (ask (kindAllowed (l .kind)) 6
-    (ask (ltb (l .boat .sail) 16777216) 21
-    (ask (ltb (length (day .lines)) 4096) 22
-    (ask (leb (len + 10) (length buffer)) 23
-    (passed (len + 10))))))))
+    (andThen (readRecord (take len buffer)) (λ day. askNew (day .places) (length (day .lines)) (length buffer) len l))
 
 -- the line's ten bytes from the old end byte on, and a new end byte
 abbrev pub addAfter : List ℕ → ℕ → Line → List ℕ

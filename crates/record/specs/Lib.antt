@@ -1,0 +1,4 @@
+pub mod Reply
+pub mod Outcomes
+pub mod Walk
+pub mod Whole

@@ -1,0 +1,74 @@
+-- What each case of the code's enums says, in document 01's terms: the number and values of a reply, a struct as the line it holds.
+-- The promises of `record` compare replies through these definitions.
+use mathlib.Core.Bool.{cond}
+use mathlib.Core.List.{List}
+use Prim.Native.Nat.{ℕ, _+_}
+use lib.ListN.{length}
+use Rattle.meaning.specs.Outcome.{Outcome, refused, passed, Reply, value, refusal}
+use Rattle.meaning.specs.Record.{Boat, Line, Day, Entry, two, placesWhole}
+use Rattle.meaning.specs.Record as meaning
+use Rattle.record.specs.declared.Line.{Line as LineStruct}
+use Rattle.record.specs.declared.WriteReply.{WriteReply}
+use Rattle.record.specs.declared.WriteReply.the-variants as Write
+use Rattle.record.specs.declared.LineReply.{LineReply}
+use Rattle.record.specs.declared.LineReply.the-variants as Read
+use Rattle.record.specs.declared.Head.{Head}
+use Rattle.record.specs.declared.Head.the-variants as First
+use Rattle.record.specs.declared.Entry.{Entry as EntryEnum}
+use Rattle.record.specs.declared.Entry.the-variants as At
+use Rattle.record.specs.declared.Reading.{Reading}
+use Rattle.record.specs.declared.Reading.the-variants as Whole
+
+-- ---- replies of open functions
+
+-- the line that the five operands are
+abbrev pub lineShown : LineStruct → Line
+lineShown l = record { from = l .from; kind = l .kind; boat = record { class = l .class; sail = l .sail }; to = l .to }
+
+abbrev pub writeReply : WriteReply → Reply ℕ
+writeReply (Write.Length n) = value n
+writeReply (Write.Refused number second) = refusal number second
+
+-- the reply that says it
+abbrev pub writeTold : Outcome ℕ → WriteReply
+writeTold (refused number) = Write.Refused number 0
+writeTold (passed n) = Write.Length n
+
+abbrev pub lineReply : LineReply → Reply Line
+lineReply (Read.Line l) = value (lineShown l)
+lineReply (Read.Refused number second) = refusal number second
+
+-- ---- what a reading step answers
+
+abbrev pub entryTold : Outcome Entry → EntryEnum
+entryTold (refused number) = At.Wrong number
+entryTold (passed (meaning.line l)) = At.Line
+entryTold (passed meaning.end) = At.End
+
+abbrev pub entryNumber : EntryEnum → ℕ
+entryNumber At.Line = 0
+entryNumber At.End = 0
+entryNumber (At.Wrong number) = number
+
+-- the places command: question 2
+abbrev pub headTold : List ℕ → Head
+headTold s = cond (placesWhole s) (First.Places (two s 1)) (First.Wrong 2)
+
+-- lines of a record of so many places, `before` lines having been read before them
+abbrev pub countedWith : ℕ → ℕ → Outcome (List Line) → Reading
+countedWith places before (refused number) = Whole.Refused number
+countedWith places before (passed ls) = Whole.Record places (before + length ls)
+
+-- the walk stops at an entry: at the end with the lines read before it
+abbrev pub closedWith : ℕ → ℕ → EntryEnum → Reading
+closedWith places lines At.Line = Whole.Refused 3
+closedWith places lines At.End = Whole.Record places lines
+closedWith places lines (At.Wrong number) = Whole.Refused number
+
+abbrev pub readingTold : Outcome Day → Reading
+readingTold (refused number) = Whole.Refused number
+readingTold (passed day) = Whole.Record (day .places) (length (day .lines))
+
+abbrev pub readingNumber : Reading → ℕ
+readingNumber (Whole.Record places lines) = 0
+readingNumber (Whole.Refused number) = number

@@ -1,0 +1,55 @@
+-- What a record that passes is made of, and how long it is. Assumes nothing.
+use mathlib.Core.Path.{_≡_, refl, sym, ap, _∙_, subst}
+use mathlib.Core.Bool.{true}
+use mathlib.Core.List.{List}
+use Prim.Native.Nat.{ℕ, _+_, _*_, _<_, _≤_}
+use native.Mathlib.Omega.{arith}
+use lib.Dec.{leb}
+use lib.ListN.{length, getD, drop, length-drop}
+use lib.Seq.{drop-drop}
+use borrow.Author.Tests.{leb-true, le-leb}
+use Rattle.meaning.specs.Outcome.{Outcome, refused, passed}
+use Rattle.meaning.specs.Record.{Line, Day, two, lineOf, placesWhole, linesFrom, readRecord}
+use Rattle.meaning.specs.Writing.{lineAt}
+use Rattle.record.specs.Outcomes.{passed-inj, ask-passed, andThen-passed, and-true}
+use Rattle.record.specs.Walk.{lines-length, lines-at}
+
+-- the parts of a record that passes: the places command, and the walk over the lines
+pub record Whole (s : List ℕ) (places : ℕ) (lines : List Line) : Type 0 where
+  pub short : length s ≤ 40964
+  pub head : placesWhole s ≡ true
+  pub count : places ≡ two s 1
+  pub walk : linesFrom (length s) (two s 1) (drop 3 s) ≡ passed lines
+
+pub whole-of : (s : List ℕ) (day : Day) → readRecord s ≡ passed day → Whole s (day .places) (day .lines)
+unfolding readRecord
+whole-of s day h =
+    let (a, g) = ask-passed _ _ _ _ h in
+    let (b, f) = ask-passed _ _ _ _ g in
+    let (ls, w, e) = andThen-passed (linesFrom (length s) (two s 1) (drop 3 s)) _ _ f in
+    let d = passed-inj e in
+    record { short = leb-true _ _ a; head = b; count = sym (ap (λ (x : Day). x .places) d); walk = w ∙ ap (λ (x : Day). passed (x .lines)) d }
+
+pub of-whole : (s : List ℕ) (places : ℕ) (lines : List Line) → Whole s places lines → readRecord s ≡ passed (record { places = places; lines = lines })
+unfolding readRecord
+of-whole s places lines w = simp (le-leb _ _ (w .short), w .head, w .walk, w .count)
+
+pub head-long : (s : List ℕ) → placesWhole s ≡ true → 3 ≤ length s
+head-long s h = leb-true _ _ (and-true _ _ (and-true _ _ h .0) .0)
+
+-- ---- of a record that passes
+
+module _ (s : List ℕ) (day : Day) (h : readRecord s ≡ passed day) where
+  -- three bytes for the places, ten for each line, one for the end
+  pub record-length : length s ≡ 4 + 10 * length (day .lines)
+  record-length =
+      let w = whole-of s day h in
+      omega (arith, lines-length (length s) (two s 1) (drop 3 s) (day .lines) (w .walk), length-drop 3 s, head-long s (w .head))
+
+  -- at most 4,096 lines
+  pub lines-few : length (day .lines) ≤ 4096
+  lines-few = omega (arith, record-length, whole-of s day h .short)
+
+  -- line i stands at byte 3 + 10 · i
+  pub line-stands : (i : ℕ) → i < length (day .lines) → lineAt (day .lines) i ≡ lineOf (drop (3 + 10 * i) s)
+  line-stands i k = lines-at (length s) (two s 1) (drop 3 s) (day .lines) (whole-of s day h .walk) i k ∙ ap lineOf (drop-drop (10 * i) 3 s)

@@ -1,0 +1,325 @@
+// The day's record: reading its bytes, beginning one, adding a line, reading a line back, counting its boats.
+ghost use mathlib.Core.Path.{_≡_};
+ghost use mathlib.Core.List.{[], _∷_, _++_};
+ghost use Prim.Native.Nat.{_+_, _*_, _<_, _≤_};
+ghost use lib.ListN.{length, drop};
+ghost use Rattle.meaning.specs.Outcome.{passed, told};
+ghost use Rattle.meaning.specs.Record.{two, three, lineOf, bytesOf, askLine, entryAt, linesFrom, readRecord};
+ghost use Rattle.meaning.specs.Record.{line as line-entry};
+ghost use Rattle.meaning.specs.Writing.{written, beginOf, beginAfter, askNew, addOf, addAfter, readOf};
+ghost use Rattle.record.specs.Reply.{writeReply, writeTold, entryNumber, readingNumber, lineReply, lineShown, entryTold, closedWith, headTold, countedWith, readingTold};
+
+// The five operands of a line.
+pub struct Line {
+    pub from: u16,
+    pub kind: u8,
+    pub class: u8,
+    pub sail: u32,
+    pub to: u16,
+}
+
+// What beginning a record and adding a line say: the record's new length, or a refusal's number and second number.
+pub enum WriteReply {
+    Length(usize),
+    Refused(u8, usize),
+}
+
+// What reading a line back says.
+pub enum LineReply {
+    Line(Line),
+    Refused(u8, usize),
+}
+
+// The places command at the front of a record.
+pub enum Head {
+    Places(usize),
+    Wrong(u8),
+}
+
+// What stands at one byte after it, questions 3 to 7 asked: a line, the end, or the number of the question that fails.
+pub enum Entry {
+    Line,
+    End,
+    Wrong(u8),
+}
+
+// A whole record, questions 1 to 7 asked: how many places and lines, or the number of the question that fails.
+pub enum Reading {
+    Record { places: usize, lines: usize },
+    Refused(u8),
+}
+
+impl Entry {
+    // The number of the question that failed, 0 where none did.
+    fn number(self) -> u8
+        ensures { λ r. ⌜ r ≡ entryNumber self ⌝ }
+    {
+        match self {
+            Entry::Line => 0,
+            Entry::End => 0,
+            Entry::Wrong(q) => q,
+        }
+    }
+}
+
+impl Reading {
+    // The number of the question that failed, 0 where none did.
+    pub fn number(self) -> u8
+        ensures { λ r. ⌜ r ≡ readingNumber self ⌝ }
+    {
+        match self {
+            Reading::Record { places: _, lines: _ } => 0,
+            Reading::Refused(q) => q,
+        }
+    }
+}
+
+const LONGEST: usize = 40964;
+
+const MOST_PLACES: usize = 1024;
+
+const MOST_LINES: usize = 4096;
+
+const SAILS: u32 = 16777216;
+
+// ---- numbers in bytes, the high byte first
+
+fn wide(x: u8) -> u16
+    ensures { λ r. ⌜ (r ≡ x) × (r < 256) ⌝ }
+{
+    x as u16
+}
+
+fn two_at(s: &[u8], i: usize) -> u16
+    requires { ⌜ i + 1 < length (now s) ⌝ }
+    ensures { λ r. ⌜ r ≡ two (now (s .entry)) i ⌝ }
+{
+    let high = wide(s[i]);
+    let low = wide(s[i + 1]);
+    high * 256 + low
+}
+
+fn three_at(s: &[u8], i: usize) -> u32
+    requires { ⌜ i + 2 < length (now s) ⌝ }
+    ensures { λ r. ⌜ (r ≡ three (now (s .entry)) i) × (r < 16777216) ⌝ }
+{
+    let high = two_at(s, i);
+    let low = wide(s[i + 2]);
+    high as u32 * 256 + low as u32
+}
+
+// ---- a line in bytes
+
+// The line whose ten bytes s begins with.
+fn line_of(s: &[u8]) -> Line
+    requires { ⌜ 10 ≤ length (now s) ⌝ }
+    ensures { λ r. ⌜ (lineShown r ≡ lineOf (now (s .entry))) × (r .sail < 16777216) ⌝ }
+{
+    let from = two_at(s, 1);
+    let sail = three_at(s, 5);
+    let to = two_at(s, 8);
+    Line {
+        from,
+        kind: s[3],
+        class: s[4],
+        sail,
+        to,
+    }
+}
+
+// The ten bytes of a line and an end byte after them.
+fn line_bytes(l: Line) -> [u8; 11]
+    requires { ⌜ l .sail < 16777216 ⌝ }
+    ensures { λ r. ⌜ r ≡ bytesOf (lineShown l) ++ (0 ∷ []) ⌝ }
+{
+    [
+        2,
+        (l.from / 256) as u8,
+        (l.from % 256) as u8,
+        l.kind,
+        l.class,
+        (l.sail / 65536) as u8,
+        (l.sail / 256 % 256) as u8,
+        (l.sail % 256) as u8,
+        (l.to / 256) as u8,
+        (l.to % 256) as u8,
+        0,
+    ]
+}
+
+// ---- questions 1 to 7
+
+// Questions 5 and 6 of a line.
+fn line_asked(l: Line, places: usize) -> Entry
+    ensures { λ r. ⌜ r ≡ entryTold (askLine places (lineShown l) (passed (line-entry (lineShown l)))) ⌝ }
+{
+    if places <= l.from as usize {
+        return Entry::Wrong(5);
+    }
+    if places <= l.to as usize {
+        return Entry::Wrong(5);
+    }
+    if l.kind == 0 {
+        return Entry::Wrong(6);
+    }
+    if 15 < l.kind {
+        return Entry::Wrong(6);
+    }
+    Entry::Line
+}
+
+// Questions 3 to 7 at the first of the bytes s, the rest of a record.
+fn entry_at(s: &[u8], places: usize) -> Entry
+    ensures { λ r. ⌜ r ≡ entryTold (entryAt places (now (s .entry))) ⌝ }
+{
+    if s.len() == 0 {
+        return Entry::Wrong(3);
+    }
+    let b = s[0];
+    if b == 0 {
+        if s.len() == 1 {
+            return Entry::End;
+        }
+        return Entry::Wrong(7);
+    }
+    if b != 2 {
+        return Entry::Wrong(3);
+    }
+    if s.len() < 10 {
+        return Entry::Wrong(4);
+    }
+    line_asked(line_of(s), places)
+}
+
+// What a record of so many places and lines read so far is, where the walk stops at an entry that is no line.
+fn closed(e: Entry, places: usize, lines: usize) -> Reading
+    ensures { λ r. ⌜ r ≡ closedWith places lines e ⌝ }
+{
+    match e {
+        Entry::Line => Reading::Refused(3),
+        Entry::End => Reading::Record { places, lines },
+        Entry::Wrong(q) => Reading::Refused(q),
+    }
+}
+
+// Questions 3 to 7 of all that stands after the places command.
+fn lines_from(day: &[u8], places: usize) -> Reading
+    requires { ⌜ (3 ≤ length (now day)) × (length (now day) ≤ 40964) ⌝ }
+    ensures { λ r. ⌜ r ≡ countedWith places 0 (linesFrom (length (now (day .entry))) places (drop 3 (now (day .entry)))) ⌝ }
+{
+    let mut at: usize = 3;
+    let mut lines: usize = 0;
+    loop {
+        let e = entry_at(&day[at..], places);
+        let Entry::Line = e else {
+            return closed(e, places, lines);
+        };
+        at += 10;
+        lines += 1;
+    }
+}
+
+// Question 2.
+fn head_of(day: &[u8]) -> Head
+    ensures { λ r. ⌜ r ≡ headTold (now (day .entry)) ⌝ }
+{
+    if day.len() < 3 {
+        return Head::Wrong(2);
+    }
+    if day[0] != 1 {
+        return Head::Wrong(2);
+    }
+    let count = two_at(day, 1);
+    if count == 0 {
+        return Head::Wrong(2);
+    }
+    if 1024 < count {
+        return Head::Wrong(2);
+    }
+    Head::Places(count as usize)
+}
+
+// Questions 1 to 7.
+pub fn read_record(day: &[u8]) -> Reading
+    ensures { λ r. ⌜ r ≡ readingTold (readRecord (now (day .entry))) ⌝ }
+{
+    if LONGEST < day.len() {
+        return Reading::Refused(1);
+    }
+    let head = head_of(day);
+    let Head::Places(places) = head else {
+        return Reading::Refused(2);
+    };
+    lines_from(day, places)
+}
+
+// ---- writing
+
+// Puts new bytes into a buffer from a place on.
+fn write_at(buf: &mut [u8], at: usize, new: &[u8])
+    requires { ⌜ at + length (now new) ≤ length (now buf) ⌝ }
+    ensures { λ _. ⌜ now (buf .exit) ≡ written at (now (new .entry)) (now (buf .entry)) ⌝ }
+{
+    bytes::copy(new, &mut buf[at..]);
+}
+
+// Begins a record of so many places, with no line.
+pub fn begin_record(buf: &mut [u8], places: u16) -> WriteReply
+    ensures reply { λ r. ⌜ writeReply r ≡ told (beginOf (now (buf .entry)) places) ⌝ }
+    ensures buffer { λ _. ⌜ now (buf .exit) ≡ beginAfter (now (buf .entry)) places ⌝ }
+{
+    if places == 0 {
+        return WriteReply::Refused(2, 0);
+    }
+    if 1024 < places {
+        return WriteReply::Refused(2, 0);
+    }
+    if buf.len() < 4 {
+        return WriteReply::Refused(23, 0);
+    }
+    let new = [1, (places / 256) as u8, (places % 256) as u8, 0];
+    write_at(buf, 0, &new);
+    WriteReply::Length(4)
+}
+
+// Questions 5 and 6 of a new line, 21, 22 and 23, for a record of so many places and lines and len bytes in a buffer of room bytes.
+fn new_asked(places: usize, lines: usize, room: usize, len: usize, line: Line) -> WriteReply
+    requires { ⌜ len ≤ room ⌝ }
+    ensures { λ r. ⌜ r ≡ writeTold (askNew places lines room len (lineShown line)) ⌝ }
+{
+    let e = line_asked(line, places);
+    let Entry::Line = e else {
+        return WriteReply::Refused(e.number(), 0);
+    };
+    if SAILS <= line.sail {
+        return WriteReply::Refused(21, 0);
+    }
+    if MOST_LINES <= lines {
+        return WriteReply::Refused(22, 0);
+    }
+    if room - len < 10 {
+        return WriteReply::Refused(23, 0);
+    }
+    WriteReply::Length(len + 10)
+}
+
+// Adds a line to the record in the first len bytes of a buffer.
+pub fn add_line(buf: &mut [u8], len: usize, line: Line) -> WriteReply
+    ensures reply { λ r. ⌜ writeReply r ≡ told (addOf (now (buf .entry)) len (lineShown line)) ⌝ }
+    ensures buffer { λ _. ⌜ now (buf .exit) ≡ addAfter (now (buf .entry)) len (lineShown line) ⌝ }
+{
+    if buf.len() < len {
+        return WriteReply::Refused(20, 0);
+    }
+    let day = read_record(&buf[..len]);
+    let Reading::Record { places, lines } = day else {
+        return WriteReply::Refused(day.number(), 0);
+    };
+    let reply = new_asked(places, lines, buf.len(), len, line);
+    let WriteReply::Length(_) = reply else {
+        return reply;
+    };
+    let new = line_bytes(line);
+    write_at(buf, len - 1, &new);
+    reply
+}
