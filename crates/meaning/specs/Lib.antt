@@ -3,4 +3,5 @@ pub mod Record
 pub mod Writing
 pub mod Pattern
 pub mod Language
+pub mod Chain
 pub mod Rows

@@ -37,9 +37,10 @@ module _ (places : ℕ) (s : List ℕ) (k bound : ℕ) where
       go : (o : Outcome Entry) → entryAt places s ≡ o → At.Line ≡ entryTold o → (10 ≤ length s) × (countedWith places k (linesFrom (suc bound) places s) ≡ countedWith places (k + 1) (linesFrom bound places (drop 10 s)))
       go (refused number) e h = absurd (let z : _≡_ {A = ℕ} 0 1 = cc in omega arith)
       go (passed end) e h = absurd (let z : _≡_ {A = ℕ} 0 1 = cc in omega arith)
-      go (passed (line l)) e h =
-          ((subst (Stands places s) e (entry-stands places s)) .0,
-          ap (countedWith places k) (step-line bound places s l e) ∙ more-lines places k l (linesFrom bound places (drop 10 s)))
+      go (passed (line l)) e h = (
+        (subst (Stands places s) e (entry-stands places s)) .0,
+        ap (countedWith places k) (step-line bound places s l e) ∙ more-lines places k l (linesFrom bound places (drop 10 s)),
+      )
 
   -- at anything else it stops
   pub at-stop : (e : EntryEnum) → OneOf (1 ∷ 2 ∷ []) (tagOf the-type e) → e ≡ entryTold (entryAt places s) → closedWith places k e ≡ countedWith places k (linesFrom (suc bound) places s)
@@ -61,9 +62,10 @@ module _ (day : List ℕ) (places at lines : ℕ) (passed-by : at ≡ 3 + 10 * l
 
   pub turn : At.Line ≡ entryTold (entryAt places (take (length day - at) (drop at day))) → (at + 10 ≤ length day) × (countedWith places (lines + 1) (linesFrom (length day - (lines + 1)) places (drop (at + 10) day)) ≡ countedWith places lines (linesFrom (length day - lines) places (drop at day)))
   turn t =
-      let h = at-line places (drop at day) lines (length day - (lines + 1)) (subst (λ (s : List ℕ). At.Line ≡ entryTold (entryAt places s)) (lent day at) t) in
-      (omega (arith, length-drop at day, h .0, inside),
-      rw (← drop-drop 10 at day, left) (sym (h .1)))
+      let h = at-line places (drop at day) lines (length day - (lines + 1)) (subst (λ (s : List ℕ). At.Line ≡ entryTold (entryAt places s)) (lent day at) t) in (
+        omega (arith, length-drop at day, h .0, inside),
+        rw (← drop-drop 10 at day, left) (sym (h .1)),
+      )
 
   pub stop-here : (e : EntryEnum) → OneOf (1 ∷ 2 ∷ []) (tagOf the-type e) → e ≡ entryTold (entryAt places (take (length day - at) (drop at day))) → closedWith places lines e ≡ countedWith places lines (linesFrom (length day - lines) places (drop at day))
   stop-here e tag t = rw left (at-stop places (drop at day) lines (length day - (lines + 1)) e tag (subst (λ (s : List ℕ). e ≡ entryTold (entryAt places s)) (lent day at) t))

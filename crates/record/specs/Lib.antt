@@ -2,3 +2,5 @@ pub mod Reply
 pub mod Outcomes
 pub mod Walk
 pub mod Whole
+pub mod Added
+pub mod Boats

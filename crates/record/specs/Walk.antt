@@ -74,7 +74,7 @@ walked bound places s ls h = let (e, p, f) = walk-first bound places s ls h in g
     go end p f = over-end p (sym (passed-inj f))
     go (line l) p f = let (ms, q, r) = andThen-passed (linesFrom bound places (drop 10 s)) _ ls f in over-line l ms p q (sym (passed-inj r))
 
-none-zero : (places : ℕ) (s : List ℕ) (ls : List Line) → linesFrom zero places s ≡ passed ls → ⊥
+pub none-zero : (places : ℕ) (s : List ℕ) (ls : List Line) → linesFrom zero places s ≡ passed ls → ⊥
 unfolding linesFrom
 none-zero places s ls h = not-both h
 

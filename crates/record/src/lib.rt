@@ -68,7 +68,10 @@ impl Reading {
         ensures { λ r. ⌜ r ≡ readingNumber self ⌝ }
     {
         match self {
-            Reading::Record { places: _, lines: _ } => 0,
+            Reading::Record {
+                places: _,
+                lines: _,
+            } => 0,
             Reading::Refused(q) => q,
         }
     }

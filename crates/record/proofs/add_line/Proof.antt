@@ -133,9 +133,10 @@ returns-4 c =
     let e = c .before .before .before .before .before .before in
     let b = e .before .before .before in
     let said = length-said e in
-    rw (asked b, said)
-    (ap writeReply (e .before .before .new-asked .ensures) ∙ (reply-told (outcome b) ∙ ap told said),
-    c .before .before .write-at .ensures ∙ ap (λ (x : List ℕ). written (len b - 1) x (buffer b)) (c .before .before .before .before .before .line-bytes .ensures))
+    rw (asked b, said) (
+      ap writeReply (e .before .before .new-asked .ensures) ∙ (reply-told (outcome b) ∙ ap told said),
+      c .before .before .write-at .ensures ∙ ap (λ (x : List ℕ). written (len b - 1) x (buffer b)) (c .before .before .before .before .before .line-bytes .ensures),
+    )
 
 pub add-line-spec : {M : Type 1} → statement M
 add-line-spec =

@@ -51,8 +51,8 @@ returns-6 c =
     let b = c .before .before in
     let d = b .before .before in
     c .line-asked .ensures
-        ∙ ap (λ (l : Line). entryTold (askLine (d .before .before .before .before .args .places) l (passed (line l)))) (c .before .line-of .ensures .0)
-        ∙ simp (not-zero _ (d .before .before .if1 .left), ne-eqb _ _ (d .if2 .left), eq-eqb _ _ (b .before .if4 .left), le-leb _ _ (b .if5 .left))
+    ∙ ap (λ (l : Line). entryTold (askLine (d .before .before .before .before .args .places) l (passed (line l)))) (c .before .line-of .ensures .0)
+    ∙ simp (not-zero _ (d .before .before .if1 .left), ne-eqb _ _ (d .if2 .left), eq-eqb _ _ (b .before .if4 .left), le-leb _ _ (b .if5 .left))
 
 pub entry-at-spec : {M : Type 1} → statement M
 entry-at-spec =

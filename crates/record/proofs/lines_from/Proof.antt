@@ -42,7 +42,7 @@ closed-requires : tie.Need-closed-requires Inv-loop μ-loop
 closed-requires c κs = search needs
 
 returns : tie.Need-returns Inv-loop μ-loop
-returns c = 
+returns c =
     let b = c .before .before .before .before in
     c .closed .ensures ∙ (stop-here (b .before .before .args .day .now) (b .before .before .args .places) (b .loop .at) (b .loop .lines) (b .loop .inv .0) (b .loop .inv .1) (c .before .before .entry-at .result) (c .before .match .keys2) (c .before .before .entry-at .ensures) ∙ b .loop .inv .3)
 
@@ -53,13 +53,13 @@ add-lines : tie.Need-add-lines Inv-loop μ-loop
 add-lines c = search needs
 
 loop-less : tie.Need-loop-less Inv-loop μ-loop
-loop-less c = 
+loop-less c =
     let b = c .before .before .before .before in
     let t = turn (b .before .before .args .day .now) (b .before .before .args .places) (b .loop .at) (b .loop .lines) (b .loop .inv .0) (b .loop .inv .1) (sym (c .enum-told .given .1) ∙ c .before .before .entry-at .ensures) in
     omega (arith, t .0)
 
 loop-again : tie.Need-loop-again Inv-loop μ-loop
-loop-again c = 
+loop-again c =
     let b = c .before .before .before .before in
     let t = turn (b .before .before .args .day .now) (b .before .before .args .places) (b .loop .at) (b .loop .lines) (b .loop .inv .0) (b .loop .inv .1) (sym (c .enum-told .given .1) ∙ c .before .before .entry-at .ensures) in
     (omega (arith, b .loop .inv .0), t .0, b .loop .inv .2, t .1 ∙ b .loop .inv .3)

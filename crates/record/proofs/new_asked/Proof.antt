@@ -29,7 +29,7 @@ returns c =
     let b = c .before .before in
     let a = b .before .args in
     ap (λ x. Write.Refused x 0) (c .number .ensures)
-        ∙ line-refused (a .places) (lineShown (a .line)) (b .line-asked .result) (c .before .match .keys2) (b .line-asked .ensures) _
+    ∙ line-refused (a .places) (lineShown (a .line)) (b .line-asked .result) (c .before .match .keys2) (b .line-asked .ensures) _
 
 -- past the first branch, questions 5 and 6 are answered
 passes : (c : tie.After-enum-told) (rest : Outcome ℕ) → askLine (c .before .before .before .args .places) (lineShown (c .before .before .before .args .line)) rest ≡ rest

@@ -1,0 +1,1 @@
+// The mathematics of the automaton stands in specs/; no code is here yet.
