@@ -14,7 +14,7 @@ use types.Run.{OneOf}
 use denote.Enum.Declared.{tagOf}
 use Rattle.meaning.specs.Outcome.{Outcome, refused, passed, ask, told}
 use Rattle.meaning.specs.Record.{Line, Day, line, askLine, placesBelow, kindAllowed, readRecord}
-use Rattle.meaning.specs.Writing.{written, unlessRefused, askNew, addOf}
+use Rattle.meaning.specs.Writing.{written, unlessRefused, askNew, addOf, lineAt, readOf}
 use Rattle.record.specs.Reply.{writeReply, writeTold, entryTold, entryNumber, readingTold}
 use Rattle.record.specs.Outcomes.{passed-inj, ask-passed}
 use Rattle.record.specs.Whole.{record-length}
@@ -86,6 +86,18 @@ reading-refused (passed day) number h = absurd (let z : _≡_ {A = ℕ} 0 1 = cc
 pub reading-passed : (o : Outcome Day) (places lines : ℕ) → Reading.Record places lines ≡ readingTold o → (day : Day) × (o ≡ passed day) × (places ≡ day .places) × (lines ≡ length (day .lines))
 reading-passed (refused q) places lines h = absurd (let z : _≡_ {A = ℕ} 0 1 = cc in omega arith)
 reading-passed (passed day) places lines h = (day, refl, cc, cc)
+
+-- ---- reading a line back
+
+pub read-refused : (s : List ℕ) (i number : ℕ) → readRecord s ≡ refused number → readOf s i ≡ refused number
+unfolding readOf
+read-refused s i number e = simp e
+
+pub read-passed : (s : List ℕ) (i : ℕ) (day : Day) → readRecord s ≡ passed day → readOf s i ≡ ask (ltb i (length (day .lines))) 18 (passed (lineAt (day .lines) i))
+unfolding readOf
+read-passed s i day e = simp e
+
+-- ---- adding a line
 
 module _ (buffer : List ℕ) (len : ℕ) (l : Line) (inside : len ≤ length buffer) where
   pub add-refused : (number : ℕ) → readRecord (take len buffer) ≡ refused number → addOf buffer len l ≡ refused number

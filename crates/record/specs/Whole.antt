@@ -1,7 +1,7 @@
 -- What a record that passes is made of, and how long it is. Assumes nothing.
 use mathlib.Core.Path.{_≡_, refl, sym, ap, _∙_, subst}
 use mathlib.Core.Bool.{true}
-use mathlib.Core.List.{List}
+use mathlib.Core.List.{List, []}
 use Prim.Native.Nat.{ℕ, _+_, _*_, _<_, _≤_}
 use native.Mathlib.Omega.{arith}
 use lib.Dec.{leb}
@@ -53,3 +53,34 @@ module _ (s : List ℕ) (day : Day) (h : readRecord s ≡ passed day) where
   -- line i stands at byte 3 + 10 · i
   pub line-stands : (i : ℕ) → i < length (day .lines) → lineAt (day .lines) i ≡ lineOf (drop (3 + 10 * i) s)
   line-stands i k = lines-at (length s) (two s 1) (drop 3 s) (day .lines) (whole-of s day h .walk) i k ∙ ap lineOf (drop-drop (10 * i) 3 s)
+
+-- ---- the lines that a record says
+
+-- none where it is refused, so a line's number below their count says that the record passes
+abbrev pub linesIn : Outcome Day → List Line
+linesIn (refused number) = []
+linesIn (passed day) = day .lines
+
+abbrev pub linesOf : List ℕ → List Line
+linesOf s = linesIn (readRecord s)
+
+pub has-line : (s : List ℕ) (i : ℕ) → i < length (linesOf s) → (day : Day) × (readRecord s ≡ passed day)
+has-line s i h = go (readRecord s) h
+  where
+    go : (o : Outcome Day) → i < length (linesIn o) → (day : Day) × (o ≡ passed day)
+    go (refused number) less = absurd (omega (arith, less))
+    go (passed day) less = (day, refl)
+
+-- line i of them, and that its bytes are there
+pub line-read : (s : List ℕ) (i : ℕ) → i < length (linesOf s) → (13 + 10 * i ≤ length s) × (lineAt (linesOf s) i ≡ lineOf (drop (3 + 10 * i) s))
+line-read s i h =
+    let (day, e) = has-line s i h in
+    let less : i < length (day .lines) = subst (λ o. i < length (linesIn o)) e h in
+    (omega (arith, record-length s day e, less), ap (λ o. lineAt (linesIn o) i) e ∙ line-stands s day e i less)
+
+pub lines-short : (s : List ℕ) → length (linesOf s) ≤ 4096
+lines-short s = go (readRecord s) refl
+  where
+    go : (o : Outcome Day) → readRecord s ≡ o → length (linesIn o) ≤ 4096
+    go (refused number) e = omega arith
+    go (passed day) e = lines-few s day e

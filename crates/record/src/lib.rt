@@ -1,12 +1,16 @@
 // The day's record: reading its bytes, beginning one, adding a line, reading a line back, counting its boats.
 ghost use mathlib.Core.Path.{_≡_};
 ghost use mathlib.Core.List.{[], _∷_, _++_};
-ghost use Prim.Native.Nat.{_+_, _*_, _<_, _≤_};
+ghost use mathlib.Core.Bool.{cond};
+ghost use Prim.Native.Nat.{suc, _+_, _*_, _<_, _≤_};
+ghost use lib.Dec.{eqb};
 ghost use lib.ListN.{length, drop};
 ghost use Rattle.meaning.specs.Outcome.{passed, told};
-ghost use Rattle.meaning.specs.Record.{two, three, lineOf, bytesOf, askLine, entryAt, linesFrom, readRecord};
+ghost use Rattle.meaning.specs.Record.{two, three, lineOf, bytesOf, askLine, entryAt, linesFrom, readRecord, boats};
 ghost use Rattle.meaning.specs.Record.{line as line-entry};
-ghost use Rattle.meaning.specs.Writing.{written, beginOf, beginAfter, askNew, addOf, addAfter, readOf};
+ghost use Rattle.meaning.specs.Writing.{written, beginOf, beginAfter, askNew, addOf, addAfter, lineAt, readOf};
+ghost use Rattle.record.specs.Boats.{BoatIs, firstSame};
+ghost use Rattle.record.specs.Whole.{linesOf};
 ghost use Rattle.record.specs.Reply.{writeReply, writeTold, entryNumber, readingNumber, lineReply, lineShown, entryTold, closedWith, headTold, countedWith, readingTold};
 
 // The five operands of a line.
@@ -325,4 +329,82 @@ pub fn add_line(buf: &mut [u8], len: usize, line: Line) -> WriteReply
     let new = line_bytes(line);
     write_at(buf, len - 1, &new);
     reply
+}
+
+// ---- reading lines back
+
+// Line i of a record that passes.
+pub fn line_at(day: &[u8], i: usize) -> Line
+    requires { ⌜ i < length (linesOf (now day)) ⌝ }
+    ensures { λ r. ⌜ (lineShown r ≡ lineAt (linesOf (now (day .entry))) i) × (r .sail < 16777216) ⌝ }
+{
+    let at = 3 + 10 * i;
+    line_of(&day[at..])
+}
+
+// Reads line i back.
+pub fn read_line(day: &[u8], i: u16) -> LineReply
+    ensures { λ r. ⌜ lineReply r ≡ told (readOf (now (day .entry)) i) ⌝ }
+{
+    let whole = read_record(day);
+    let Reading::Record { places: _, lines } = whole else {
+        return LineReply::Refused(whole.number(), 0);
+    };
+    let n = i as usize;
+    if lines <= n {
+        return LineReply::Refused(18, 0);
+    }
+    LineReply::Line(line_at(day, n))
+}
+
+// ---- the different boats
+
+// The boat of line i as one number.
+pub fn boat_at(day: &[u8], i: usize) -> u32
+    requires { ⌜ i < length (linesOf (now day)) ⌝ }
+    ensures { λ r. ⌜ BoatIs (lineAt (linesOf (now (day .entry))) i .boat) r ⌝ }
+{
+    let l = line_at(day, i);
+    l.class as u32 * SAILS + l.sail
+}
+
+// The first line with the same boat as line i: the earlier lines from line 0 on, and line i itself where none of them has it.
+pub fn first_same(day: &[u8], i: usize) -> usize
+    requires { ⌜ i < length (linesOf (now day)) ⌝ }
+    ensures { λ r. ⌜ r ≡ firstSame (linesOf (now (day .entry))) i ⌝ }
+{
+    let boat = boat_at(day, i);
+    let mut j: usize = 0;
+    while j < i {
+        if boat_at(day, j) == boat {
+            return j;
+        }
+        j += 1;
+    }
+    i
+}
+
+// One more where line i is the first with its boat.
+fn counted(day: &[u8], i: usize, count: usize) -> usize
+    requires { ⌜ (i < length (linesOf (now day))) × (count ≤ i) ⌝ }
+    ensures { λ r. ⌜ r ≡ cond (eqb (firstSame (linesOf (now (day .entry))) i) i) (suc count) count ⌝ }
+{
+    if first_same(day, i) == i {
+        return count + 1;
+    }
+    count
+}
+
+// How many different boats a record of so many lines has.
+pub fn count_boats(day: &[u8], lines: usize) -> usize
+    requires { ⌜ lines ≡ length (linesOf (now day)) ⌝ }
+    ensures { λ r. ⌜ (r ≡ length (boats (linesOf (now (day .entry))))) × (r ≤ 4096) ⌝ }
+{
+    let mut count: usize = 0;
+    let mut i: usize = 0;
+    while i < lines {
+        count = counted(day, i, count);
+        i += 1;
+    }
+    count
 }
