@@ -152,8 +152,8 @@ boats-more lines i h =
     let seen : List Boat = boats (take i lines) in
     let met : among (l .boat) seen ≡ ltb (firstSame lines i) i = among-after (l .boat) [] (take i lines) ∙ has-first (l .boat) lines i (omega (arith, h)) in
     ap (λ ls. length (boats ls)) (take-suc lines i noLine h)
-        ∙ (ap length (boats-end [] (take i lines) l)
-        ∙ (noted-length seen l ∙ (ap (λ t. cond t (length seen) (suc (length seen))) met ∙ by-first (firstSame lines i) i (length seen) (first-le (l .boat) lines i h (agree-self (l .boat))))))
+    ∙ (ap length (boats-end [] (take i lines) l)
+    ∙ (noted-length seen l ∙ (ap (λ t. cond t (length seen) (suc (length seen))) met ∙ by-first (firstSame lines i) i (length seen) (first-le (l .boat) lines i h (agree-self (l .boat))))))
   where
     by-first : (f i n : ℕ) → f ≤ i → cond (ltb f i) n (suc n) ≡ cond (eqb f i) (suc n) n
     by-first f i n le = go (ltb f i) refl

@@ -81,9 +81,10 @@ impl Reading {
     }
 }
 
+// The limits of questions 1, 2, 22 and 21.
 const LONGEST: usize = 40964;
 
-const MOST_PLACES: usize = 1024;
+const MOST_PLACES: u16 = 1024;
 
 const MOST_LINES: usize = 4096;
 
@@ -240,7 +241,7 @@ fn head_of(day: &[u8]) -> Head
     if count == 0 {
         return Head::Wrong(2);
     }
-    if 1024 < count {
+    if MOST_PLACES < count {
         return Head::Wrong(2);
     }
     Head::Places(count as usize)
@@ -278,7 +279,7 @@ pub fn begin_record(buf: &mut [u8], places: u16) -> WriteReply
     if places == 0 {
         return WriteReply::Refused(2, 0);
     }
-    if 1024 < places {
+    if MOST_PLACES < places {
         return WriteReply::Refused(2, 0);
     }
     if buf.len() < 4 {

@@ -42,12 +42,13 @@ loop-again c =
     let b = c .before .before in
     let lines = linesOf (b .before .before .args .day .now) in
     let i = b .loop .i in
-    let count = b .loop .inv .2 in
-    (omega (arith, c .before .loop-test .taken),
-    b .loop .inv .1,
-    c .counted .ensures
-        ∙ (ap (λ (n : ℕ). cond (eqb (firstSame lines i) i) (suc n) n) count
-        ∙ (sym (boats-more lines i (omega (arith, b .loop .inv .1, c .before .loop-test .taken))) ∙ ap (λ (n : ℕ). length (boats (take n lines))) (sym (add-one i)))))
+    let count = b .loop .inv .2 in (
+      omega (arith, c .before .loop-test .taken),
+      b .loop .inv .1,
+      c .counted .ensures
+          ∙ (ap (λ (n : ℕ). cond (eqb (firstSame lines i) i) (suc n) n) count
+          ∙ (sym (boats-more lines i (omega (arith, b .loop .inv .1, c .before .loop-test .taken))) ∙ ap (λ (n : ℕ). length (boats (take n lines))) (sym (add-one i)))),
+    )
 
 returns : tie.Need-returns Inv-loop μ-loop
 returns c =
