@@ -52,7 +52,7 @@ abbrev shape : ℕ → ℕ → Option Shape
 shape w n = some (record { operands = w; patterns = n })
 
 -- from byte 20 on: nothing, line, same, other, either, then, repeat, keep
-abbrev table : List (Option Shape)
+abbrev pub table : List (Option Shape)
 table = shape 0 0 ∷ shape 1 0 ∷ shape 2 0 ∷ shape 2 0 ∷ shape 0 2 ∷ shape 0 2 ∷ shape 0 1 ∷ shape 2 1 ∷ []
 
 -- none: the byte is no command

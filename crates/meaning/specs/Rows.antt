@@ -1,16 +1,27 @@
--- Computed examples of the definitions: nothing to believe, but an edited definition breaks one of them.
+-- Computed examples of the definitions: nothing to believe. An edited definition breaks a row here.
 use mathlib.Core.Path.{_≡_, refl}
+use mathlib.Core.Bool.{Bool, true, false}
 use mathlib.Core.List.{List, [], _∷_, _++_, map}
 use Prim.Native.Nat.{ℕ}
-use lib.ListN.{length, take, replicate}
+use lib.ListN.{take, replicate}
 use Rattle.meaning.specs.Outcome.{Outcome, refused, passed}
-use Rattle.meaning.specs.Record.{Line, Day, bytesOf, boats, boatsAfter, entryAt, linesFrom, readRecord}
+use Rattle.meaning.specs.Record.{Boat, Line, bytesOf, boats, boatsAfter, entryAt, linesFrom, readRecord}
 use Rattle.meaning.specs.Writing.{emptyRecord, beginOf, beginAfter, addOf, addAfter, readOf}
+use Rattle.meaning.specs.Pattern.{Pattern, nothing, line, test, same, other, either, then, repeat, keep, commands, keeps, readPattern, readAt, commandAt, shapeOf, noneGiven}
+use Rattle.meaning.specs.Language.{compared, meets}
 
--- the number of the question that failed, 0 where all passed
-number : {A : Type 0} → Outcome A → ℕ
-number (refused q) = q
+-- the number of the question that was answered no, or 0
+abbrev number : {A : Type 0} → Outcome A → ℕ
+number (refused n) = n
 number (passed a) = 0
+
+-- bytes, and the number that reading them gives
+record Row : Type 0 where
+  bytes : List ℕ
+  gives : ℕ
+
+abbrev row : List ℕ → ℕ → Row
+row bytes gives = record { bytes = bytes; gives = gives }
 
 -- ---- document 01's record R and others
 
@@ -39,14 +50,7 @@ row-boats : map (λ b. b .sail) (boats linesR) ≡ 150 ∷ 150 ∷ 151 ∷ []
 unfolding boatsAfter linesR line-of
 row-boats = refl
 
--- ---- records refused and passed: bytes, and the number
-
-record Row : Type 0 where
-  bytes : List ℕ
-  expected : ℕ
-
-row : List ℕ → ℕ → Row
-row s q = record { bytes = s; expected = q }
+-- ---- records refused and passed
 
 -- a record of four places with the bytes s after its places command
 begin4 : List ℕ → List ℕ
@@ -91,8 +95,8 @@ records =
     ∷ row (begin4 (0x03 ∷ [])) 3
     ∷ []
 
-records-computed : map (λ r. number (readRecord (r .bytes))) records ≡ map (λ r. r .expected) records
-unfolding readRecord linesFrom entryAt number records row begin4 some-line line-of
+records-computed : map (λ r. number (readRecord (r .bytes))) records ≡ map (λ r. r .gives) records
+unfolding readRecord linesFrom entryAt records begin4 some-line line-of
 records-computed = refl
 
 -- ---- writing
@@ -103,7 +107,7 @@ row-begin = refl
 
 -- 2 before 23
 begins : map (λ n. number (beginOf (9 ∷ 9 ∷ 9 ∷ []) n)) (0 ∷ 1025 ∷ 1024 ∷ []) ≡ 2 ∷ 2 ∷ 23 ∷ []
-unfolding beginOf number
+unfolding beginOf
 begins = refl
 
 empty1 : List ℕ
@@ -146,10 +150,125 @@ additions =
     ∷ []
 
 additions-computed : map (λ a. number (addOf (a .buffer) (a .len) (a .added))) additions ≡ map (λ a. a .expected) additions
-unfolding addOf readRecord linesFrom entryAt number additions addition empty1 new line-of
+unfolding addOf readRecord linesFrom entryAt additions addition empty1 new line-of
 additions-computed = refl
 
 -- the whole record is asked about before the line's number
 reads : map number (readOf bytesR 6 ∷ readOf bytesR 7 ∷ readOf (bytesR ++ (0x00 ∷ [])) 0 ∷ []) ≡ 0 ∷ 18 ∷ 7 ∷ []
-unfolding readOf readRecord linesFrom entryAt number bytesR linesR written-out line-of
+unfolding readOf readRecord linesFrom entryAt bytesR linesR written-out line-of
 reads = refl
+
+-- ---- patterns
+
+bytesP : List ℕ
+bytesP = 0x27 ∷ 1 ∷ 0 ∷ 0x25 ∷ 0x22 ∷ 2 ∷ 0 ∷ 0x25 ∷ 0x26 ∷ 0x22 ∷ 3 ∷ 0 ∷ 0x22 ∷ 4 ∷ 0 ∷ []
+
+bytesS : List ℕ
+bytesS = 0x27 ∷ 1 ∷ 0 ∷ 0x25 ∷ 0x27 ∷ 1 ∷ 0 ∷ 0x23 ∷ 1 ∷ 0 ∷ 0x22 ∷ 1 ∷ 0 ∷ []
+
+P : Pattern
+P = keep 1 0 (then (test same 2 0) (then (repeat (test same 3 0)) (test same 4 0)))
+
+S : Pattern
+S = keep 1 0 (then (keep 1 0 (test other 1 0)) (test same 1 0))
+
+-- so many repeats, and what follows
+repeats : ℕ → List ℕ → List ℕ
+repeats n rest = replicate n 0x26 ++ rest
+
+-- three keeps, each in the one before, and what follows
+threeKeeps : List ℕ → List ℕ
+threeKeeps rest = 0x27 ∷ 1 ∷ 0 ∷ 0x27 ∷ 1 ∷ 1 ∷ 0x27 ∷ 1 ∷ 2 ∷ rest
+
+patternRows : List Row
+patternRows =
+    -- document 01: empty, cut, a kind out of range, a slot that is not kept, bytes after the pattern, too many commands
+    row [] 8
+    ∷ row (0x21 ∷ []) 10
+    ∷ row (0x21 ∷ 0 ∷ []) 11
+    ∷ row (0x22 ∷ 1 ∷ 0 ∷ []) 12
+    ∷ row (0x20 ∷ 0x20 ∷ []) 14
+    ∷ row (repeats 62 (0x20 ∷ [])) 0
+    ∷ row (repeats 63 (0x20 ∷ [])) 9
+    ∷ row bytesP 0
+    ∷ row bytesS 0
+    -- a byte is a command by the table: 20 to 27
+    ∷ row (0x1F ∷ []) 8
+    ∷ row (0x28 ∷ []) 8
+    ∷ row (0x30 ∷ []) 8
+    ∷ row (255 ∷ []) 8
+    -- a command is done before the next one is looked at
+    ∷ row (0x24 ∷ 0x21 ∷ 0 ∷ 255 ∷ []) 11
+    ∷ row (0x24 ∷ 0x22 ∷ 1 ∷ 0 ∷ 0x21 ∷ []) 12
+    ∷ row (0x24 ∷ 0x21 ∷ 1 ∷ []) 8
+    -- 8 before 9, and 9 before 10
+    ∷ row (repeats 63 []) 8
+    ∷ row (repeats 63 (255 ∷ [])) 8
+    ∷ row (repeats 63 (0x21 ∷ [])) 9
+    ∷ row (repeats 62 (0x21 ∷ [])) 10
+    -- a complete pattern: no byte after it is read as a command
+    ∷ row (repeats 62 (0x20 ∷ 0x20 ∷ [])) 14
+    ∷ row (0x20 ∷ 255 ∷ []) 14
+    -- 10 wants all operands before 11 looks at one
+    ∷ row (0x22 ∷ 0 ∷ []) 10
+    ∷ row (0x22 ∷ 0 ∷ 5 ∷ []) 11
+    ∷ row (0x27 ∷ 1 ∷ []) 10
+    -- kinds are 1 to 15, slots 0 to 3
+    ∷ row (0x21 ∷ 15 ∷ []) 0
+    ∷ row (0x21 ∷ 16 ∷ []) 11
+    ∷ row (0x22 ∷ 1 ∷ 3 ∷ []) 12
+    ∷ row (0x22 ∷ 1 ∷ 4 ∷ []) 11
+    ∷ row (0x23 ∷ 1 ∷ 0 ∷ []) 12
+    ∷ row (0x23 ∷ 1 ∷ 255 ∷ []) 11
+    ∷ row (0x27 ∷ 1 ∷ 3 ∷ 0x23 ∷ 1 ∷ 3 ∷ []) 0
+    ∷ row (0x27 ∷ 1 ∷ 4 ∷ 0x20 ∷ []) 11
+    -- 12 wants a keep around: one to the left, or of another slot, is none
+    ∷ row (0x25 ∷ 0x27 ∷ 1 ∷ 0 ∷ 0x20 ∷ 0x22 ∷ 1 ∷ 0 ∷ []) 12
+    ∷ row (0x27 ∷ 1 ∷ 0 ∷ 0x25 ∷ 0x27 ∷ 1 ∷ 1 ∷ 0x20 ∷ 0x22 ∷ 1 ∷ 1 ∷ []) 12
+    ∷ row (0x27 ∷ 1 ∷ 0 ∷ 0x22 ∷ 1 ∷ 1 ∷ []) 12
+    -- 13 counts the keeps around: the fourth fails, with whichever slot, and those side by side don't add
+    ∷ row (threeKeeps (0x20 ∷ [])) 0
+    ∷ row (threeKeeps (0x27 ∷ 1 ∷ 3 ∷ 0x20 ∷ [])) 13
+    ∷ row (threeKeeps (0x27 ∷ 1 ∷ 0 ∷ 0x20 ∷ [])) 13
+    ∷ row (0x27 ∷ 1 ∷ 0 ∷ 0x27 ∷ 1 ∷ 0 ∷ 0x27 ∷ 1 ∷ 0 ∷ 0x27 ∷ 1 ∷ 0 ∷ 0x20 ∷ []) 13
+    ∷ row (threeKeeps (0x27 ∷ 1 ∷ 7 ∷ 0x20 ∷ [])) 11
+    ∷ row (0x25 ∷ threeKeeps (0x20 ∷ threeKeeps (0x20 ∷ []))) 0
+    ∷ []
+
+patterns-asked : map (λ r. number (readPattern noneGiven (r .bytes))) patternRows ≡ map (λ r. r .gives) patternRows
+unfolding patternRows bytesP bytesS repeats threeKeeps readPattern readAt commandAt shapeOf
+patterns-asked = refl
+
+-- P and S are these trees
+patterns-read : map (readPattern noneGiven) (bytesP ∷ bytesS ∷ []) ≡ passed P ∷ passed S ∷ []
+unfolding bytesP bytesS P S readPattern readAt commandAt shapeOf
+patterns-read = refl
+
+-- every command once
+all-commands : readPattern noneGiven (0x27 ∷ 5 ∷ 2 ∷ 0x24 ∷ 0x25 ∷ 0x20 ∷ 0x21 ∷ 1 ∷ 0x26 ∷ 0x24 ∷ 0x22 ∷ 2 ∷ 2 ∷ 0x23 ∷ 3 ∷ 2 ∷ []) ≡ passed (keep 5 2 (either (then nothing (line 1)) (repeat (either (test same 2 2) (test other 3 2)))))
+unfolding readPattern readAt commandAt shapeOf
+all-commands = refl
+
+-- their commands, and their keeps
+patterns-counted : map commands (P ∷ S ∷ either P S ∷ []) ++ map keeps (P ∷ S ∷ either P S ∷ then P S ∷ []) ≡ 7 ∷ 5 ∷ 13 ∷ 1 ∷ 2 ∷ 2 ∷ 2 ∷ []
+unfolding P S
+patterns-counted = refl
+
+-- slot 3 given from outside
+slot-given : readPattern (0 ∷ 0 ∷ 0 ∷ 1 ∷ []) (0x22 ∷ 1 ∷ 3 ∷ []) ≡ passed (test same 1 3)
+unfolding readPattern readAt commandAt shapeOf
+slot-given = refl
+
+-- ---- boats compared
+
+boat : ℕ → ℕ → Boat
+boat class sail = record { class = class; sail = sail }
+
+-- boat 1-150 against itself, against 2-150 and against 1-151: by same, by other
+same-met : map (λ b. meets same (compared b (boat 1 150))) (boat 1 150 ∷ boat 2 150 ∷ boat 1 151 ∷ []) ≡ true ∷ false ∷ false ∷ []
+unfolding boat
+same-met = refl
+
+other-met : map (λ b. meets other (compared b (boat 1 150))) (boat 1 150 ∷ boat 2 150 ∷ boat 1 151 ∷ []) ≡ false ∷ true ∷ true ∷ []
+unfolding boat
+other-met = refl

@@ -1,3 +1,7 @@
+pub mod Reply
+pub mod Reading
+pub mod Passed
+pub mod Bound
 pub mod Membership
 pub mod Wordings
 pub mod Examples
