@@ -36,13 +36,13 @@ module _ {A : Type 0} (Known : A → Type 0) where
   abbrev pub AllOf : List A → Type 0
   AllOf l = (x : A) → x ∈ l → Known x
 
-  all-take : (n : ℕ) (l : List A) → AllOf l → AllOf (take n l)
+  pub all-take : (n : ℕ) (l : List A) → AllOf l → AllOf (take n l)
   all-take zero [] h y m = none-in m
   all-take zero (x ∷ l) h y m = none-in m
   all-take (suc n) [] h y m = none-in m
   all-take (suc n) (x ∷ l) h y m = ⊎-elim (λ e. h y (List·Memᴰ·head e)) (all-take n l (λ z i. h z (List·Memᴰ·tail i)) y) (List·Memᴰ·cases-cons m)
 
-  all-pushed : (b : Bool) (l : List A) (x : A) → AllOf l → Known x → AllOf (pushed b l x)
+  pub all-pushed : (b : Bool) (l : List A) (x : A) → AllOf l → Known x → AllOf (pushed b l x)
   all-pushed true l x h k y m = ⊎-elim (h y) (λ i. subst Known (sym (List·Memᴰ·eq-of-singleton i)) k) (List·Memᴰ·append-cases l m)
   all-pushed false l x h k y m = h y m
 

@@ -1,0 +1,132 @@
+-- The finder's answer, as a definition that computes, and demand 3 for it: `answer-none` (none exactly where no chain of any
+-- length is accepted) and `answer-some` (a chain that is given is accepted, comes before every other, and is shorter than the search size).
+-- The finder's contract rests on these two; `Check` uses `runs`.
+use mathlib.Core.Path.{_≡_, refl, sym, subst}
+use mathlib.Core.List.{List, [], _∷_, List·Memᴰ·eq-of-singleton, Memᴰ·of-map}
+use mathlib.Core.Logic.{_↔_, _⊎_, inl, inr, ⊎-elim}
+use mathlib.Core.Option.{Option, none, some}
+use Prim.Native.Nat.{ℕ, suc, _*_, _^_, _<_, _≤_}
+use native.Mathlib.Omega.{arith}
+use lib.ListN.{length, getD}
+use Rattle.meaning.specs.Record.{Line, boats}
+use Rattle.meaning.specs.Writing.{lineAt}
+use Rattle.meaning.specs.Pattern.{Pattern, commands, keeps}
+use Rattle.meaning.specs.Chain.{word, Accepted, LowerAtFirstDifference, Before, First}
+use Rattle.automaton.specs.Listed.{_∈_}
+use Rattle.automaton.specs.Automaton.{nodes, nodeAt, start}
+use Rattle.automaton.specs.Words.{same-words}
+use Rattle.automaton.specs.Shape.{shape, start-within}
+use Rattle.search.specs.Plain.{solve, Lex, Answer}
+use Rattle.search.specs.Forward.{solve-spec}
+use Rattle.search.specs.Order.{lex-read}
+use Rattle.search.specs.Codes.{codes, telling, code-low, code-compared}
+use Rattle.search.specs.Digits.{pow-pos}
+use Rattle.search.specs.Product.{Setting, stacks, state, succs, preds}
+use Rattle.search.specs.Steps.{Sound, Ok, ok-low, next-ok, preds-ok, edges}
+use Rattle.search.specs.Along.{goal, starting, Running, along}
+
+-- ---- the definition
+
+-- the record's lines with boat numbers, and the pattern's automaton
+unfoldable pub setting : List Line → Pattern → Setting
+setting lines p =
+    let bs = boats lines in
+    let cs = codes lines in
+    let ns = nodes p [] in
+    record { lines = lines; code = λ i. getD cs i 0; tells = telling bs; node = nodeAt ns; done = commands p; radix = suc (length bs); deepest = keeps p }
+
+-- places × (commands + 1) × (boats + 1) to the power of keeps
+unfoldable pub searchSize : List Line → ℕ → Pattern → ℕ
+searchSize lines places p = places * suc (commands p) * suc (length (boats lines)) ^ keeps p
+
+-- where the chains from place a begin
+unfoldable pub starts : Setting → Pattern → ℕ → List ℕ
+starts S p a = starting S a (start p)
+
+-- the first shortest chain from a to b that the pattern accepts
+unfoldable pub answer : List Line → ℕ → Pattern → ℕ → ℕ → Option (List ℕ)
+answer lines places p a b =
+    let S = setting lines p in
+    solve (searchSize lines places p) (goal S b ∷ []) (preds S) (succs S) (length lines) (starts S p a)
+
+-- ---- its states are valid
+
+module _ (lines : List Line) (places : ℕ) (p : Pattern) where
+  ok-at : (q k : ℕ) → q < places → k ≤ commands p → Ok (setting lines p) places (state (setting lines p) q k 0)
+  unfolding setting
+  ok-at q k hq hk = record { place = q; pos = k; stack = 0; is = refl; place-low = hq; pos-low = hk; stack-low = pow-pos (suc (length (boats lines))) (omega arith) _ }
+
+  pub starts-ok : (a : ℕ) → a < places → (s : ℕ) → s ∈ starts (setting lines p) p a → Ok (setting lines p) places s
+  unfolding starts
+  starts-ok a ha s m =
+      let (k, mk, e) = Memᴰ·of-map (λ k. state (setting lines p) a k 0) (start p) m in
+      subst (Ok (setting lines p) places) e (ok-at a k ha (start-within p [] .at k mk .0))
+
+  pub goal-ok : (b : ℕ) → b < places → (s : ℕ) → s ∈ (goal (setting lines p) b ∷ []) → Ok (setting lines p) places s
+  unfolding setting
+  goal-ok b hb s m = subst (Ok (setting lines p) places) (sym (List·Memᴰ·eq-of-singleton m)) (ok-at b (commands p) hb (omega arith))
+
+-- every line goes between two of the places
+abbrev pub LinesWithin : List Line → ℕ → Type 0
+LinesWithin lines places = (i : ℕ) → i < length lines → (lineAt lines i .from < places) × (lineAt lines i .to < places)
+
+module _ (lines : List Line) (places : ℕ) (p : Pattern) (within : LinesWithin lines places) where
+  pub sound : Sound (setting lines p) places
+  unfolding setting
+  sound = record { shape = shape p [] (omega arith); radix-pos = omega arith; within = within; code-low = code-low lines; agree = code-compared lines }
+
+  pub below-size : (s : ℕ) → Ok (setting lines p) places s → s < searchSize lines places p
+  unfolding setting searchSize stacks
+  below-size = ok-low (setting lines p) places sound
+
+  -- ---- a run from a start along a chain says that the chain is accepted
+
+  pub runs : (a b : ℕ) → a < places → (c : List ℕ) → ((s : ℕ) × (s ∈ starts (setting lines p) p a) × Running (setting lines p) b s c) ↔ Accepted lines p a b c
+  unfolding setting starts
+  runs a b ha c =
+      let r = along (setting lines p) places sound b a ha (start p) (start-within p []) c in
+      let l = same-words p (word lines c) in
+      (λ x. let (ex, ld, ac) = r .0 x in (ex, ld, l .1 ac), λ x. r .1 (x .0, x .1, l .0 (x .2)))
+
+  -- ---- what the answer says
+
+  module _ (a b : ℕ) (ha : a < places) (hb : b < places) where
+    -- by the search theorem: of runs of states
+    abbrev Solves : Option (List ℕ) → Type 0
+    Solves o = Answer (goal (setting lines p) b ∷ []) (succs (setting lines p)) (length lines) (searchSize lines places p) (starts (setting lines p) p a) o
+
+    solved : Solves (answer lines places p a b)
+    unfolding setting answer
+    solved =
+        let S = setting lines p in
+        solve-spec (searchSize lines places p) (goal S b ∷ []) (preds S) (succs S) (length lines)
+        (Ok S places) below-size (goal-ok lines places p b hb) (next-ok S places sound) (preds-ok S places sound) (edges S places sound)
+        (starts S p a) (starts-ok lines places p a ha)
+
+    -- and so of chains
+    abbrev Says : Option (List ℕ) → Type 0
+    Says none = (c : List ℕ) → Accepted lines p a b c → ⊥
+    Says (some c) = First lines p a b c × (length c < searchSize lines places p)
+
+    -- of two chains as long, the one that comes no later and is not the other is lower at the first difference
+    first-of : {c c′ : List ℕ} → ¬ (c ≡ c′) → (length c < length c′) ⊎ ((length c ≡ length c′) × Lex c c′) → Before c c′
+    first-of n (inl l) = inl l
+    first-of {c} {c′} n (inr (e, x)) = inr (e, ⊎-elim {C = LowerAtFirstDifference c c′} (λ q. absurd (n q)) (λ d. d) (lex-read c c′ x))
+
+    answer-says : Says (answer lines places p a b)
+    unfolding setting
+    answer-says = go (answer lines places p a b) solved
+      where
+        go : (o : Option (List ℕ)) → Solves o → Says o
+        go none none-runs = λ c k. let (s, m, r) = runs a b ha c .1 k in none-runs s c m r
+        go (some c) (short, run, least) = ((runs a b ha c .0 run, λ c′ k n. let (s, m, r) = runs a b ha c′ .1 k in first-of n (least s c′ m r)), short)
+
+    pub answer-none : (answer lines places p a b ≡ none) ↔ ((c : List ℕ) → Accepted lines p a b c → ⊥)
+    answer-none = go (answer lines places p a b) answer-says
+      where
+        go : (o : Option (List ℕ)) → Says o → (o ≡ none) ↔ ((c : List ℕ) → Accepted lines p a b c → ⊥)
+        go none h = (λ e. h, λ k. refl)
+        go (some c) h = (λ e. absurd (let z : _≡_ {A = ℕ} 0 1 = cc in omega arith), λ k. absurd (k c (h .0 .0)))
+
+    pub answer-some : (c : List ℕ) → answer lines places p a b ≡ some c → First lines p a b c × (length c < searchSize lines places p)
+    answer-some c e = subst Says e answer-says
