@@ -4,4 +4,5 @@ pub mod Writing
 pub mod Pattern
 pub mod Language
 pub mod Chain
+pub mod Request
 pub mod Rows

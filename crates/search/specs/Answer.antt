@@ -12,6 +12,7 @@ use Rattle.meaning.specs.Record.{Line, boats}
 use Rattle.meaning.specs.Writing.{lineAt}
 use Rattle.meaning.specs.Pattern.{Pattern, commands, keeps}
 use Rattle.meaning.specs.Chain.{word, Accepted, LowerAtFirstDifference, Before, First}
+use Rattle.meaning.specs.Request.{searchSize}
 use Rattle.automaton.specs.Listed.{_∈_}
 use Rattle.automaton.specs.Automaton.{nodes, nodeAt, start}
 use Rattle.automaton.specs.Words.{same-words}
@@ -19,7 +20,7 @@ use Rattle.automaton.specs.Shape.{shape, start-within}
 use Rattle.search.specs.Plain.{solve, Lex, Answer}
 use Rattle.search.specs.Forward.{solve-spec}
 use Rattle.search.specs.Order.{lex-read}
-use Rattle.search.specs.Codes.{codes, telling, code-low, code-compared}
+use Rattle.request.specs.Codes.{codes, telling, code-low, code-compared}
 use Rattle.search.specs.Digits.{pow-pos}
 use Rattle.search.specs.Product.{Setting, stacks, state, succs, preds}
 use Rattle.search.specs.Steps.{Sound, Ok, ok-low, next-ok, preds-ok, edges}
@@ -34,10 +35,6 @@ setting lines p =
     let cs = codes lines in
     let ns = nodes p [] in
     record { lines = lines; code = λ i. getD cs i 0; tells = telling bs; node = nodeAt ns; done = commands p; radix = suc (length bs); deepest = keeps p }
-
--- places × (commands + 1) × (boats + 1) to the power of keeps
-unfoldable pub searchSize : List Line → ℕ → Pattern → ℕ
-searchSize lines places p = places * suc (commands p) * suc (length (boats lines)) ^ keeps p
 
 -- where the chains from place a begin
 unfoldable pub starts : Setting → Pattern → ℕ → List ℕ

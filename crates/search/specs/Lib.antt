@@ -13,7 +13,6 @@ pub mod PhaseOne
 pub mod PhaseTwo
 pub mod Phases
 pub mod SmallGraph
-pub mod Codes
 pub mod Digits
 pub mod Product
 pub mod Steps

@@ -1,0 +1,48 @@
+-- A request (document 01, "Asking" and questions 15 to 17): the search size, the words of work area that it needs, and what becomes
+-- of the area. Record first, then pattern, then request.
+use mathlib.Core.Bool.{Bool, _&&_}
+use mathlib.Core.List.{List}
+use Prim.Native.Nat.{ℕ, suc, _+_, _*_, _^_}
+use lib.Dec.{ltb, leb}
+use lib.ListN.{length, replicate}
+use Rattle.meaning.specs.Outcome.{Outcome, refused, passed, ask, andThen}
+use Rattle.meaning.specs.Record.{Line, Day, boats, readRecord}
+use Rattle.meaning.specs.Pattern.{Pattern, commands, keeps, readPattern, noneGiven}
+
+-- places × (commands + 1) × (boats + 1) to the power of keeps
+unfoldable pub searchSize : List Line → ℕ → Pattern → ℕ
+searchSize lines places p = places * suc (commands p) * suc (length (boats lines)) ^ keeps p
+
+-- the words that a search of that size needs
+abbrev pub need : ℕ → ℕ
+need size = 4 * size + 8192
+
+-- what a request that passes its questions asks about
+pub record Asked : Type 0 where
+  pub day : Day
+  pub pattern : Pattern
+
+abbrev pub sizeOf : Asked → ℕ
+sizeOf q = searchSize (q .day .lines) (q .day .places) (q .pattern)
+
+-- the record, then the pattern
+abbrev pub askBoth : List ℕ → List ℕ → Outcome Asked
+askBoth rec pat = andThen (readRecord rec) (λ day. andThen (readPattern noneGiven pat) (λ p. passed (record { day = day; pattern = p })))
+
+-- questions 1 to 17, for a work area of so many words
+unfoldable pub askRequest : List ℕ → List ℕ → ℕ → ℕ → ℕ → Outcome Asked
+askRequest rec pat from to words =
+    andThen (askBoth rec pat) (λ q.
+    ask (ltb from (q .day .places) && ltb to (q .day .places)) 15
+    (ask (leb (sizeOf q) 1048576) 16
+    (ask (leb (need (sizeOf q)) words) 17
+    (passed q))))
+
+-- how many words a record and a pattern need: questions 1 to 14 and 16
+unfoldable pub wordsOf : List ℕ → List ℕ → Outcome ℕ
+wordsOf rec pat = andThen (askBoth rec pat) (λ q. ask (leb (sizeOf q) 1048576) 16 (passed (need (sizeOf q))))
+
+-- a work area after a reply: untouched after a refusal at 17 or before, else all zeros
+abbrev pub workAfter : Outcome Asked → List ℕ → List ℕ
+workAfter (refused number) work = work
+workAfter (passed q) work = replicate (length work) 0
