@@ -1,5 +1,6 @@
 pub mod Listed
 pub mod Automaton
+pub mod Columns
 pub mod Runs
 pub mod Scope
 pub mod Placed

@@ -17,6 +17,7 @@ pub mod Digits
 pub mod Product
 pub mod Steps
 pub mod Along
+pub mod Loaded
 pub mod Answer
 pub mod Check
 pub mod Rows

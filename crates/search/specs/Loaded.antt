@@ -1,0 +1,52 @@
+-- The setting that the columns of an automaton and the words loaded into the work area say: what the loops of the search go by.
+use mathlib.Core.List.{List, [], _∷_}
+use mathlib.Core.Option.{Option}
+use Prim.Native.Nat.{ℕ, zero, suc, _+_, _-_, _/_, _%_}
+use lib.ListN.{getD}
+use Rattle.meaning.specs.Record.{Boat, Line}
+use Rattle.meaning.specs.Writing.{noLine}
+use Rattle.meaning.specs.Language.{Compared, compared}
+use Rattle.automaton.specs.Columns.{Columns, nodeIn}
+use Rattle.request.specs.Layout.{fromIn, toIn, kindIn}
+use Rattle.request.specs.declared.Plan.{Plan}
+use Rattle.search.specs.Product.{Setting}
+
+-- words of the loaded tables; g is the area's front, or the whole area
+abbrev pub codeAt : Plan → List ℕ → ℕ → ℕ
+codeAt plan g i = getD g (plan .codes + i) 0
+
+abbrev pub wordAt : Plan → List ℕ → ℕ → ℕ
+wordAt plan g i = getD g (plan .words + i) 0
+
+-- a line as its word says it; its boat stands elsewhere
+abbrev pub lineIn : ℕ → Line
+lineIn w = record { from = fromIn w; kind = kindIn w; boat = noLine .boat; to = toIn w }
+
+-- the n lines from line i on
+unfoldable pub linesIn : Plan → List ℕ → ℕ → ℕ → List Line
+linesIn plan g i zero = []
+linesIn plan g i (suc n) = lineIn (wordAt plan g i) ∷ linesIn plan g (suc i) n
+
+-- the boat that a word says
+abbrev pub boatIn : ℕ → Boat
+boatIn w = record { class = w / 16777216; sail = w % 16777216 }
+
+-- the word of boat number x: 0 where the number or the stretch has none
+abbrev pub boatWordAt : Plan → List ℕ → ℕ → ℕ
+boatWordAt plan g zero = 0
+boatWordAt plan g (suc x) = getD g (plan .first + x) 0
+
+abbrev pub tellsIn : Plan → List ℕ → ℕ → ℕ → Compared
+tellsIn plan g x y = compared (boatIn (boatWordAt plan g x)) (boatIn (boatWordAt plan g y))
+
+unfoldable pub settingIn : Columns → Plan → List ℕ → Setting
+settingIn a plan g =
+    record {
+      lines = linesIn plan g 0 (plan .lines);
+      code = codeAt plan g;
+      tells = tellsIn plan g;
+      node = nodeIn a;
+      done = plan .done;
+      radix = plan .radix;
+      deepest = plan .keeps;
+    }
