@@ -1,4 +1,7 @@
-# independent model of document 01's record part
+#!/usr/bin/env python3
+"""The output that crates/record_rows has to write, from document 01's text alone ("The day's record", questions 1 to 7 and 18 to 23).
+
+Run from the repository's root: python3 tests/record_rows.py > crates/record_rows/stdout"""
 def read(s):
     if len(s)>40964: return 1
     if len(s)<3 or s[0]!=1 or not(1<=s[1]*256+s[2]<=1024): return 2
