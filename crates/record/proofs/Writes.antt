@@ -17,7 +17,7 @@ use Rattle.meaning.specs.Record.{Line, Day, line, askLine, placesBelow, kindAll
 use Rattle.meaning.specs.Writing.{written, unlessRefused, askNew, addOf, lineAt, readOf}
 use Rattle.record.specs.Reply.{writeReply, writeTold, entryTold, entryNumber, readingTold}
 use Rattle.record.specs.Outcomes.{passed-inj, ask-passed}
-use Rattle.record.specs.Whole.{record-length}
+use Rattle.record.specs.Whole.{record-length, reading-passed}
 use Rattle.record.specs.declared.WriteReply.the-variants as Write
 use Rattle.record.specs.declared.Entry.{Entry as EntryEnum}
 use Rattle.record.specs.declared.Entry.the-variants as At
@@ -76,16 +76,6 @@ new-fits places lines room len l n h =
     let (d, i) = ask-passed (ltb lines 4096) 22 _ n e in
     let (j, k) = ask-passed (leb (len + 10) room) 23 _ n i in
     (ltb-true _ _ c, leb-true _ _ j, sym (passed-inj k))
-
--- ---- what a reading of the record says
-
-pub reading-refused : (o : Outcome Day) (number : ℕ) → Reading.Refused number ≡ readingTold o → o ≡ refused number
-reading-refused (refused q) number h = ap refused cc
-reading-refused (passed day) number h = absurd (let z : _≡_ {A = ℕ} 0 1 = cc in omega arith)
-
-pub reading-passed : (o : Outcome Day) (places lines : ℕ) → Reading.Record places lines ≡ readingTold o → (day : Day) × (o ≡ passed day) × (places ≡ day .places) × (lines ≡ length (day .lines))
-reading-passed (refused q) places lines h = absurd (let z : _≡_ {A = ℕ} 0 1 = cc in omega arith)
-reading-passed (passed day) places lines h = (day, refl, cc, cc)
 
 -- ---- reading a line back
 

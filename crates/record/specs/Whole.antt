@@ -1,16 +1,18 @@
 -- What a record that passes is made of, and how long it is. Assumes nothing.
 use mathlib.Core.Path.{_≡_, refl, sym, ap, _∙_, subst}
-use mathlib.Core.Bool.{true}
+use mathlib.Core.Bool.{true, _&&_}
 use mathlib.Core.List.{List, []}
 use Prim.Native.Nat.{ℕ, _+_, _*_, _<_, _≤_}
 use native.Mathlib.Omega.{arith}
-use lib.Dec.{leb}
+use lib.Dec.{leb, eqb}
 use lib.ListN.{length, getD, drop, length-drop}
 use lib.Seq.{drop-drop}
 use borrow.Author.Tests.{leb-true, le-leb}
 use Rattle.meaning.specs.Outcome.{Outcome, refused, passed}
-use Rattle.meaning.specs.Record.{Line, Day, two, lineOf, placesWhole, linesFrom, readRecord}
+use Rattle.meaning.specs.Record.{Line, Day, byte, two, lineOf, countAllowed, placesWhole, linesFrom, readRecord}
 use Rattle.meaning.specs.Writing.{lineAt}
+use Rattle.record.specs.Reply.{readingTold}
+use Rattle.record.specs.declared.Reading.the-variants as Reading
 use Rattle.record.specs.Outcomes.{passed-inj, ask-passed, andThen-passed, and-true}
 use Rattle.record.specs.Walk.{lines-length, lines-at}
 
@@ -84,3 +86,20 @@ lines-short s = go (readRecord s) refl
     go : (o : Outcome Day) → readRecord s ≡ o → length (linesIn o) ≤ 4096
     go (refused number) e = omega arith
     go (passed day) e = lines-few s day e
+
+-- 1 to 1,024 places
+pub places-few : (s : List ℕ) (day : Day) → readRecord s ≡ passed day → (0 < day .places) × (day .places ≤ 1024)
+places-few s day h =
+    let w = whole-of s day h in
+    let (a, b) = and-true (leb 1 (two s 1)) (leb (two s 1) 1024) (and-true (leb 3 (length s) && eqb (byte s 0) 1) (countAllowed (two s 1)) (w .head) .1) in
+    (omega (arith, w .count, leb-true 1 (two s 1) a), omega (arith, w .count, leb-true (two s 1) 1024 b))
+
+-- ---- what a reading of the record says
+
+pub reading-refused : (o : Outcome Day) (number : ℕ) → Reading.Refused number ≡ readingTold o → o ≡ refused number
+reading-refused (refused q) number h = ap refused cc
+reading-refused (passed day) number h = absurd (let z : _≡_ {A = ℕ} 0 1 = cc in omega arith)
+
+pub reading-passed : (o : Outcome Day) (places lines : ℕ) → Reading.Record places lines ≡ readingTold o → (day : Day) × (o ≡ passed day) × (places ≡ day .places) × (lines ≡ length (day .lines))
+reading-passed (refused q) places lines h = absurd (let z : _≡_ {A = ℕ} 0 1 = cc in omega arith)
+reading-passed (passed day) places lines h = (day, refl, cc, cc)

@@ -12,8 +12,9 @@ use Rattle.meaning.specs.Outcome.{Outcome, refused, passed, told, refusal}
 use Rattle.meaning.specs.Record.{Line, readRecord}
 use Rattle.meaning.specs.Writing.{written, askNew, addOf}
 use Rattle.record.specs.Reply.{lineShown, writeReply, readingTold, readingNumber}
+use Rattle.record.specs.Whole.{reading-refused}
 use Rattle.record.specs.declared.Reading.the-variants as Reading
-use Rattle.record.proofs.Writes.{reply-told, refusal-keeps, length-told, new-fits, reading-refused, add-refused, add-asked, add-long}
+use Rattle.record.proofs.Writes.{reply-told, refusal-keeps, length-told, new-fits, add-refused, add-asked, add-long}
 use Rattle.record.proofs.add_line.Statement.{statement}
 use Rattle.record.proofs.add_line.Tie as tie
 

@@ -8,8 +8,8 @@ use Rattle.meaning.specs.Outcome.{passed, refusal, value}
 use Rattle.meaning.specs.Record.{Day, readRecord}
 use Rattle.meaning.specs.Writing.{lineAt}
 use Rattle.record.specs.Reply.{readingNumber}
-use Rattle.record.specs.Whole.{linesIn, linesOf}
-use Rattle.record.proofs.Writes.{reading-refused, reading-passed, read-refused, read-passed}
+use Rattle.record.specs.Whole.{linesIn, linesOf, reading-refused, reading-passed}
+use Rattle.record.proofs.Writes.{read-refused, read-passed}
 use borrow.Author.Tests.{le-ltb, lt-ltb}
 use borrow.Author.Needs.{needs}
 use Rattle.record.proofs.read_line.Statement.{statement}
