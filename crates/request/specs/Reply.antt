@@ -2,7 +2,7 @@
 use mathlib.Core.Path.{_≡_}
 use mathlib.Core.Bool.{cond}
 use mathlib.Core.List.{List}
-use Prim.Native.Nat.{ℕ, suc, _≤_, _<_}
+use Prim.Native.Nat.{ℕ, suc, _*_, _^_, _≤_, _<_}
 use lib.Dec.{leb}
 use lib.ListN.{length}
 use Rattle.meaning.specs.Outcome.{Outcome, refused, passed, Reply, value, refusal}
@@ -15,6 +15,12 @@ use Rattle.request.specs.Layout.{Laid, boatWords}
 use Rattle.request.specs.declared.Plan.{Plan}
 use Rattle.request.specs.declared.Both.{Both}
 use Rattle.request.specs.declared.Both.the-variants as Both
+use Rattle.request.specs.declared.Measured.{Measured}
+use Rattle.request.specs.declared.Measured.the-variants as Measured
+use Rattle.request.specs.declared.Request.{Request}
+use Rattle.request.specs.declared.Request.the-variants as Request
+use Rattle.request.specs.declared.WordsReply.{WordsReply}
+use Rattle.request.specs.declared.WordsReply.the-variants as Words
 use Rattle.request.specs.declared.Sizing.{Sizing}
 use Rattle.request.specs.declared.Sizing.the-variants.{Size, Above}
 
@@ -41,3 +47,37 @@ Small (Both.Refused number) = Unit {0}
 
 abbrev pub sizingTold : ℕ → Sizing
 sizingTold n = cond (leb n 1048576) (Size n) Above
+
+-- of so many places and commands, keeps so deep, and the boats of these lines
+abbrev pub measuredTold : List Line → ℕ → ℕ → ℕ → Measured
+measuredTold lines places c k =
+    let n = places * suc c * suc (length (boats lines)) ^ k in
+    cond (leb n 1048576) (Measured.Size (length (boats lines)) n) Measured.Above
+
+-- ---- a request that passes
+
+-- the plan's numbers are those of what is asked about
+pub record Planned (q : Asked) (plan : Plan) : Type 0 where
+  pub places-are : plan .places ≡ q .day .places
+  pub lines-are : plan .lines ≡ length (q .day .lines)
+  pub done-is : plan .done ≡ commands (q .pattern)
+  pub keeps-are : plan .keeps ≡ keeps (q .pattern)
+  pub radix-is : plan .radix ≡ suc (length (boats (q .day .lines)))
+  pub size-is : plan .size ≡ sizeOf q
+  pub first-is : plan .first ≡ 0
+  pub boats-are : plan .boats ≡ length (boatWords (keeps (q .pattern)) (q .day .lines))
+
+-- the number of the question that failed, or a plan that fits an area of so many words
+abbrev pub Answers : Outcome Asked → ℕ → Request → Type 0
+Answers (refused number) area r = r ≡ Request.Refused number
+Answers (passed q) area r = (plan : Plan) × (r ≡ Request.Asked plan) × Planned q plan × Laid plan area
+
+abbrev pub requestNumber : Request → ℕ
+requestNumber (Request.Asked plan) = 0
+requestNumber (Request.Refused number) = number
+
+-- ---- the words needed
+
+abbrev pub wordsReply : WordsReply → Reply ℕ
+wordsReply (Words.Words n) = value n
+wordsReply (Words.Refused number second) = refusal number second

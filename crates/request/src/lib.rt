@@ -2,14 +2,17 @@
 ghost use mathlib.Core.Path.{_≡_};
 ghost use mathlib.Core.List.{_++_, map};
 ghost use Prim.Native.Nat.{suc, _+_, _*_, _-_, _^_, _<_, _≤_};
+ghost use mathlib.Core.Bool.{cond};
+ghost use lib.Dec.{eqb};
 ghost use lib.ListN.{length, take, replicate};
 ghost use Rattle.meaning.specs.Outcome.{told};
 ghost use Rattle.meaning.specs.Record.{boats};
-ghost use Rattle.meaning.specs.Request.{askBoth};
+ghost use Rattle.meaning.specs.Request.{askBoth, askRequest, wordsOf};
 ghost use Rattle.record.specs.Whole.{linesOf};
 ghost use Rattle.request.specs.Codes.{codes};
 ghost use Rattle.request.specs.Layout.{lineWord};
-ghost use Rattle.request.specs.Reply.{bothTold, bothNumber, patternNumber, Small, sizingTold};
+ghost use Rattle.request.specs.Reply.{bothTold, bothNumber, patternNumber, Small, sizingTold, measuredTold, Answers, requestNumber, wordsReply};
+ghost use Rattle.request.specs.Drawing.{Fitting, Drawn};
 use pattern::PatternReply;
 use record::Reading;
 
@@ -121,4 +124,131 @@ fn size_of(places: usize, commands: usize, radix: usize, keeps: usize) -> Sizing
         k += 1;
     }
     Sizing::Size(size)
+}
+
+// The different boats of a record and the search size, or that it is above the limit.
+pub enum Measured {
+    Size { boats: usize, size: usize },
+    Above,
+}
+
+// Question 16 of a record and a pattern, by their counts.
+fn measure(day: &[u8], places: usize, lines: usize, commands: usize, keeps: usize) -> Measured
+    requires { ⌜ (lines ≡ length (linesOf (now day))) × (places ≤ 1024) × (commands ≤ 63) ⌝ }
+    ensures { λ r. ⌜ r ≡ measuredTold (linesOf (now (day .entry))) places commands keeps ⌝ }
+{
+    let boats = record::count_boats(day, lines);
+    let sizing = size_of(places, commands, boats + 1, keeps);
+    let Sizing::Size(size) = sizing else {
+        return Measured::Above;
+    };
+    Measured::Size { boats, size }
+}
+
+// ---- the plan
+
+// The words of the boats' stretch: none where nothing is kept.
+fn kept_boats(keeps: usize, boats: usize) -> usize
+    ensures { λ r. ⌜ r ≡ cond (eqb keeps 0) 0 boats ⌝ }
+{
+    if keeps == 0 {
+        return 0;
+    }
+    boats
+}
+
+// The layout of the work area, computed here and nowhere else.
+fn planned(places: usize, lines: usize, done: usize, keeps: usize, boats: usize, size: usize) -> Plan
+    requires { ⌜ Fitting places lines done keeps boats size ⌝ }
+    ensures { λ r. ⌜ Drawn places lines done keeps boats size r ⌝ }
+{
+    let kept = kept_boats(keeps, boats);
+    let stacks = size / (places * (done + 1));
+    Plan {
+        places,
+        lines,
+        done,
+        keeps,
+        radix: boats + 1,
+        stacks,
+        size,
+        first: 0,
+        boats: kept,
+        codes: kept,
+        words: kept + lines,
+        base: kept + lines + lines,
+    }
+}
+
+// A request that passed questions 1 to 17, by its plan, or the number of the question that failed.
+pub enum Request {
+    Asked(Plan),
+    Refused(u8),
+}
+
+impl Request {
+    // The number of the question that failed, 0 where none did.
+    pub fn number(self) -> u8
+        ensures { λ r. ⌜ r ≡ requestNumber self ⌝ }
+    {
+        match self {
+            Request::Asked(_) => 0,
+            Request::Refused(q) => q,
+        }
+    }
+}
+
+// Questions 1 to 17, for a work area of so many words, which is not looked at.
+pub fn ask_request(day: &[u8], pattern: &[u8], from: u16, to: u16, area: usize) -> Request
+    ensures { λ r. ⌜ Answers (askRequest (now (day .entry)) (now (pattern .entry)) from to area) area r ⌝ }
+{
+    let both = ask_both(day, pattern);
+    let Both::Read {
+        places,
+        lines,
+        commands,
+        keeps,
+    } = both
+    else {
+        return Request::Refused(both.number());
+    };
+    if places <= from as usize {
+        return Request::Refused(15);
+    }
+    if places <= to as usize {
+        return Request::Refused(15);
+    }
+    let Measured::Size { boats, size } = measure(day, places, lines, commands, keeps) else {
+        return Request::Refused(16);
+    };
+    if area < 4 * size + 8192 {
+        return Request::Refused(17);
+    }
+    Request::Asked(planned(places, lines, commands, keeps, boats, size))
+}
+
+// How many words of work area a request needs, or the number of the question that failed.
+pub enum WordsReply {
+    Words(usize),
+    Refused(u8, usize),
+}
+
+// The words that a record and a pattern need, whatever places are asked about: questions 1 to 14 and 16.
+pub fn words_needed(day: &[u8], pattern: &[u8]) -> WordsReply
+    ensures { λ r. ⌜ wordsReply r ≡ told (wordsOf (now (day .entry)) (now (pattern .entry))) ⌝ }
+{
+    let both = ask_both(day, pattern);
+    let Both::Read {
+        places,
+        lines,
+        commands,
+        keeps,
+    } = both
+    else {
+        return WordsReply::Refused(both.number(), 0);
+    };
+    let Measured::Size { boats: _, size } = measure(day, places, lines, commands, keeps) else {
+        return WordsReply::Refused(16, 0);
+    };
+    WordsReply::Words(4 * size + 8192)
 }

@@ -1,0 +1,125 @@
+-- `request::words_needed` meets its contract: questions 1 to 14 by what asking them ensures, 16 by what measuring ensures.
+-- Assumes nothing.
+use mathlib.Core.Path.{_≡_, refl, sym, ap, _∙_, subst}
+use mathlib.Core.Bool.{true, false}
+use mathlib.Core.List.{List}
+use Prim.Native.Nat.{ℕ, suc, _+_, _*_, _^_, _<_, _≤_}
+use native.Mathlib.Omega.{arith}
+use lib.Dec.{leb}
+use lib.ListN.{length}
+use borrow.Author.Tests.{leb-true}
+use Rattle.meaning.specs.Outcome.{Outcome, told, refusal, value}
+use Rattle.meaning.specs.Record.{boats}
+use Rattle.meaning.specs.Request.{askBoth, askRequest, sizeOf, need, wordsOf}
+use Rattle.record.specs.Whole.{linesOf, lines-short}
+use Rattle.record.specs.Boats.{boats-few}
+use lib.Seq.{take-length}
+use Rattle.request.specs.Reply.{bothNumber, Small}
+use Rattle.request.proofs.Asking.{Counted, both-refused, both-counted, counted-size, above, measured, words-refused, words-above, words-are}
+use borrow.Author.Needs.{needs}
+use Rattle.request.proofs.words_needed.Statement.{statement}
+use Rattle.request.proofs.words_needed.Tie as tie
+
+ask-both-requires : tie.Need-ask-both-requires
+ask-both-requires c κs = search needs
+
+enum-known-both : tie.Need-enum-known-both
+enum-known-both c = search needs
+
+enum-told : tie.Need-enum-told
+enum-told c = search needs
+
+number-requires : tie.Need-number-requires
+number-requires c κs = search needs
+
+returns : tie.Need-returns
+returns c = 
+    let a = c .before .before .before .before .before .before .args in
+    let t = c .before .enum-told .given .1 in
+    let e = both-refused (askBoth (a .day .now) (a .pattern .now)) _ (sym t ∙ c .before .before .before .ask-both .ensures .0) in
+    ap (λ (n : ℕ). refusal n 0) (c .number .ensures ∙ ap bothNumber t) ∙ sym (ap told (words-refused (a .day .now) (a .pattern .now) _ e))
+
+-- ---- where record and pattern have been read
+
+abbrev rec : tie.After-known-told → List ℕ
+rec c = c .before .before .before .before .before .before .args .day .now
+
+abbrev pat : tie.After-known-told → List ℕ
+pat c = c .before .before .before .before .before .before .args .pattern .now
+
+abbrev places : tie.After-known-told → ℕ
+places c = c .before .both .given .0 .0
+
+abbrev lines : tie.After-known-told → ℕ
+lines c = c .before .both .given .0 .1 .0
+
+abbrev commands : tie.After-known-told → ℕ
+commands c = c .before .both .given .0 .1 .1 .0
+
+abbrev keeps : tie.After-known-told → ℕ
+keeps c = c .before .both .given .0 .1 .1 .1 .0
+
+passes : (c : tie.After-known-told) → Counted (rec c) (pat c) (places c) (lines c) (commands c) (keeps c)
+passes c = both-counted (rec c) (pat c) _ _ _ _ (sym (c .before .both .given .1) ∙ c .before .before .before .ask-both .ensures .0)
+
+small : (c : tie.After-known-told) → (0 < places c) × (places c ≤ 1024) × (lines c ≤ 4096) × (commands c ≤ 63) × (keeps c ≤ 3)
+small c = subst Small (c .before .both .given .1) (c .before .before .before .ask-both .ensures .1)
+
+measure-requires : tie.Need-measure-requires
+measure-requires c κs = 
+    let h = passes c in
+    let s = small c in
+    (h .lines-are ∙ sym (ap length (h .lines-of)), s .1, s .3)
+
+enum-known-size : tie.Need-enum-known-size
+enum-known-size c = search needs
+
+enum-told-2 : tie.Need-enum-told-2
+enum-told-2 c = search needs
+
+returns-2 : tie.Need-returns-2
+returns-2 c = 
+    let b = c .before .before .before in
+    let h = passes b in
+    let no = above _ _ _ _ (sym (c .enum-told2 .given .1) ∙ c .before .before .measure .ensures) in
+    sym (ap told (words-above (rec b) (pat b) (h .asked) (h .both) (ap (λ (n : ℕ). leb n 1048576) (sym (counted-size _ _ _ _ _ _ h)) ∙ no)))
+
+-- ---- where the size is known
+
+size-is : (c : tie.After-known-told2) → let b = c .before .before .before .before in
+    (leb (places b * suc (commands b) * suc (length (boats (linesOf (rec b)))) ^ keeps b) 1048576 ≡ true) × (c .before .size .given .0 .0 ≡ length (boats (linesOf (rec b)))) × (c .before .size .given .0 .1 .0 ≡ places b * suc (commands b) * suc (length (boats (linesOf (rec b)))) ^ keeps b) × (c .before .size .given .0 .1 .0 ≤ 1048576)
+size-is c = measured _ _ _ _ _ _ (sym (c .before .size .given .1) ∙ c .before .before .before .measure .ensures)
+
+fits : (c : tie.After-known-told2) → c .before .size .given .0 .1 .0 ≤ 1048576
+fits c = size-is c .3
+
+mul-t11 : tie.Need-mul-t11
+mul-t11 c = omega (arith, fits c)
+
+add-t12 : tie.Need-add-t12
+add-t12 c = omega (arith, fits c)
+
+returns-3 : tie.Need-returns-3
+returns-3 c = 
+    let b = c .before .before .before .before in
+    let h = passes b in
+    let yes = size-is c in
+    let whole = counted-size _ _ _ _ _ _ h in
+    ap (λ (n : ℕ). value (4 * n + 8192)) (yes .2 ∙ whole) ∙ sym (ap told (words-are (rec b) (pat b) (h .asked) (h .both) (ap (λ (n : ℕ). leb n 1048576) (sym whole) ∙ yes .0)))
+
+pub words-needed-spec : {M : Type 1} → statement M
+words-needed-spec =
+    tie.close
+    (tie.spec
+    ask-both-requires
+    enum-known-both
+    enum-told
+    number-requires
+    returns
+    measure-requires
+    enum-known-size
+    enum-told-2
+    returns-2
+    mul-t11
+    add-t12
+    returns-3)
