@@ -7,7 +7,7 @@ use Prim.Native.Nat.{ℕ, zero, suc, _+_, _*_, _<_, _≤_}
 use native.Mathlib.Omega.{arith}
 use lib.Dec.{ltb, eqb, leb·suc-suc}
 use lib.ListN.{length, getD, take, length-append}
-use lib.Seq.{take-suc}
+use lib.Seq.{take-suc, take-length}
 use borrow.Author.Tests.{eqb-true, eqb-false, eq-eqb, ne-eqb, lt-ltb, le-ltb, ltb-true, ltb-false}
 use Rattle.meaning.specs.Record.{Boat, Line, agree, among, boatsAfter, boats}
 use Rattle.meaning.specs.Writing.{lineAt, noLine}
@@ -138,29 +138,39 @@ first-le b (l ∷ ls) (suc k) h it = go (agree b (l .boat)) refl (first-le b ls 
     go true e ih = omega (arith, first-hit b l ls e)
     go false e ih = omega (arith, first-miss b l ls e, ih)
 
-noted-length : (seen : List Boat) (l : Line) → length (noted seen l) ≡ cond (among (l .boat) seen) (length seen) (suc (length seen))
-noted-length seen l = go (among (l .boat) seen)
-  where
-    go : (t : Bool) → length (cond t seen (seen ++ (l .boat ∷ []))) ≡ cond t (length seen) (suc (length seen))
-    go true = refl
-    go false = omega (arith, length-append seen (l .boat ∷ []))
-
--- the boat of line i is counted just if it is the first line with it
-pub boats-more : (lines : List Line) (i : ℕ) → i < length lines → length (boats (take (suc i) lines)) ≡ cond (eqb (firstSame lines i) i) (suc (length (boats (take i lines)))) (length (boats (take i lines)))
-boats-more lines i h =
+-- the boat of line i is put at the end just if it is the first line with it
+pub boats-next : (lines : List Line) (i : ℕ) → i < length lines → boats (take (suc i) lines) ≡ cond (eqb (firstSame lines i) i) (boats (take i lines) ++ (lineAt lines i .boat ∷ [])) (boats (take i lines))
+boats-next lines i h =
     let l : Line = lineAt lines i in
     let seen : List Boat = boats (take i lines) in
     let met : among (l .boat) seen ≡ ltb (firstSame lines i) i = among-after (l .boat) [] (take i lines) ∙ has-first (l .boat) lines i (omega (arith, h)) in
-    ap (λ ls. length (boats ls)) (take-suc lines i noLine h)
-    ∙ (ap length (boats-end [] (take i lines) l)
-    ∙ (noted-length seen l ∙ (ap (λ t. cond t (length seen) (suc (length seen))) met ∙ by-first (firstSame lines i) i (length seen) (first-le (l .boat) lines i h (agree-self (l .boat))))))
+    ap boats (take-suc lines i noLine h)
+        ∙ (boats-end [] (take i lines) l
+        ∙ (ap (λ t. cond t seen (seen ++ (l .boat ∷ []))) met ∙ by-first (firstSame lines i) i seen (seen ++ (l .boat ∷ [])) (first-le (l .boat) lines i h (agree-self (l .boat)))))
   where
-    by-first : (f i n : ℕ) → f ≤ i → cond (ltb f i) n (suc n) ≡ cond (eqb f i) (suc n) n
-    by-first f i n le = go (ltb f i) refl
+    by-first : (f i : ℕ) (x y : List Boat) → f ≤ i → cond (ltb f i) x y ≡ cond (eqb f i) y x
+    by-first f i x y le = go (ltb f i) refl
       where
-        go : (t : Bool) → ltb f i ≡ t → cond t n (suc n) ≡ cond (eqb f i) (suc n) n
-        go true e = sym (ap (λ t. cond t (suc n) n) (ne-eqb f i (λ q. omega (arith, ltb-true f i e, q))))
-        go false e = sym (ap (λ t. cond t (suc n) n) (eq-eqb f i (omega (arith, ltb-false f i e, le))))
+        go : (t : Bool) → ltb f i ≡ t → cond t x y ≡ cond (eqb f i) y x
+        go true e = sym (ap (λ t. cond t y x) (ne-eqb f i (λ q. omega (arith, ltb-true f i e, q))))
+        go false e = sym (ap (λ t. cond t y x) (eq-eqb f i (omega (arith, ltb-false f i e, le))))
+
+-- and counted just then
+pub boats-more : (lines : List Line) (i : ℕ) → i < length lines → length (boats (take (suc i) lines)) ≡ cond (eqb (firstSame lines i) i) (suc (length (boats (take i lines)))) (length (boats (take i lines)))
+boats-more lines i h = ap length (boats-next lines i h) ∙ go (eqb (firstSame lines i) i)
+  where
+    go : (t : Bool) → length (cond t (boats (take i lines) ++ (lineAt lines i .boat ∷ [])) (boats (take i lines))) ≡ cond t (suc (length (boats (take i lines)))) (length (boats (take i lines)))
+    go true = omega (arith, length-append (boats (take i lines)) (lineAt lines i .boat ∷ []))
+    go false = refl
+
+-- the lines passed have no more boats than all of them
+pub boats-up : (lines : List Line) (i k : ℕ) → i + k ≡ length lines → length (boats (take i lines)) ≤ length (boats lines)
+boats-up lines i zero e = omega (arith, ap (λ n. length (boats (take n lines))) (let all : i ≡ length lines = omega (arith, e) in all), ap (λ ls. length (boats ls)) (take-length lines))
+boats-up lines i (suc k) e = go (eqb (firstSame lines i) i) (boats-more lines i (omega (arith, e))) (boats-up lines (suc i) k (omega (arith, e)))
+  where
+    go : (t : Bool) → length (boats (take (suc i) lines)) ≡ cond t (suc (length (boats (take i lines)))) (length (boats (take i lines))) → length (boats (take (suc i) lines)) ≤ length (boats lines) → length (boats (take i lines)) ≤ length (boats lines)
+    go true q le = omega (arith, q, le)
+    go false q le = omega (arith, q, le)
 
 -- no more boats than lines
 pub boats-few : (lines : List Line) (i : ℕ) → i ≤ length lines → length (boats (take i lines)) ≤ i

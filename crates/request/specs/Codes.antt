@@ -146,7 +146,7 @@ first-has b (l ∷ ls) h = go (agree b (l .boat)) refl h (first-has b ls)
 
 -- ---- the numbers of a record's lines
 
-map-at : (f : Line → ℕ) (ls : List Line) (i : ℕ) → i < length ls → getD (map f ls) i 0 ≡ f (lineAt ls i)
+pub map-at : (f : Line → ℕ) (ls : List Line) (i : ℕ) → i < length ls → getD (map f ls) i 0 ≡ f (lineAt ls i)
 map-at f [] i h = absurd (omega (arith, h))
 map-at f (l ∷ ls) zero h = refl
 map-at f (l ∷ ls) (suc i) h = map-at f ls i (omega (arith, h))

@@ -4,7 +4,7 @@ use mathlib.Core.Bool.{cond}
 use mathlib.Core.List.{List, [], _∷_, _++_, map}
 use Prim.Native.Nat.{ℕ, _+_, _*_, _^_, _≤_, _<_, _/_, _%_}
 use lib.Dec.{eqb}
-use lib.ListN.{length, getD}
+use lib.ListN.{length, take}
 use Rattle.meaning.specs.Record.{Boat, Line, boats}
 use Rattle.record.specs.Boats.{word}
 use Rattle.request.specs.Codes.{codes}
@@ -50,3 +50,13 @@ boatWords keeps lines = cond (eqb keeps 0) [] (map word (boats lines))
 -- the boats, each line's boat number, the lines
 abbrev pub loadedOf : ℕ → List Line → List ℕ
 loadedOf keeps lines = boatWords keeps lines ++ (codes lines ++ map lineWord lines)
+
+-- ---- loading
+
+-- lines before line i are numbered, with so many boats
+pub record Numbering (lines : List Line) (i count : ℕ) (part : List ℕ) : Type 0 where
+  pub one-more : i < length lines
+  pub few : length lines ≤ 4096
+  pub sized : length part ≡ length lines
+  pub so-far : take i part ≡ take i (codes lines)
+  pub count-is : count ≡ length (boats (take i lines))

@@ -4,13 +4,15 @@ ghost use mathlib.Core.List.{_++_, map};
 ghost use Prim.Native.Nat.{suc, _+_, _*_, _-_, _^_, _<_, _≤_};
 ghost use mathlib.Core.Bool.{cond};
 ghost use lib.Dec.{eqb};
-ghost use lib.ListN.{length, take, replicate};
+ghost use lib.ListN.{length, getD, take, set, replicate};
 ghost use Rattle.meaning.specs.Outcome.{told};
 ghost use Rattle.meaning.specs.Record.{boats};
 ghost use Rattle.meaning.specs.Request.{askBoth, askRequest, wordsOf};
+ghost use Rattle.meaning.specs.Writing.{lineAt};
+ghost use Rattle.record.specs.Boats.{word, firstSame};
 ghost use Rattle.record.specs.Whole.{linesOf};
 ghost use Rattle.request.specs.Codes.{codes};
-ghost use Rattle.request.specs.Layout.{lineWord};
+ghost use Rattle.request.specs.Layout.{lineWord, Numbering};
 ghost use Rattle.request.specs.Reply.{bothTold, bothNumber, patternNumber, Small, sizingTold, measuredTold, Answers, requestNumber, wordsReply};
 ghost use Rattle.request.specs.Drawing.{Fitting, Drawn};
 use pattern::PatternReply;
@@ -251,4 +253,91 @@ pub fn words_needed(day: &[u8], pattern: &[u8]) -> WordsReply
         return WordsReply::Refused(16, 0);
     };
     WordsReply::Words(4 * size + 8192)
+}
+
+// ---- the work area
+
+// Sets every word of an area to zero.
+pub fn clear(work: &mut [u32])
+    ensures { λ _. ⌜ now (work .exit) ≡ replicate (length (now (work .entry))) 0 ⌝ }
+{
+    let mut i: usize = 0;
+    while i < work.len() {
+        work[i] = 0;
+        i += 1;
+    }
+}
+
+// A line's from, to and kind in one word.
+fn line_word(day: &[u8], i: usize) -> u32
+    requires { ⌜ i < length (linesOf (now day)) ⌝ }
+    ensures { λ r. ⌜ r ≡ lineWord (lineAt (linesOf (now (day .entry))) i) ⌝ }
+{
+    let l = record::line_at(day, i);
+    l.from as u32 * 16384 + l.to as u32 * 16 + l.kind as u32
+}
+
+// The lines, a word each.
+fn load_lines(day: &[u8], part: &mut [u32])
+    requires { ⌜ length (now part) ≡ length (linesOf (now day)) ⌝ }
+    ensures { λ _. ⌜ now (part .exit) ≡ map lineWord (linesOf (now (day .entry))) ⌝ }
+{
+    let mut i: usize = 0;
+    while i < part.len() {
+        part[i] = line_word(day, i);
+        i += 1;
+    }
+}
+
+// The number of line i's boat, count boats having been numbered before it: that of the first line with the boat, else the next one.
+fn load_code(day: &[u8], i: usize, count: u32, part: &mut [u32]) -> u32
+    requires { ⌜ Numbering (linesOf (now day)) i count (now part) ⌝ }
+    ensures { λ r. ⌜ (r ≡ length (boats (take (suc i) (linesOf (now (day .entry)))))) × (now (part .exit) ≡ set (now (part .entry)) i (getD (codes (linesOf (now (day .entry)))) i 0)) ⌝ }
+{
+    let first = record::first_same(day, i);
+    if first == i {
+        let next = count + 1;
+        part[i] = next;
+        return next;
+    }
+    part[i] = part[first];
+    count
+}
+
+// Each line's boat number.
+fn load_codes(day: &[u8], part: &mut [u32])
+    requires { ⌜ length (now part) ≡ length (linesOf (now day)) ⌝ }
+    ensures { λ _. ⌜ now (part .exit) ≡ codes (linesOf (now (day .entry))) ⌝ }
+{
+    let mut count: u32 = 0;
+    let mut i: usize = 0;
+    while i < part.len() {
+        count = load_code(day, i, count, part);
+        i += 1;
+    }
+}
+
+// The boat of line i at the end of the boats so far, where it is the first line with it.
+fn load_boat(day: &[u8], i: usize, count: usize, part: &mut [u32]) -> usize
+    requires { ⌜ (i < length (linesOf (now day))) × (count ≡ length (boats (take i (linesOf (now day))))) × (length (now part) ≡ length (boats (linesOf (now day)))) ⌝ }
+    ensures { λ r. ⌜ (r ≡ length (boats (take (suc i) (linesOf (now (day .entry)))))) × (now (part .exit) ≡ cond (eqb (firstSame (linesOf (now (day .entry))) i) i) (set (now (part .entry)) count (word (lineAt (linesOf (now (day .entry))) i .boat))) (now (part .entry))) ⌝ }
+{
+    if record::first_same(day, i) == i {
+        part[count] = record::boat_at(day, i);
+        return count + 1;
+    }
+    count
+}
+
+// The different boats, a word each, in order of first appearance.
+fn load_boats(day: &[u8], lines: usize, part: &mut [u32])
+    requires { ⌜ (lines ≡ length (linesOf (now day))) × (length (now part) ≡ length (boats (linesOf (now day)))) ⌝ }
+    ensures { λ _. ⌜ now (part .exit) ≡ map word (boats (linesOf (now (day .entry)))) ⌝ }
+{
+    let mut count: usize = 0;
+    let mut i: usize = 0;
+    while i < lines {
+        count = load_boat(day, i, count, part);
+        i += 1;
+    }
 }
