@@ -145,8 +145,8 @@ boats-next lines i h =
     let seen : List Boat = boats (take i lines) in
     let met : among (l .boat) seen ≡ ltb (firstSame lines i) i = among-after (l .boat) [] (take i lines) ∙ has-first (l .boat) lines i (omega (arith, h)) in
     ap boats (take-suc lines i noLine h)
-        ∙ (boats-end [] (take i lines) l
-        ∙ (ap (λ t. cond t seen (seen ++ (l .boat ∷ []))) met ∙ by-first (firstSame lines i) i seen (seen ++ (l .boat ∷ [])) (first-le (l .boat) lines i h (agree-self (l .boat)))))
+    ∙ (boats-end [] (take i lines) l
+    ∙ (ap (λ t. cond t seen (seen ++ (l .boat ∷ []))) met ∙ by-first (firstSame lines i) i seen (seen ++ (l .boat ∷ [])) (first-le (l .boat) lines i h (agree-self (l .boat)))))
   where
     by-first : (f i : ℕ) (x y : List Boat) → f ≤ i → cond (ltb f i) x y ≡ cond (eqb f i) y x
     by-first f i x y le = go (ltb f i) refl

@@ -2,5 +2,6 @@ pub mod Reply
 pub mod Outcomes
 pub mod Walk
 pub mod Whole
+pub mod Fit
 pub mod Added
 pub mod Boats

@@ -1,3 +1,4 @@
 pub mod Asking
 pub mod Sizes
 pub mod Fills
+pub mod Tables

@@ -1,13 +1,13 @@
 -- Boats as numbers 1, 2, … in order of first appearance: the number of each line's boat, and the boat of each number.
 -- Claimed: `code-low`, `code-pos` and `code-compared` (comparing two lines' numbers tells what comparing their boats tells), for the states;
--- `code-earlier` and `code-new` (the number of an earlier line with the boat, else the next one), for the code that numbers the lines.
+-- `code-earlier` and `code-new` (the number of an earlier line with the boat, else the next one), for the code that numbers the lines; `codes-length`, `boats-of`, for reading them back.
 use mathlib.Core.Path.{_≡_, refl, sym, ap, _∙_, subst}
 use mathlib.Core.Bool.{Bool, true, false, cond, false≢true}
 use mathlib.Core.List.{List, [], _∷_, _++_, map, append-assoc, append-nil, List·Memᴰ·head, List·Memᴰ·tail, List·Memᴰ·cases-cons, List·Memᴰ·append-cases, List·Memᴰ·eq-of-singleton, Memᴰ·append-left, Memᴰ·append-right}
 use mathlib.Core.Logic.{_↔_, _⊎_, inl, inr, ⊎-elim}
 use Prim.Native.Nat.{ℕ, zero, suc, _<_, _≤_}
 use native.Mathlib.Omega.{arith}
-use lib.ListN.{length, getD, take, drop}
+use lib.ListN.{length, getD, take, drop, length-map}
 use lib.Seq.{split-at, length-take-le, getD-take}
 use Rattle.meaning.specs.Record.{Boat, Line, agree, among, boatsAfter, boats}
 use Rattle.meaning.specs.Writing.{noLine, lineAt}
@@ -108,6 +108,10 @@ after-in (l ∷ ls) seen b = go (after-in ls (noted seen (l .boat)) b) (noted-in
         back (inr (zero, h, q)) = later .1 (inl (here .1 (inr q)))
         back (inr (suc i, h, q)) = later .1 (inr (i, omega (arith, h), q))
 
+-- each of the different boats is that of a line
+pub boats-of : (lines : List Line) (b : Boat) → b ∈ boats lines → (i : ℕ) × (i < length lines) × (b ≡ lineAt lines i .boat)
+boats-of lines b m = ⊎-elim none-in (λ x. x) (after-in lines [] b .0 m)
+
 after-more : (ls : List Line) (seen : List Boat) → (more : List Boat) × (boatsAfter seen ls ≡ seen ++ more)
 unfolding boatsAfter
 after-more [] seen = ([], sym (append-nil seen))
@@ -155,6 +159,10 @@ module _ (lines : List Line) where
   abbrev pub code : ℕ → ℕ
   code i = getD (codes lines) i 0
 
+  pub codes-length : length (codes lines) ≡ length lines
+  unfolding codes
+  codes-length = length-map lines _
+
   code-at : (i : ℕ) → i < length lines → code i ≡ suc (indexIn (boats lines) (lineAt lines i .boat))
   unfolding codes
   code-at = map-at (λ l. suc (indexIn (boats lines) (l .boat))) lines
@@ -194,7 +202,7 @@ module _ (lines : List Line) where
         code-at i h ∙ (ap (λ bs. suc (indexIn bs its)) whole ∙ ap suc (index-new seen more its new))
       where
         new : its ∈ boats (take i lines) → ⊥
-        new m = ⊎-elim (λ n. none-in n) earlier (after-in (take i lines) [] its .0 m)
+        new m = earlier (boats-of (take i lines) its m)
           where
             earlier : Has (take i lines) its → ⊥
             earlier (j, j<, q) =

@@ -60,3 +60,10 @@ pub record Numbering (lines : List Line) (i count : ℕ) (part : List ℕ) : Typ
   pub sized : length part ≡ length lines
   pub so-far : take i part ≡ take i (codes lines)
   pub count-is : count ≡ length (boats (take i lines))
+
+-- a plan for these lines, in an area of so many words
+pub record Loading (lines : List Line) (plan : Plan) (area : ℕ) : Type 0 where
+  pub lines-are : plan .lines ≡ length lines
+  pub first-is : plan .first ≡ 0
+  pub boats-are : plan .boats ≡ length (boatWords (plan .keeps) lines)
+  pub laid : Laid plan area

@@ -12,7 +12,8 @@ ghost use Rattle.meaning.specs.Writing.{lineAt};
 ghost use Rattle.record.specs.Boats.{word, firstSame};
 ghost use Rattle.record.specs.Whole.{linesOf};
 ghost use Rattle.request.specs.Codes.{codes};
-ghost use Rattle.request.specs.Layout.{lineWord, Numbering};
+ghost use Rattle.request.specs.Layout.{lineWord, loadedOf, Numbering, Loading};
+ghost use borrow.Rule.Slice.PartMut.{putMid};
 ghost use Rattle.request.specs.Reply.{bothTold, bothNumber, patternNumber, Small, sizingTold, measuredTold, Answers, requestNumber, wordsReply};
 ghost use Rattle.request.specs.Drawing.{Fitting, Drawn};
 use pattern::PatternReply;
@@ -160,7 +161,14 @@ fn kept_boats(keeps: usize, boats: usize) -> usize
 }
 
 // The layout of the work area, computed here and nowhere else.
-fn planned(places: usize, lines: usize, done: usize, keeps: usize, boats: usize, size: usize) -> Plan
+fn planned(
+    places: usize,
+    lines: usize,
+    done: usize,
+    keeps: usize,
+    boats: usize,
+    size: usize,
+) -> Plan
     requires { ⌜ Fitting places lines done keeps boats size ⌝ }
     ensures { λ r. ⌜ Drawn places lines done keeps boats size r ⌝ }
 {
@@ -340,4 +348,32 @@ fn load_boats(day: &[u8], lines: usize, part: &mut [u32])
         count = load_boat(day, i, count, part);
         i += 1;
     }
+}
+
+// The boats, where the pattern keeps any.
+fn load_kept(day: &[u8], plan: Plan, work: &mut [u32])
+    requires { ⌜ Loading (linesOf (now day)) plan (length (now work)) ⌝ }
+    ensures { λ _. ⌜ now (work .exit) ≡ cond (eqb (plan .keeps) 0) (now (work .entry)) (putMid (plan .first) (plan .codes - plan .first) (now (work .entry)) (map word (boats (linesOf (now (day .entry)))))) ⌝ }
+{
+    if plan.keeps == 0 {
+        return;
+    }
+    let first = plan.first;
+    let codes = plan.codes;
+    load_boats(day, plan.lines, &mut work[first..codes]);
+}
+
+// Puts a record that passed into a work area: the boats, each line's boat number, the lines, each in its own stretch; and zeros
+// in all other words.
+pub fn load(day: &[u8], plan: Plan, work: &mut [u32])
+    requires { ⌜ Loading (linesOf (now day)) plan (length (now work)) ⌝ }
+    ensures { λ _. ⌜ now (work .exit) ≡ loadedOf (plan .keeps) (linesOf (now (day .entry))) ++ replicate (length (now (work .entry)) - plan .base) 0 ⌝ }
+{
+    clear(work);
+    let codes = plan.codes;
+    let words = plan.words;
+    let base = plan.base;
+    load_codes(day, &mut work[codes..words]);
+    load_lines(day, &mut work[words..base]);
+    load_kept(day, plan, work);
 }

@@ -1,6 +1,6 @@
 -- The finder's answer, as a definition that computes, and demand 3 for it: `answer-none` (none exactly where no chain of any
 -- length is accepted) and `answer-some` (a chain that is given is accepted, comes before every other, and is shorter than the search size).
--- The finder's contract rests on these two; `Check` uses `runs`.
+-- The finder's contract rests on these two; `Check` uses `runs`, `ReadBack` `answer-any` (the starts may come in any order).
 use mathlib.Core.Path.{_≡_, refl, sym, subst}
 use mathlib.Core.List.{List, [], _∷_, List·Memᴰ·eq-of-singleton, Memᴰ·of-map}
 use mathlib.Core.Logic.{_↔_, _⊎_, inl, inr, ⊎-elim}
@@ -19,7 +19,7 @@ use Rattle.automaton.specs.Words.{same-words}
 use Rattle.automaton.specs.Shape.{shape, start-within}
 use Rattle.search.specs.Plain.{solve, Lex, Answer}
 use Rattle.search.specs.Forward.{solve-spec}
-use Rattle.search.specs.Order.{lex-read}
+use Rattle.search.specs.Order.{lex-read, answer-unique, answer-members}
 use Rattle.request.specs.Codes.{codes, telling, code-low, code-compared}
 use Rattle.search.specs.Digits.{pow-pos}
 use Rattle.search.specs.Product.{Setting, stacks, state, succs, preds}
@@ -88,17 +88,26 @@ module _ (lines : List Line) (places : ℕ) (p : Pattern) (within : LinesWithin 
   -- ---- what the answer says
 
   module _ (a b : ℕ) (ha : a < places) (hb : b < places) where
-    -- by the search theorem: of runs of states
-    abbrev Solves : Option (List ℕ) → Type 0
-    Solves o = Answer (goal (setting lines p) b ∷ []) (succs (setting lines p)) (length lines) (searchSize lines places p) (starts (setting lines p) p a) o
+    -- by the search theorem: of runs of states, from valid states X
+    abbrev SolvesFrom : List ℕ → Option (List ℕ) → Type 0
+    SolvesFrom X o = Answer (goal (setting lines p) b ∷ []) (succs (setting lines p)) (length lines) (searchSize lines places p) X o
 
-    solved : Solves (answer lines places p a b)
-    unfolding setting answer
-    solved =
+    abbrev solveFrom : List ℕ → Option (List ℕ)
+    solveFrom X = let S = setting lines p in solve (searchSize lines places p) (goal S b ∷ []) (preds S) (succs S) (length lines) X
+
+    solved-from : (X : List ℕ) → ((s : ℕ) → s ∈ X → Ok (setting lines p) places s) → SolvesFrom X (solveFrom X)
+    unfolding setting
+    solved-from =
         let S = setting lines p in
         solve-spec (searchSize lines places p) (goal S b ∷ []) (preds S) (succs S) (length lines)
         (Ok S places) below-size (goal-ok lines places p b hb) (next-ok S places sound) (preds-ok S places sound) (edges S places sound)
-        (starts S p a) (starts-ok lines places p a ha)
+
+    abbrev Solves : Option (List ℕ) → Type 0
+    Solves o = SolvesFrom (starts (setting lines p) p a) o
+
+    solved : Solves (answer lines places p a b)
+    unfolding answer
+    solved = solved-from (starts (setting lines p) p a) (starts-ok lines places p a ha)
 
     -- and so of chains
     abbrev Says : Option (List ℕ) → Type 0
@@ -127,3 +136,13 @@ module _ (lines : List Line) (places : ℕ) (p : Pattern) (within : LinesWithin 
 
     pub answer-some : (c : List ℕ) → answer lines places p a b ≡ some c → First lines p a b c × (length c < searchSize lines places p)
     answer-some c e = subst Says e answer-says
+
+    -- ---- the starts may come in any order
+
+    pub answer-any : (X : List ℕ) → ((s : ℕ) → (s ∈ X) ↔ (s ∈ starts (setting lines p) p a)) → solveFrom X ≡ answer lines places p a b
+    unfolding answer
+    answer-any X e =
+        let S = setting lines p in
+        answer-unique (goal S b ∷ []) (succs S) (length lines) (searchSize lines places p) X (solveFrom X) (answer lines places p a b)
+        (solved-from X (λ s m. starts-ok lines places p a ha s (e s .0 m)))
+        (answer-members (goal S b ∷ []) (succs S) (length lines) (searchSize lines places p) X (starts S p a) e (answer lines places p a b) solved)

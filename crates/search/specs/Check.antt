@@ -1,5 +1,6 @@
 -- Whether a given chain is accepted, as a definition that computes: the set of states moved along the chain.
--- Claimed: `check-says` (it says yes exactly where the chain is accepted), for the checker's contract.
+-- Claimed: `check-says` (it says yes exactly where the chain is accepted), for the checker's contract, and `moved-members`
+-- (the states may come in any order), for the loaded tables.
 use mathlib.Core.Path.{_≡_, refl, sym}
 use mathlib.Core.Bool.{Bool, true, _&&_, and-eq-true-iff}
 use mathlib.Core.List.{List, [], _∷_, List·Memᴰ·head, List·Memᴰ·eq-of-singleton, Memᴰ·cast}
@@ -61,6 +62,18 @@ module _ (next : ℕ → ℕ → List ℕ) (m g : ℕ) where
   moved-complete [] X (s, k, r) = Memᴰ·cast (sym (List·Memᴰ·eq-of-singleton r)) k
   moved-complete (i ∷ c) X (s, k, (t, li, n, r)) =
       moved-complete c (nub (flat (λ s. next s i) X)) (t, nub-in _ t .1 (flat-in (λ s. next s i) X t .1 (s, k, n)), r)
+
+-- it goes by the members of X, in whatever order
+pub moved-members : (next : ℕ → ℕ → List ℕ) (c X Y : List ℕ) → ((s : ℕ) → (s ∈ X) ↔ (s ∈ Y)) → (s : ℕ) → (s ∈ moved next X c) ↔ (s ∈ moved next Y c)
+unfolding moved
+moved-members next [] X Y e s = e s
+moved-members next (i ∷ c) X Y e s = moved-members next c (go X) (go Y) (λ t. (over X Y (λ u. e u .0) t, over Y X (λ u. e u .1) t)) s
+  where
+    go : List ℕ → List ℕ
+    go Z = nub (flat (λ u. next u i) Z)
+
+    over : (Z W : List ℕ) → ((u : ℕ) → u ∈ Z → u ∈ W) → (t : ℕ) → t ∈ go Z → t ∈ go W
+    over Z W f t m = let (u, k, n) = flat-in (λ u. next u i) Z t .0 (nub-in _ t .0 m) in nub-in _ t .1 (flat-in (λ u. next u i) W t .1 (u, f u k, n))
 
 module _ (lines : List Line) (places : ℕ) (p : Pattern) (within : LinesWithin lines places) (a b : ℕ) (ha : a < places) where
   pub check-says : (c : List ℕ) → (check lines p a b c ≡ true) ↔ Accepted lines p a b c

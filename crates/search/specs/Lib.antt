@@ -20,4 +20,7 @@ pub mod Along
 pub mod Loaded
 pub mod Answer
 pub mod Check
+pub mod Same
+pub mod Front
+pub mod ReadBack
 pub mod Rows

@@ -1,13 +1,15 @@
 -- The order of chains, and that there is one answer.
--- Claimed: `lex-read` (to come no later means: equal, or lower at the first difference, in the words of `meaning`) and `answer-unique`.
+-- Claimed: `lex-read` (to come no later means: equal, or lower at the first difference, in the words of `meaning`), `answer-unique`,
+-- and `answer-members` (the first states may come in any order).
 use mathlib.Core.Path.{_≡_, refl, ap, ap₂}
-use mathlib.Core.Logic.{_⊎_, inl, inr}
+use mathlib.Core.Logic.{_↔_, _⊎_, inl, inr}
 use mathlib.Core.Option.{Option, none, some}
 use mathlib.Core.List.{List, [], _∷_}
 use Prim.Native.Nat.{ℕ, _<_}
 use native.Mathlib.Omega.{arith}
 use lib.ListN.{length}
 use Rattle.meaning.specs.Chain.{LowerAtFirstDifference}
+use Rattle.automaton.specs.Listed.{_∈_}
 use Rattle.search.specs.Plain.{Lex, Answer}
 
 -- ---- the order
@@ -48,3 +50,9 @@ answer-unique goals succs m N S (some c) (some c′) h k = ap {B = Option (List 
     go (inl a) (inr b) = absurd (omega (arith, b .0))
     go (inr a) (inl b) = absurd (omega (arith, a .0))
     go (inr a) (inr b) = lex-antisym c c′ (a .1) (b .1)
+
+-- and it goes by the members of the first states, in whatever order
+pub answer-members : (goals : List ℕ) (succs : ℕ → ℕ → List ℕ) (m N : ℕ) (X Y : List ℕ) → ((s : ℕ) → (s ∈ X) ↔ (s ∈ Y)) → (o : Option (List ℕ))
+    → Answer goals succs m N Y o → Answer goals succs m N X o
+answer-members goals succs m N X Y e none h = λ s c i r. h s c (e s .0 i) r
+answer-members goals succs m N X Y e (some c) (short, (s, i, r), least) = (short, (s, e s .1 i, r), λ s′ c′ j r′. least s′ c′ (e s′ .0 j) r′)

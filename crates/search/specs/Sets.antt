@@ -34,6 +34,15 @@ in-memb t (x ∷ xs) h = go (eqb t x) refl (in-memb t xs)
     go true e ih = rw (e, memb)
     go false e ih = rw (e, memb) (⊎-elim (λ p. absurd (eqb-false t x e p)) (λ n. ih n) (List·Memᴰ·cases-cons h))
 
+pub memb-same : (t : ℕ) (l k : List ℕ) → (t ∈ l) ↔ (t ∈ k) → memb t l ≡ memb t k
+memb-same t l k e = go (memb t l) (memb t k) refl refl
+  where
+    go : (a b : Bool) → memb t l ≡ a → memb t k ≡ b → a ≡ b
+    go true true p q = refl
+    go true false p q = absurd (false≢true (sym q ∙ in-memb t k (e .0 (memb-in t l p))))
+    go false true p q = absurd (false≢true (sym p ∙ in-memb t l (e .1 (memb-in t k q))))
+    go false false p q = refl
+
 -- ---- new states, each once
 
 -- the new states of a list are those that are not in f

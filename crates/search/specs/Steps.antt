@@ -78,13 +78,16 @@ size S places = places * suc (S .done) * stacks S
 
 module _ (S : Setting) (places : ℕ) (h : Sound S places) where
   -- no position's stack is deeper than the deepest
+  pub shallow : (k : ℕ) → S .node k .depth ≤ S .deepest
+  shallow k = go (S .node k .push) (h .shape .depth k)
+    where
+      go : (b : Bool) → deeper b (S .node k .depth) ≤ S .deepest → S .node k .depth ≤ S .deepest
+      go true l = omega arith
+      go false l = l
+
   pub fits : (k v : ℕ) → v < S .radix ^ S .node k .depth → v < stacks S
   unfolding stacks
-  fits k v l = lt-of-lt-of-le l (pow-le-pow-right (h .radix-pos) (shallow (S .node k .push) (h .shape .depth k)))
-    where
-      shallow : (b : Bool) → deeper b (S .node k .depth) ≤ S .deepest → S .node k .depth ≤ S .deepest
-      shallow true l = omega arith
-      shallow false l = l
+  fits k v l = lt-of-lt-of-le l (pow-le-pow-right (h .radix-pos) (shallow k))
 
   pub ok-low : (s : ℕ) → Ok S places s → s < size S places
   unfolding state

@@ -30,7 +30,7 @@ number-requires : tie.Need-number-requires
 number-requires c κs = search needs
 
 returns : tie.Need-returns
-returns c = 
+returns c =
     let a = c .before .before .before .before .before .before .args in
     let t = c .before .enum-told .given .1 in
     let e = both-first (a .day .now) (a .pattern .now) _ (reading-refused (readRecord (a .day .now)) _ (sym t ∙ c .before .before .before .read-record .ensures)) in
@@ -60,7 +60,7 @@ passes : (c : tie.After-known-told) → (day : Day) × (readRecord (rec c) ≡ p
 passes c = reading-passed (readRecord (rec c)) _ _ (sym (c .before .whole .given .1) ∙ c .before .before .before .read-record .ensures)
 
 returns-2 : tie.Need-returns-2
-returns-2 c = 
+returns-2 c =
     let b = c .before .before .before .before in
     let (day, e, places, lines) = passes b in
     let t = c .before .enum-told2 .given .1 in
@@ -68,16 +68,17 @@ returns-2 c =
     (ap Both.Refused (c .pattern-number .ensures ∙ ap patternNumber t) ∙ sym (ap bothTold (both-second (rec b) (pat b) day e _ f)), tt)
 
 returns-3 : tie.Need-returns-3
-returns-3 c = 
+returns-3 c =
     let b = c .before .before .before .before in
     let (day, e, places, lines) = passes b in
     let t = c .before .tree .given .1 in
     let said = c .before .before .before .read-pattern .ensures in
     let (p, f, n, k) = tree-passed (readPattern noneGiven (pat b)) _ _ (ap patternReply (sym t) ∙ said .0) in
     let small = subst Small t (said .1) in
-    let few = places-few (rec b) day e in
-    (cc (places, lines, n, k, ap bothTold (both-passed (rec b) (pat b) day e p f)),
-    (omega (arith, places, few .0), omega (arith, places, few .1), omega (arith, lines, lines-few (rec b) day e), small .0, small .1))
+    let few = places-few (rec b) day e in (
+      cc (places, lines, n, k, ap bothTold (both-passed (rec b) (pat b) day e p f)),
+      (omega (arith, places, few .0), omega (arith, places, few .1), omega (arith, lines, lines-few (rec b) day e), small .0, small .1),
+    )
 
 pub ask-both-spec : {M : Type 1} → statement M
 ask-both-spec =

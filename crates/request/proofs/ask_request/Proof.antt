@@ -34,7 +34,7 @@ number-requires : tie.Need-number-requires
 number-requires c κs = search needs
 
 returns : tie.Need-returns
-returns c = 
+returns c =
     let a = c .before .before .before .before .before .before .args in
     let t = c .before .enum-told .given .1 in
     let e = both-refused (askBoth (a .day .now) (a .pattern .now)) _ (sym t ∙ c .before .before .before .ask-both .ensures .0) in
@@ -83,19 +83,19 @@ to-below : (c : tie.Else2) → to (c .before .before) < passes (c .before .befor
 to-below c = omega (arith, passes (c .before .before) .places-are, c .if2 .left)
 
 returns-2 : tie.Need-returns-2
-returns-2 c = 
+returns-2 c =
     let b = c .before in
     let h = passes b in
     rw (asked-from (rec b) (pat b) (from b) (to b) (area b) (h .asked) (h .both) (omega (arith, h .places-are, c .if1 .taken))) refl
 
 returns-3 : tie.Need-returns-3
-returns-3 c = 
+returns-3 c =
     let b = c .before .before in
     let h = passes b in
     rw (asked-to (rec b) (pat b) (from b) (to b) (area b) (h .asked) (h .both) (omega (arith, h .places-are, c .before .if1 .left)) (omega (arith, h .places-are, c .if2 .taken))) refl
 
 measure-requires : tie.Need-measure-requires
-measure-requires c κs = 
+measure-requires c κs =
     let b = c .before .before in
     let h = passes b in
     let s = small b in
@@ -108,7 +108,7 @@ enum-told-2 : tie.Need-enum-told-2
 enum-told-2 c = search needs
 
 returns-4 : tie.Need-returns-4
-returns-4 c = 
+returns-4 c =
     let d = c .before .before .before in
     let b = d .before .before in
     let h = passes b in
@@ -165,7 +165,7 @@ add-if3 : tie.Need-add-if3
 add-if3 c = omega (arith, fits c)
 
 returns-5 : tie.Need-returns-5
-returns-5 c = 
+returns-5 c =
     let d = c .before .before .before .before .before in
     let b = d .before .before in
     let h = passes b in
@@ -175,17 +175,18 @@ planned-requires : tie.Need-planned-requires
 planned-requires c κs = fitting (c .before)
 
 returns-6 : tie.Need-returns-6
-returns-6 c = 
+returns-6 c =
     let e = c .before .before in
     let d = e .before .before .before .before in
     let b = d .before .before in
     let h = passes b in
     let room : need (sizeOf (h .asked)) ≤ area b = omega (arith, whole e, c .before .if3 .left) in
-    rw (asked-all (rec b) (pat b) (from b) (to b) (area b) (h .asked) (h .both) (from-below d) (to-below d) (allowed e) room)
-    (c .planned .result,
-    refl,
-    planned-of (h .asked) _ _ _ _ _ _ (c .planned .result) (c .planned .ensures) (h .places-are) (h .lines-are) (h .commands-are) (h .keeps-are) (size-is e .1 ∙ ap (λ ls. length (boats ls)) (h .lines-of)) (whole e),
-    laid _ _ _ _ _ _ (area b) (c .planned .result) (fitting e) (c .planned .ensures) (omega (arith, c .before .if3 .left)))
+    rw (asked-all (rec b) (pat b) (from b) (to b) (area b) (h .asked) (h .both) (from-below d) (to-below d) (allowed e) room) (
+      c .planned .result,
+      refl,
+      planned-of (h .asked) _ _ _ _ _ _ (c .planned .result) (c .planned .ensures) (h .places-are) (h .lines-are) (h .commands-are) (h .keeps-are) (size-is e .1 ∙ ap (λ ls. length (boats ls)) (h .lines-of)) (whole e),
+      laid _ _ _ _ _ _ (area b) (c .planned .result) (fitting e) (c .planned .ensures) (omega (arith, c .before .if3 .left)),
+    )
 
 pub ask-request-spec : {M : Type 1} → statement M
 ask-request-spec =

@@ -33,7 +33,7 @@ loop-less : tie.Need-loop-less Inv-loop μ-loop
 loop-less c = search needs
 
 loop-again : tie.Need-loop-again Inv-loop μ-loop
-loop-again c = 
+loop-again c =
     let k : c .before .loop .i < length (c .before .before .args .work .now) = omega (arith, c .before .loop .inv .1, c .loop-test .taken) in
     (omega (arith, k), simp length-set (c .before .loop .inv .1), rw (c .before .loop .inv .2) (fill-more _ _ _ k))
 
@@ -41,7 +41,7 @@ same-length : tie.Need-same-length Inv-loop μ-loop
 same-length c = search needs
 
 returns : tie.Need-returns Inv-loop μ-loop
-returns c = 
+returns c =
     let e : c .before .loop .i ≡ length (c .before .before .args .work .now) = omega (arith, c .loop-test .left, c .before .loop .inv .0, c .before .loop .inv .1) in
     c .before .loop .inv .2 ∙ rw (e, drop-length, append-nil) refl
 

@@ -53,20 +53,22 @@ same-length : tie.Need-same-length
 same-length c = search needs
 
 returns : tie.Need-returns
-returns c = 
+returns c =
     let a = c .before .before .before .before .before in
     let lines = linesOf (a .args .day .now) in
-    let first = eq-eqb _ _ (sym (c .before .before .first-same .ensures) ∙ c .before .if1 .taken) in
-    (add-one _ ∙ (ap suc (a .pre .1) ∙ sym (boats-more lines (a .args .i) (a .pre .0) ∙ ap (λ t. cond t (suc (length (boats (take (a .args .i) lines)))) (length (boats (take (a .args .i) lines)))) first)),
-    simp first (ap (set _ _) (c .boat-at .ensures .is)))
+    let first = eq-eqb _ _ (sym (c .before .before .first-same .ensures) ∙ c .before .if1 .taken) in (
+      add-one _ ∙ (ap suc (a .pre .1) ∙ sym (boats-more lines (a .args .i) (a .pre .0) ∙ ap (λ t. cond t (suc (length (boats (take (a .args .i) lines)))) (length (boats (take (a .args .i) lines)))) first)),
+      simp first (ap (set (a .args .part .now) (a .args .count)) (c .boat-at .ensures .is)),
+    )
 
 returns-2 : tie.Need-returns-2
-returns-2 c = 
+returns-2 c =
     let a = c .before .before .before .before in
     let lines = linesOf (a .args .day .now) in
-    let later = ne-eqb _ _ (λ e. c .if1 .left (c .before .first-same .ensures ∙ e)) in
-    (a .pre .1 ∙ sym (boats-more lines (a .args .i) (a .pre .0) ∙ ap (λ t. cond t (suc (length (boats (take (a .args .i) lines)))) (length (boats (take (a .args .i) lines)))) later),
-    simp later)
+    let later = ne-eqb _ _ (λ e. c .if1 .left (c .before .first-same .ensures ∙ e)) in (
+      a .pre .1 ∙ sym (boats-more lines (a .args .i) (a .pre .0) ∙ ap (λ t. cond t (suc (length (boats (take (a .args .i) lines)))) (length (boats (take (a .args .i) lines)))) later),
+      simp later,
+    )
 
 pub load-boat-spec : {M : Type 1} → statement M
 load-boat-spec =

@@ -61,13 +61,14 @@ same-length : tie.Need-same-length
 same-length c = search needs
 
 returns : tie.Need-returns
-returns c = 
+returns c =
     let b = c .before .before in
     let i = b .before .before .args .i in
     let first : firstSame (lines b) i ≡ i = sym (c .before .first-same .ensures) ∙ c .if1 .taken in
-    let num = numbering b in
-    (add-one _ ∙ (ap suc (num .count-is) ∙ sym (boats-more (lines b) i (num .one-more) ∙ ap (λ t. cond t (suc (length (boats (take i (lines b))))) (length (boats (take i (lines b))))) (eq-eqb _ _ first))),
-    ap (set _ i) (add-one _ ∙ (ap suc (num .count-is) ∙ sym (code-new (lines b) i (num .one-more) first))))
+    let num = numbering b in (
+      add-one _ ∙ (ap suc (num .count-is) ∙ sym (boats-more (lines b) i (num .one-more) ∙ ap (λ t. cond t (suc (length (boats (take i (lines b))))) (length (boats (take i (lines b))))) (eq-eqb _ _ first))),
+      ap (set (part b) i) (add-one _ ∙ (ap suc (num .count-is) ∙ sym (code-new (lines b) i (num .one-more) first))),
+    )
 
 mul-part-2 : tie.Need-mul-part-2
 mul-part-2 c = omega (arith, small (c .before), numbering (c .before .before) .few)
@@ -85,7 +86,7 @@ same-length-2 : tie.Need-same-length-2
 same-length-2 c = search needs
 
 returns-2 : tie.Need-returns-2
-returns-2 c = 
+returns-2 c =
     let d = c .before .before in
     let b = d .before in
     let i = b .before .before .args .i in
@@ -94,11 +95,12 @@ returns-2 c =
     let told = d .first-same .ensures in
     let same : getD (part b) (d .first-same .result) 0 ≡ getD (codes (lines b)) i 0 =
     sym (getD-take i (part b) (d .first-same .result) 0 less)
-        ∙ (ap (λ l. getD l (d .first-same .result) 0) (num .so-far)
-        ∙ (getD-take i (codes (lines b)) (d .first-same .result) 0 less
-        ∙ (ap (λ n. getD (codes (lines b)) n 0) told ∙ sym (code-earlier (lines b) i (num .one-more) (omega (arith, less, told)))))) in
-    (num .count-is ∙ sym (boats-more (lines b) i (num .one-more) ∙ ap (λ t. cond t (suc (length (boats (take i (lines b))))) (length (boats (take i (lines b))))) (ne-eqb _ _ (λ e. c .before .if1 .left (told ∙ e)))),
-    ap (set (part b) i) same)
+    ∙ (ap (λ l. getD l (d .first-same .result) 0) (num .so-far)
+    ∙ (getD-take i (codes (lines b)) (d .first-same .result) 0 less
+    ∙ (ap (λ n. getD (codes (lines b)) n 0) told ∙ sym (code-earlier (lines b) i (num .one-more) (omega (arith, less, told)))))) in (
+      num .count-is ∙ sym (boats-more (lines b) i (num .one-more) ∙ ap (λ t. cond t (suc (length (boats (take i (lines b))))) (length (boats (take i (lines b))))) (ne-eqb _ _ (λ e. c .before .if1 .left (told ∙ e)))),
+      ap (set (part b) i) same,
+    )
 
 pub load-code-spec : {M : Type 1} → statement M
 load-code-spec =

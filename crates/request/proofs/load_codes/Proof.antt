@@ -30,7 +30,7 @@ unfolding boatsAfter
 loop-holds c = (omega arith, refl, refl, c .before .before .pre, refl)
 
 load-code-requires : tie.Need-load-code-requires Inv-loop μ-loop
-load-code-requires c κs = 
+load-code-requires c κs =
     let b = c .before .before in
     let inv = b .loop .inv in
     let day = b .before .before .before .args .day .now in
@@ -49,23 +49,24 @@ loop-less : tie.Need-loop-less Inv-loop μ-loop
 loop-less c = omega (arith, c .before .before .before .before .loop-test .taken, c .before .before .before .before .before .loop .inv .1)
 
 loop-again : tie.Need-loop-again Inv-loop μ-loop
-loop-again c = 
+loop-again c =
     let b = c .before .before .before .before .before in
     let inv = b .loop .inv in
     let lines = linesOf (b .before .before .before .args .day .now) in
     let here : b .loop .i < length (b .before .before .before .args .part .now) = omega (arith, inv .1, c .before .before .before .before .loop-test .taken) in
-    let done = c .before .before .load-code .ensures in
-    (omega (arith, here),
-    ap length (done .1) ∙ (length-set _ _ _ ∙ inv .1),
-    done .1 ∙ rw (inv .2) (fill-next (codes lines) _ (b .loop .i) (omega (arith, here, inv .3, codes-length lines)) here),
-    inv .3,
-    done .0 ∙ ap (λ n. length (boats (take n lines))) (sym (add-one (b .loop .i))))
+    let done = c .before .before .load-code .ensures in (
+      omega (arith, here),
+      c .before .before .load-code .kept .1 .1 .1 .0 ∙ inv .1,
+      done .1 ∙ rw (inv .2) (fill-next (codes lines) _ (b .loop .i) (omega (arith, here, inv .3, codes-length lines)) here),
+      inv .3,
+      done .0 ∙ ap (λ n. length (boats (take n lines))) (sym (add-one (b .loop .i))),
+    )
 
 same-length : tie.Need-same-length Inv-loop μ-loop
 same-length c = c .before .loop .inv .1
 
 returns : tie.Need-returns Inv-loop μ-loop
-returns c = 
+returns c =
     let b = c .before in
     let lines = linesOf (b .before .before .before .args .day .now) in
     let inv = b .loop .inv in

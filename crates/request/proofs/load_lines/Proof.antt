@@ -39,22 +39,23 @@ loop-less : tie.Need-loop-less Inv-loop μ-loop
 loop-less c = omega (arith, c .before .loop-test .taken, c .before .before .loop .inv .1)
 
 loop-again : tie.Need-loop-again Inv-loop μ-loop
-loop-again c = 
+loop-again c =
     let b = c .before .before in
     let lines = linesOf (b .before .before .before .args .day .now) in
     let inv = b .loop .inv in
     let here : b .loop .i < length (b .before .before .before .args .part .now) = omega (arith, inv .1, c .before .loop-test .taken) in
-    let word : c .line-word .result ≡ getD (map lineWord lines) (b .loop .i) 0 = c .line-word .ensures ∙ sym (map-at lineWord lines (b .loop .i) (omega (arith, here, inv .3))) in
-    (omega (arith, here),
-    simp length-set (inv .1),
-    rw (inv .2, word) (fill-next (map lineWord lines) _ (b .loop .i) (omega (arith, here, inv .3, length-map lines lineWord)) here),
-    inv .3)
+    let word : c .line-word .result ≡ getD (map lineWord lines) (b .loop .i) 0 = c .line-word .ensures ∙ sym (map-at lineWord lines (b .loop .i) (omega (arith, here, inv .3))) in (
+      omega (arith, here),
+      simp length-set (inv .1),
+      rw (inv .2, word) (fill-next (map lineWord lines) _ (b .loop .i) (omega (arith, here, inv .3, length-map lines lineWord)) here),
+      inv .3,
+    )
 
 same-length : tie.Need-same-length Inv-loop μ-loop
 same-length c = c .before .loop .inv .1
 
 returns : tie.Need-returns Inv-loop μ-loop
-returns c = 
+returns c =
     let b = c .before in
     let lines = linesOf (b .before .before .before .args .day .now) in
     let inv = b .loop .inv in

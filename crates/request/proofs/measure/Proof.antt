@@ -22,13 +22,13 @@ enum-told : tie.Need-enum-told
 enum-told c = search needs
 
 returns : tie.Need-returns
-returns c = 
+returns c =
     let b = c .before .before .before in
     let a = b .before .before .args in
     sizing-above (linesOf (a .day .now)) (a .places) (a .commands) (a .keeps) _ (b .count-boats .ensures .0) (sym (c .enum-told .given .1) ∙ c .before .before .size-of .ensures)
 
 returns-2 : tie.Need-returns-2
-returns-2 c = 
+returns-2 c =
     let b = c .before .before .before .before in
     let a = b .before .before .args in
     sizing-size (linesOf (a .day .now)) (a .places) (a .commands) (a .keeps) _ (b .count-boats .ensures .0) _ (sym (c .before .sizing .given .1) ∙ c .before .before .before .size-of .ensures)

@@ -50,7 +50,7 @@ add-t12 : tie.Need-add-t12
 add-t12 c = omega (arith, kept c, c .before .pre .few-lines)
 
 returns : tie.Need-returns
-returns c = 
+returns c =
     let a = c .before .args in
     let f = c .before .pre in
     record {

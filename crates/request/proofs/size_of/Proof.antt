@@ -30,7 +30,7 @@ mul-size : tie.Need-mul-size Inv-loop μ-loop
 mul-size c = omega (arith, few c)
 
 loop-holds : tie.Need-loop-holds Inv-loop μ-loop
-loop-holds c = 
+loop-holds c =
     let a = c .args in
     (omega arith, ap (λ (n : ℕ). a .places * n) (add-one (a .commands)) ∙ size-start (a .places * suc (a .commands)) (a .radix), omega (arith, few c))
 
@@ -38,7 +38,7 @@ mul-size-2 : tie.Need-mul-size-2 Inv-loop μ-loop
 mul-size-2 c = omega (arith, product c)
 
 returns : tie.Need-returns Inv-loop μ-loop
-returns c = 
+returns c =
     let b = c .before .before in
     let a = b .before .args in
     let now : b .loop .size * a .radix ≡ a .places * suc (a .commands) * a .radix ^ (b .loop .k + 1) = ap (λ (n : ℕ). n * a .radix) (b .loop .inv .1) ∙ size-step (a .places * suc (a .commands)) (a .radix) (b .loop .k) in
@@ -51,13 +51,13 @@ loop-less : tie.Need-loop-less Inv-loop μ-loop
 loop-less c = search needs
 
 loop-again : tie.Need-loop-again Inv-loop μ-loop
-loop-again c = 
+loop-again c =
     let b = c .before .before in
     let a = b .before .args in
     (omega (arith, c .before .loop-test .taken), ap (λ (n : ℕ). n * a .radix) (b .loop .inv .1) ∙ size-step (a .places * suc (a .commands)) (a .radix) (b .loop .k), c .if1 .left)
 
 returns-2 : tie.Need-returns-2 Inv-loop μ-loop
-returns-2 c = 
+returns-2 c =
     let b = c .before in
     let a = b .before .args in
     let all : b .loop .k ≡ a .keeps = omega (arith, c .loop-test .left, b .loop .inv .0) in

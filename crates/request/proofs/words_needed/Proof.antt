@@ -33,7 +33,7 @@ number-requires : tie.Need-number-requires
 number-requires c κs = search needs
 
 returns : tie.Need-returns
-returns c = 
+returns c =
     let a = c .before .before .before .before .before .before .args in
     let t = c .before .enum-told .given .1 in
     let e = both-refused (askBoth (a .day .now) (a .pattern .now)) _ (sym t ∙ c .before .before .before .ask-both .ensures .0) in
@@ -66,7 +66,7 @@ small : (c : tie.After-known-told) → (0 < places c) × (places c ≤ 1024) × 
 small c = subst Small (c .before .both .given .1) (c .before .before .before .ask-both .ensures .1)
 
 measure-requires : tie.Need-measure-requires
-measure-requires c κs = 
+measure-requires c κs =
     let h = passes c in
     let s = small c in
     (h .lines-are ∙ sym (ap length (h .lines-of)), s .1, s .3)
@@ -78,7 +78,7 @@ enum-told-2 : tie.Need-enum-told-2
 enum-told-2 c = search needs
 
 returns-2 : tie.Need-returns-2
-returns-2 c = 
+returns-2 c =
     let b = c .before .before .before in
     let h = passes b in
     let no = above _ _ _ _ (sym (c .enum-told2 .given .1) ∙ c .before .before .measure .ensures) in
@@ -100,7 +100,7 @@ add-t12 : tie.Need-add-t12
 add-t12 c = omega (arith, fits c)
 
 returns-3 : tie.Need-returns-3
-returns-3 c = 
+returns-3 c =
     let b = c .before .before .before .before in
     let h = passes b in
     let yes = size-is c in

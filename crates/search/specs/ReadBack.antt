@@ -1,0 +1,239 @@
+-- The loaded words, read back, say the request: `loaded-same`, for a plan with the request's numbers and tables loaded of its lines.
+-- So what code finds that searches by them is `answer` and `check`: `loaded-answer`, `loaded-check`, and for counting loops `loaded-finish`.
+-- `planned-room` and `loaded-low` are what `front-same` asks for.
+use mathlib.Core.Path.{_≡_, refl, sym, ap, _∙_, subst}
+use mathlib.Core.Bool.{Bool, true, false, cond, _&&_}
+use mathlib.Core.List.{List, [], _∷_, _++_, map, Memᴰ·map, Memᴰ·of-map}
+use mathlib.Core.Logic.{_↔_}
+use Prim.Native.Nat.{ℕ, zero, suc, _+_, _*_, _^_, _/_, _%_, _<_, _≤_}
+use native.Mathlib.Omega.{arith}
+use lib.ListN.{length, getD, length-map, List·getD-append, List·getD-map}
+use lib.Seq.{getD-append-add, take-length}
+use borrow.Author.Tests.{ne-eqb}
+use Rattle.meaning.specs.Record.{Boat, Line, boats}
+use Rattle.meaning.specs.Writing.{noLine, lineAt}
+use Rattle.meaning.specs.Pattern.{Pattern, Rule, commands, keeps}
+use Rattle.meaning.specs.Language.{compared}
+use Rattle.meaning.specs.Request.{searchSize}
+use Rattle.record.specs.Boats.{word, boats-few}
+use Rattle.record.specs.Fit.{Fit}
+use Rattle.automaton.specs.Listed.{_∈_, getD-in}
+use Rattle.automaton.specs.Automaton.{against, nodes, nodeAt, start}
+use Rattle.automaton.specs.Shape.{Reads}
+use Rattle.automaton.specs.Columns.{Columns, Compiled, members}
+use Rattle.request.specs.Codes.{codes, numbered, code-low, codes-length, boats-of}
+use Rattle.request.specs.Layout.{Laid, lineWord, fromIn, toIn, kindIn, boatWords, loadedOf}
+use Rattle.request.specs.declared.Plan.{Plan}
+use Rattle.search.specs.Plain.{memb, solve}
+use Rattle.search.specs.Sets.{memb-same}
+use Rattle.search.specs.Loops.{loop}
+use Rattle.search.specs.Table.{Search, push}
+use Rattle.search.specs.PhaseOne.{begun, advanceBy}
+use Rattle.search.specs.PhaseTwo.{put}
+use Rattle.search.specs.Phases.{finish, finish-is}
+use Rattle.search.specs.Product.{Setting, state, passes, succs, preds}
+use Rattle.search.specs.Along.{goal, starting}
+use Rattle.search.specs.Answer.{setting, starts, answer, starts-ok, goal-ok, LinesWithin, sound, below-size, answer-any}
+use Rattle.search.specs.Check.{exist, moved, moved-members, check}
+use Rattle.search.specs.Loaded.{codeAt, wordAt, lineIn, linesIn, boatIn, boatWordAt, settingIn}
+use Rattle.search.specs.Steps.{shallow, Ok, next-ok, preds-ok}
+use Rattle.search.specs.Same.{Same, passes-same, same-succs, same-preds, same-goal, same-starting, same-solve, same-moved}
+use Rattle.search.specs.Front.{lines-many, line-at, tables, table-at}
+
+-- ---- words and what they say
+
+module _ (l : Line) (to-low : l .to < 1024) (kind-low : l .kind ≤ 15) where
+  line-from : fromIn (lineWord l) ≡ l .from
+  line-from = omega arith
+
+  line-to : toIn (lineWord l) ≡ l .to
+  line-to = omega arith
+
+  line-kind : kindIn (lineWord l) ≡ l .kind
+  line-kind = omega arith
+
+boat-back : (b : Boat) → b .sail < 16777216 → boatIn (word b) ≡ b
+boat-back b low =
+    let c : word b / 16777216 ≡ b .class = omega arith in
+    let s : word b % 16777216 ≡ b .sail = omega arith in
+    λ t. record { class = c t; sail = s t }
+
+-- ---- what a request's plan and tables are
+
+-- the plan's numbers are those of the lines, their places and the pattern
+pub record Planned (lines : List Line) (places : ℕ) (p : Pattern) (plan : Plan) : Type 0 where
+  pub places-are : plan .places ≡ places
+  pub lines-are : plan .lines ≡ length lines
+  pub done-is : plan .done ≡ commands p
+  pub keeps-are : plan .keeps ≡ keeps p
+  pub radix-is : plan .radix ≡ suc (length (boats lines))
+  pub boats-are : plan .boats ≡ length (boatWords (keeps p) lines)
+
+-- ---- of a request
+
+-- a test asks for a boat only where one is kept
+some-kept : (lines : List Line) (places : ℕ) (p : Pattern) → LinesWithin lines places → (c : ℕ) (r : Rule) (j : ℕ) → nodeAt (nodes p []) c .test ≡ against r j → 0 < keeps p
+unfolding setting
+some-kept lines places p within c r j e =
+    let s = sound lines places p within in
+    let level : j < nodeAt (nodes p []) c .depth = subst (λ n. Reads n (nodeAt (nodes p []) c .depth)) e (s .shape .reads c) in
+    omega (arith, level, shallow (setting lines p) places s c)
+
+-- the positions of the mask, at place a with an empty stack, are the starts, in some order
+pub starts-members : (S : Setting) (p : Pattern) (cols : Columns) (begin : ℕ) → Compiled p cols begin → (a s : ℕ) → (s ∈ starting S a (members begin)) ↔ (s ∈ starts S p a)
+unfolding starts
+starts-members S p cols begin compiled a s = (over (members begin) (start p) (λ k. compiled .start-is k .0), over (start p) (members begin) (λ k. compiled .start-is k .1))
+  where
+    over : (K K′ : List ℕ) → ((k : ℕ) → k ∈ K → k ∈ K′) → s ∈ starting S a K → s ∈ starting S a K′
+    over K K′ f m =
+        let at : ℕ → ℕ = λ k. state S a k 0 in
+        let (k, mk, e) = Memᴰ·of-map at K m in
+        subst (_∈ map at K′) e (Memᴰ·map at (f k mk))
+
+module _ (lines : List Line) (places : ℕ) (p : Pattern) (plan : Plan) (area : ℕ) (planned : Planned lines places p plan) (laid : Laid plan area) where
+  pub size-asked : plan .size ≡ searchSize lines places p
+  unfolding searchSize
+  size-asked =
+      let positions : plan .done + 1 ≡ suc (commands p) = omega (arith, planned .done-is) in
+      let stacks : plan .stacks ≡ suc (length (boats lines)) ^ keeps p = laid .stacks-is ∙ (λ t. planned .radix-is t ^ planned .keeps-are t) in
+      laid .size-is ∙ (λ t. planned .places-are t * positions t * stacks t)
+
+  -- so many boats would end before `base`
+  pub planned-room : plan .first + plan .radix ≤ suc (plan .base)
+  planned-room =
+      let few : length (boats lines) ≤ length lines = subst (λ ls. length (boats ls) ≤ length lines) (take-length lines) (boats-few lines (length lines) (omega arith)) in
+      omega (arith, planned .radix-is, planned .lines-are, laid .codes-at, laid .words-at, laid .base-at)
+
+  -- ---- the words of its tables
+
+  module _ (g : List ℕ) (loaded : tables plan g ≡ loadedOf (keeps p) lines) where
+    abbrev rest : List ℕ
+    rest = codes lines ++ map lineWord lines
+
+    -- word j of the tables
+    word-at : (n j : ℕ) → n ≡ plan .first + j → n < plan .base → getD g n 0 ≡ getD (loadedOf (keeps p) lines) j 0
+    word-at n j e less = ap (λ k. getD g k 0) e ∙ (table-at plan g j (omega arith) ∙ ap (λ l. getD l j 0) loaded)
+
+    -- word i after the boats
+    rest-at : (n i : ℕ) → n ≡ plan .codes + i → n < plan .base → getD g n 0 ≡ getD rest i 0
+    rest-at n i e less =
+        word-at n (length (boatWords (keeps p) lines) + i) (omega (arith, laid .codes-at, planned .boats-are)) less
+        ∙ getD-append-add (boatWords (keeps p) lines) rest i 0
+
+    code-back : (i : ℕ) → i < length lines → codeAt plan g i ≡ getD (codes lines) i 0
+    code-back i less =
+        rest-at (plan .codes + i) i refl (omega (arith, laid .words-at, laid .base-at, planned .lines-are))
+        ∙ List·getD-append (codes lines) (map lineWord lines) 0 i (omega (arith, codes-length lines))
+
+    pub loaded-low : (i : ℕ) → i < plan .lines → codeAt plan g i < plan .radix
+    loaded-low i less = let li : i < length lines = omega (arith, planned .lines-are) in omega (arith, code-back i li, code-low lines i li, planned .radix-is)
+
+    line-back : (i : ℕ) → i < length lines → lineAt (linesIn plan g 0 (plan .lines)) i ≡ lineIn (lineWord (lineAt lines i))
+    line-back i less =
+        let stands : wordAt plan g i ≡ lineWord (lineAt lines i) =
+        rest-at (plan .words + i) (length (codes lines) + i) (omega (arith, laid .words-at, planned .lines-are, codes-length lines)) (omega (arith, laid .base-at, planned .lines-are))
+        ∙ (getD-append-add (codes lines) (map lineWord lines) i 0 ∙ List·getD-map lineWord lines i noLine) in
+        line-at plan g i (omega (arith, planned .lines-are)) ∙ ap lineIn stands
+
+    module _ (fit : Fit lines places) where
+      -- where boats are kept: the boat of every number
+      boat-at : 0 < keeps p → (x : ℕ) → x < suc (length (boats lines)) → boatIn (boatWordAt plan g x) ≡ numbered (boats lines) x
+      boat-at some zero less = refl
+      boat-at some (suc x) less =
+          let kept : boatWords (keeps p) lines ≡ map word (boats lines) = ap (λ b. cond b [] (map word (boats lines))) (ne-eqb (keeps p) 0 (omega arith)) in
+          let many : length (boatWords (keeps p) lines) ≡ length (boats lines) = ap length kept ∙ length-map (boats lines) word in
+          let b = getD (boats lines) x (noLine .boat) in
+          let (i, li, its) = boats-of lines b (getD-in (boats lines) x (noLine .boat) (omega arith)) in
+          let stands : boatWordAt plan g (suc x) ≡ word b =
+          word-at (plan .first + x) x refl (omega (arith, laid .codes-at, laid .words-at, laid .base-at, planned .boats-are))
+          ∙ (List·getD-append (boatWords (keeps p) lines) rest 0 x (omega arith)
+          ∙ (ap (λ l. getD l x 0) kept ∙ List·getD-map word (boats lines) x (noLine .boat))) in
+          ap boatIn stands ∙ boat-back b (omega (arith, fit .boat i li .1, ap (λ (b : Boat). b .sail) its))
+
+      -- ---- the setting that they say
+
+      module _ (cols : Columns) (begin : ℕ) (compiled : Compiled p cols begin) where
+        pub loaded-same : Same (settingIn cols plan g) (setting lines p) (length lines)
+        unfolding settingIn setting
+        loaded-same = record {
+          done = planned .done-is;
+          radix = planned .radix-is;
+          deepest = planned .keeps-are;
+          many = lines-many plan g 0 (plan .lines) ∙ planned .lines-are;
+          as-many = refl;
+          from = λ i less. ap (λ (l : Line). l .from) (line-back i less) ∙ line-from (lineAt lines i) (to-low i less) (fit .kind i less .1);
+          kind = λ i less. ap (λ (l : Line). l .kind) (line-back i less) ∙ line-kind (lineAt lines i) (to-low i less) (fit .kind i less .1);
+          to = λ i less. ap (λ (l : Line). l .to) (line-back i less) ∙ line-to (lineAt lines i) (to-low i less) (fit .kind i less .1);
+          code = code-back;
+          node = compiled .nodes-are;
+          pass = λ c v i hc less.
+              (λ t. passes (settingIn cols plan g) (compiled .nodes-are c hc .test t) v (code-back i less t))
+              ∙ passes-same (settingIn cols plan g) (setting lines p) (planned .radix-is) (omega arith) (nodeAt (nodes p []) c .test)
+              (λ r j e x y hx hy t. let kept = some-kept lines places p (fit .within) c r j e in compared (boat-at kept x hx t) (boat-at kept y hy t))
+              v (getD (codes lines) i 0) (code-low lines i less);
+        }
+          where
+            to-low : (i : ℕ) → i < length lines → lineAt lines i .to < 1024
+            to-low i less = omega (arith, fit .few-places, fit .within i less .1)
+
+        -- ---- its states
+
+        abbrev In : Setting
+        In = settingIn cols plan g
+
+        -- the valid states, and that steps by the tables keep to them
+        abbrev pub Valid : ℕ → Type 0
+        Valid s = Ok (setting lines p) places s
+
+        pub valid-low : (s : ℕ) → Valid s → s < plan .size
+        valid-low s o = subst (s <_) (sym size-asked) (below-size lines places p (fit .within) s o)
+
+        pub valid-next : (s i t : ℕ) → Valid s → i < plan .lines → t ∈ succs In s i → Valid t
+        unfolding setting
+        valid-next s i t o less m =
+            let li : i < length lines = omega (arith, planned .lines-are) in
+            next-ok (setting lines p) places (sound lines places p (fit .within)) s i t o li (subst (t ∈_) (same-succs loaded-same s i li) m)
+
+        pub valid-preds : (s t : ℕ) → Valid t → s ∈ preds In t → Valid s
+        valid-preds s t o m = preds-ok (setting lines p) places (sound lines places p (fit .within)) s t o (subst (s ∈_) (same-preds loaded-same t) m)
+
+        pub valid-goal : (b : ℕ) → b < places → (s : ℕ) → s ∈ (goal In b ∷ []) → Valid s
+        valid-goal b hb s m = goal-ok lines places p b hb s (subst (λ x. s ∈ (x ∷ [])) (same-goal loaded-same b) m)
+
+        pub valid-starts : (a : ℕ) → a < places → (s : ℕ) → s ∈ starting In a (members begin) → Valid s
+        valid-starts a ha s m =
+            starts-ok lines places p a ha s (starts-members (setting lines p) p cols begin compiled a s .0 (subst (s ∈_) (same-starting loaded-same a (members begin)) m))
+
+        -- ---- the search, and the walk along a chain
+
+        module _ (a b : ℕ) where
+          pub loaded-answer : a < places → b < places
+              → solve (plan .size) (goal In b ∷ []) (preds In) (succs In) (plan .lines) (starting In a (members begin)) ≡ answer lines places p a b
+          loaded-answer ha hb =
+              (λ t. solve (size-asked t) (goal In b ∷ []) (preds In) (succs In) (planned .lines-are t) (starting In a (members begin)))
+              ∙ (same-solve loaded-same (searchSize lines places p) a b (members begin)
+              ∙ answer-any lines places p (fit .within) a b ha hb _ (starts-members (setting lines p) p cols begin compiled a))
+
+          pub loaded-check : (c : List ℕ) → (exist (plan .lines) c && memb (goal In b) (moved (succs In) (starting In a (members begin)) c)) ≡ check lines p a b c
+          unfolding check
+          loaded-check c = ap (λ m. exist m c && memb (goal In b) (moved (succs In) (starting In a (members begin)) c)) (planned .lines-are) ∙ go (exist (length lines) c) refl
+            where
+              T : Setting
+              T = setting lines p
+
+              go : (t : Bool) → exist (length lines) c ≡ t
+                  → (t && memb (goal In b) (moved (succs In) (starting In a (members begin)) c)) ≡ (t && memb (goal T b) (moved (succs T) (starts T p a) c))
+              go false e = refl
+              go true e =
+                  (λ t. memb (same-goal loaded-same b t) (same-moved loaded-same a (members begin) c e t))
+                  ∙ memb-same (goal T b) _ _ (moved-members (succs T) c _ _ (starts-members T p cols begin compiled a) (goal T b))
+
+          -- both phases as counting loops, whose bodies go by the tables
+          pub loaded-finish : (expand : ℕ → ℕ → Search → Search) → ((w t : ℕ) (st : Search) → loop (push w) (preds In t) st ≡ expand w t st)
+              → (fromState : List ℕ → ℕ → ℕ → ℕ → Search → Search) → ((D : List ℕ) (w l s : ℕ) (st : Search) → loop (put D w) (succs In s l) st ≡ fromState D w l s st)
+              → a < places → b < places → (k : ℕ)
+              → finish expand fromState (plan .size) (plan .lines) (starting In a (members begin)) (advanceBy expand k (begun (plan .size) (goal In b ∷ []))) ≡ answer lines places p a b
+          loaded-finish expand expand-law fromState from-law ha hb k =
+              finish-is (plan .size) (goal In b ∷ []) (preds In) (succs In) (plan .lines) expand expand-law fromState from-law
+              Valid valid-low (valid-goal b hb) valid-next valid-preds (starting In a (members begin)) (valid-starts a ha) k
+              ∙ loaded-answer ha hb
