@@ -8,6 +8,7 @@ pub mod Loops
 pub mod Queue
 pub mod Counted
 pub mod Table
+pub mod Area
 pub mod Grows
 pub mod PhaseOne
 pub mod PhaseTwo
