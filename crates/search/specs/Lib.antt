@@ -19,6 +19,8 @@ pub mod Product
 pub mod Steps
 pub mod Along
 pub mod Loaded
+pub mod Moves
+pub mod Spots
 pub mod Answer
 pub mod Check
 pub mod Rows
