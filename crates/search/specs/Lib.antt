@@ -8,6 +8,7 @@ pub mod Loops
 pub mod Queue
 pub mod Counted
 pub mod Table
+pub mod Area
 pub mod Grows
 pub mod PhaseOne
 pub mod PhaseTwo
@@ -18,6 +19,8 @@ pub mod Product
 pub mod Steps
 pub mod Along
 pub mod Loaded
+pub mod Moves
+pub mod Spots
 pub mod Answer
 pub mod Check
 pub mod Same

@@ -1,0 +1,6 @@
+pub mod Stretches
+pub mod Changes
+pub mod Bounds
+pub mod Comparing
+pub mod Bridge
+pub mod Visits
