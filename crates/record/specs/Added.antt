@@ -103,7 +103,7 @@ empty-reads n h =
       walk = step-end 3 (two (emptyRecord n) 1) (0 ∷ []) (end-alone (two (emptyRecord n) 1));
     })
 
-begun : (buffer : List ℕ) (n len : ℕ) → beginOf buffer n ≡ passed len → (countAllowed n ≡ true) × (len ≡ 4)
+pub begun : (buffer : List ℕ) (n len : ℕ) → beginOf buffer n ≡ passed len → (countAllowed n ≡ true) × (len ≡ 4)
 unfolding beginOf
 begun buffer n len h =
     let (a, g) = ask-passed (countAllowed n) 2 _ len h in

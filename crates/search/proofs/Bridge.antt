@@ -119,9 +119,9 @@ module _ (a : Columns) (plan : Plan) (g : List ℕ) where
       go : (p q r : Bool)
           → passes (settingIn a plan g) (cond p always (cond q (against same j) (cond r (against other j) never))) v x
           ≡ cond p true
-            (cond q
-            (passes (settingIn a plan g) (against same j) v x)
-            (cond r (passes (settingIn a plan g) (against other j) v x) false))
+          (cond q
+          (passes (settingIn a plan g) (against same j) v x)
+          (cond r (passes (settingIn a plan g) (against other j) v x) false))
       go true q r = refl
       go false true r = refl
       go false false true = refl
@@ -142,8 +142,8 @@ module _ (a : Columns) (plan : Plan) (g : List ℕ) where
 
     next-turn : (s i k : ℕ) (b : Search) → i < plan .lines → k ≤ plan .done
         → cond (memb k (S .node (posOf S s) .follow))
-          (see (state S (lineAt (S .lines) i .to) k (cut S (S .node k .depth) (pushed S (S .node (posOf S s)) (stackOf S s) i))) b)
-          b
+        (see (state S (lineAt (S .lines) i .to) k (cut S (S .node k .depth) (pushed S (S .node (posOf S s)) (stackOf S s) i))) b)
+        b
         ≡ turn s i k b
     unfolding settingIn nodeIn posOf stackOf stacks state nextTurn on spotIn
     next-turn s i k b h l =
@@ -181,9 +181,9 @@ module _ (a : Columns) (plan : Plan) (g : List ℕ) where
 
       from-is : onward S see i s st
           ≡ cond
-            (here && (eqb (p % 16) (spot (pos s) .kind) && okay plan g (spot (pos s)) (boatOf plan g i) (s % plan .stacks)))
-            (overNext S see i s st)
-            st
+          (here && (eqb (p % 16) (spot (pos s) .kind) && okay plan g (spot (pos s)) (boatOf plan g i) (s % plan .stacks)))
+          (overNext S see i s st)
+          st
       unfolding onward settingIn nodeIn placeOf posOf stackOf stacks okay spotIn
       from-is =
           let next : plan .done + 1 ≡ suc (plan .done) = omega arith in

@@ -62,7 +62,14 @@ pub fn word(work: &[u32], i: usize) -> u32
 }
 
 // The state `s` gets the word `d` and comes into the queue, unless it has a word. Returns how many are in the queue then.
-pub fn push_if_new(work: &mut [u32], base: usize, size: usize, d: u32, s: usize, tail: usize) -> usize
+pub fn push_if_new(
+    work: &mut [u32],
+    base: usize,
+    size: usize,
+    d: u32,
+    s: usize,
+    tail: usize,
+) -> usize
     requires { ⌜ Ready base size tail (now work) ⌝ }
     requires { ⌜ (s < size) × (0 < d) × (d ≤ suc tail) ⌝ }
     ensures { λ r. ⌜ Step base size (push d s) tail (now (work .entry)) r (now (work .exit)) ⌝ }
@@ -109,7 +116,11 @@ pub enum Told {
 pub fn compared(a: u32, b: u32) -> Told
     ensures { λ r. ⌜ toldShown r ≡ wordsCompared a b ⌝ }
 {
-    if a == b { Told::SameBoat } else { Told::OtherBoat }
+    if a == b {
+        Told::SameBoat
+    } else {
+        Told::OtherBoat
+    }
 }
 
 // Does the test, 2 for same and 3 for other, take what the comparison told? No other test takes anything here.
@@ -346,7 +357,16 @@ pub fn from_state(
             let boat = boat_word(work, plan, code as usize);
             if passes(work, plan, spot, boat, v) {
                 let u = put_on(spot, v, code);
-                return over_next(work, plan, depths, follow[at], want, line / 16 % 1024, u, tail);
+                return over_next(
+                    work,
+                    plan,
+                    depths,
+                    follow[at],
+                    want,
+                    line / 16 % 1024,
+                    u,
+                    tail,
+                );
             }
         }
     }

@@ -1,0 +1,45 @@
+-- Replies as numbers: a refusal's second number is 0, and lengths and words fit 32 bits. Assumes nothing.
+use mathlib.Core.Path.{_≡_, refl, sym, ap, _∙_}
+use mathlib.Core.List.{List}
+use Prim.Native.Nat.{ℕ, _+_, _*_, _<_, _≤_}
+use native.Mathlib.Omega.{arith}
+use lib.ListN.{length, take}
+use lib.Seq.{length-take-le}
+use Rattle.meaning.specs.Outcome.{Outcome, refused, passed, told, Reply, value, refusal}
+use Rattle.meaning.specs.Record.{Line}
+use Rattle.meaning.specs.Writing.{beginOf, addOf}
+use Rattle.record.specs.Added.{begun, Adds, adds}
+use Rattle.record.specs.Whole.{whole-of}
+use Rattle.exports.specs.Number.{numberOf, Fits32}
+
+pub refusal-number : (o : Outcome ℕ) (number second : ℕ) → refusal number second ≡ told o → number * 4294967296 ≡ numberOf (told o)
+refusal-number (refused q) number second h = let e : number ≡ q = cc in omega (arith, e)
+refusal-number (passed n) number second h = absurd (let z : _≡_ {A = ℕ} 0 1 = cc in omega arith)
+
+pub value-number : (o : Outcome ℕ) (n : ℕ) → value n ≡ told o → n ≡ numberOf (told o)
+value-number (refused q) n h = absurd (let z : _≡_ {A = ℕ} 0 1 = cc in omega arith)
+value-number (passed m) n h = cc
+
+told-fits : (o : Outcome ℕ) → ((n : ℕ) → o ≡ passed n → n < 4294967296) → Fits32 (told o)
+told-fits (refused q) h = omega arith
+told-fits (passed n) h = h n refl
+
+pub begin-fits : (buffer : List ℕ) (n : ℕ) → Fits32 (told (beginOf buffer n))
+begin-fits buffer n = told-fits (beginOf buffer n) (λ len e. omega (arith, begun buffer n len e .1))
+
+pub add-fits : (buffer : List ℕ) (len : ℕ) (l : Line) → Fits32 (told (addOf buffer len l))
+add-fits buffer len l =
+    told-fits (addOf buffer len l)
+    (λ longer e.
+    let a = adds buffer len l longer e in
+    omega (arith, a .grown, whole-of (take len buffer) (a .day) (a .reads) .short, length-take-le len buffer (a .inside)))
+
+-- ---- a line read back
+
+pub line-refused : (o : Outcome Line) (number second : ℕ) → refusal number second ≡ told o → o ≡ refused number
+line-refused (refused q) number second h = ap refused cc
+line-refused (passed l) number second h = absurd (let z : _≡_ {A = ℕ} 0 1 = cc in omega arith)
+
+pub line-passed : (o : Outcome Line) (l : Line) → value l ≡ told o → o ≡ passed l
+line-passed (refused q) l h = absurd (let z : _≡_ {A = ℕ} 0 1 = cc in omega arith)
+line-passed (passed m) l h = let e : l ≡ m = cc in ap passed (sym e)

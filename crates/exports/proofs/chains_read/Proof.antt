@@ -1,0 +1,65 @@
+-- `exports::chains_read` meets its contract: the fields of the line that `read_line` gives, where there is room for them.
+-- Assumes nothing.
+use mathlib.Core.Path.{_≡_, refl, sym, ap, _∙_}
+use borrow.Author.Tests.{le-leb, lt-leb}
+use Rattle.meaning.specs.Writing.{readOf}
+use Rattle.record.specs.Reply.{lineReply}
+use Rattle.exports.proofs.Numbers.{line-refused, line-passed}
+use borrow.Author.Needs.{needs}
+use Rattle.exports.proofs.chains_read.Statement.{statement}
+use Rattle.exports.proofs.chains_read.Tie as tie
+
+read-line-requires : tie.Need-read-line-requires
+read-line-requires c κs = search needs
+
+enum-known-q : tie.Need-enum-known-q
+enum-known-q c = search needs
+
+cast-result : tie.Need-cast-result
+cast-result c = search needs
+
+mul-result : tie.Need-mul-result
+mul-result c = search needs
+
+enum-known-l : tie.Need-enum-known-l
+enum-known-l c = search needs
+
+returns : tie.Need-returns
+returns c =
+    let b = c .before .before .before .before in
+    let a = b .before .before .before .args in
+    rw (line-passed (readOf (a .rec .now) (a .line)) _ (ap lineReply (sym (c .before .before .l .given .1)) ∙ b .read-line .ensures), lt-leb _ _ (c .if1 .taken)) (refl, refl)
+
+put-fields-requires : tie.Need-put-fields-requires
+put-fields-requires c κs = search needs
+
+returns-2 : tie.Need-returns-2
+returns-2 c =
+    let b = c .before .before .before in
+    let a = b .before .before .before .args in
+    rw (line-refused (readOf (a .rec .now) (a .line)) _ _ (ap lineReply (sym (c .before .q .given .1)) ∙ b .read-line .ensures)) (refl, refl)
+
+same-length : tie.Need-same-length
+same-length c = search needs
+
+returns-3 : tie.Need-returns-3
+returns-3 c =
+    let d = c .before .before .before .before in
+    let b = d .before .before .before .before in
+    let a = b .before .before .before .args in
+    rw (line-passed (readOf (a .rec .now) (a .line)) _ (ap lineReply (sym (d .before .before .l .given .1)) ∙ b .read-line .ensures), le-leb _ _ (d .if1 .left)) (refl, c .before .before .put-fields .ensures)
+
+pub chains-read-spec : {M : Type 1} → statement M
+chains-read-spec =
+    tie.close
+    (tie.spec
+    read-line-requires
+    enum-known-q
+    cast-result
+    mul-result
+    enum-known-l
+    returns
+    put-fields-requires
+    returns-2
+    same-length
+    returns-3)

@@ -1,0 +1,47 @@
+-- `exports::chains_words` meets its contract: the reply of `words_needed`, as a number. Assumes nothing.
+use mathlib.Core.Path.{_≡_, sym, ap, _∙_}
+use Rattle.meaning.specs.Request.{wordsOf}
+use Rattle.request.specs.Reply.{wordsReply}
+use Rattle.exports.proofs.Numbers.{refusal-number, value-number}
+use borrow.Author.Needs.{needs}
+use Rattle.exports.proofs.chains_words.Statement.{statement}
+use Rattle.exports.proofs.chains_words.Tie as tie
+
+words-needed-requires : tie.Need-words-needed-requires
+words-needed-requires c κs = search needs
+
+enum-known-n : tie.Need-enum-known-n
+enum-known-n c = search needs
+
+enum-known-q : tie.Need-enum-known-q
+enum-known-q c = search needs
+
+cast-result : tie.Need-cast-result
+cast-result c = search needs
+
+mul-result : tie.Need-mul-result
+mul-result c = search needs
+
+returns : tie.Need-returns
+returns c =
+    let b = c .before .before .before in
+    let a = b .before .before .before .args in
+    value-number (wordsOf (a .rec .now) (a .pat .now)) _ (ap wordsReply (sym (c .before .n .given .1)) ∙ b .words-needed .ensures)
+
+returns-2 : tie.Need-returns-2
+returns-2 c =
+    let b = c .before .before .before in
+    let a = b .before .before .before .args in
+    refusal-number (wordsOf (a .rec .now) (a .pat .now)) _ _ (ap wordsReply (sym (c .before .q .given .1)) ∙ b .words-needed .ensures)
+
+pub chains-words-spec : {M : Type 1} → statement M
+chains-words-spec =
+    tie.close
+    (tie.spec
+    words-needed-requires
+    enum-known-n
+    enum-known-q
+    cast-result
+    mul-result
+    returns
+    returns-2)

@@ -1,0 +1,40 @@
+-- `exports::write_number` meets its contract, case by case. Assumes nothing.
+use mathlib.Core.Path.{_≡_, sym, ap, _∙_, subst}
+use Prim.Native.Nat.{ℕ, _<_}
+use native.Mathlib.Omega.{arith}
+use Rattle.record.specs.Reply.{writeReply}
+use Rattle.record.specs.declared.WriteReply.{WriteReply}
+use Rattle.exports.specs.Number.{numberOf, Fits32}
+use borrow.Author.Needs.{needs}
+use Rattle.exports.proofs.write_number.Statement.{statement}
+use Rattle.exports.proofs.write_number.Tie as tie
+
+-- the second number of a refusal is small
+small : (c : tie.After-known-told2) → c .before .r2 .given .0 .1 .0 < 4294967296
+small c = subst (λ (r : WriteReply). Fits32 (writeReply r)) (c .before .r2 .given .1) (c .before .before .before .pre)
+
+enum-known-r : tie.Need-enum-known-r
+enum-known-r c = search needs
+
+enum-known-r-2 : tie.Need-enum-known-r-2
+enum-known-r-2 c = search needs
+
+cast-result : tie.Need-cast-result
+cast-result c = search needs
+
+mul-result : tie.Need-mul-result
+mul-result c = search needs
+
+add-result : tie.Need-add-result
+add-result c = omega (arith, small c)
+
+returns : tie.Need-returns
+returns c = search needs
+
+returns-2 : tie.Need-returns-2
+returns-2 c = sym (ap (λ (r : WriteReply). numberOf (writeReply r)) (c .before .r2 .given .1))
+
+pub write-number-spec : {M : Type 1} → statement M
+write-number-spec =
+    tie.close
+    (tie.spec enum-known-r enum-known-r-2 cast-result mul-result add-result returns returns-2)

@@ -1,0 +1,33 @@
+-- A reply as one number of 64 bits, n · 2^32 + value: what the functions for C and Rust return.
+use mathlib.Core.Bool.{Bool, cond, true, false}
+use mathlib.Core.List.{List, [], _∷_, _++_}
+use Prim.Native.Nat.{ℕ, _+_, _*_, _<_}
+use lib.Dec.{leb}
+use lib.ListN.{length, drop}
+use Rattle.meaning.specs.Outcome.{Outcome, refused, passed, Reply, value, refusal}
+use Rattle.meaning.specs.Record.{Line}
+
+abbrev pub numberOf : Reply ℕ → ℕ
+numberOf (value n) = n
+numberOf (refusal number second) = number * 4294967296 + second
+
+-- it has room for the value and for the second number
+abbrev pub Fits32 : Reply ℕ → Type 0
+Fits32 (value n) = n < 4294967296
+Fits32 (refusal number second) = second < 4294967296
+
+-- ---- a line read back into a lent list of words
+
+-- from, kind, class, sail number, to
+abbrev pub fieldsOf : Line → List ℕ
+fieldsOf l = l .from ∷ l .kind ∷ l .boat .class ∷ l .boat .sail ∷ l .to ∷ []
+
+-- 5 where the list has room for the five fields, else 0
+abbrev pub readNumber : Outcome Line → ℕ → ℕ
+readNumber (refused number) room = number * 4294967296
+readNumber (passed l) room = cond (leb 5 room) 5 0
+
+-- the fields at the front, or nothing written
+abbrev pub readAfter : Outcome Line → List ℕ → List ℕ
+readAfter (refused number) fields = fields
+readAfter (passed l) fields = cond (leb 5 (length fields)) (fieldsOf l ++ drop 5 fields) fields

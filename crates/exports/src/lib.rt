@@ -1,0 +1,111 @@
+// The library's boundary for C and Rust: every reply as one number of 64 bits, n · 2^32 + value. n is 0, or the number of the
+// question that failed, and value is then the refusal's second number.
+ghost use mathlib.Core.Path.{_≡_};
+ghost use mathlib.Core.List.{_++_};
+ghost use Prim.Native.Nat.{_*_, _≤_};
+ghost use lib.ListN.{length, drop};
+ghost use Rattle.meaning.specs.Outcome.{told};
+ghost use Rattle.meaning.specs.Writing.{beginOf, beginAfter, addOf, addAfter, readOf};
+ghost use Rattle.meaning.specs.Request.{wordsOf};
+ghost use Rattle.record.specs.Reply.{lineShown, writeReply};
+ghost use Rattle.request.specs.Reply.{wordsReply};
+ghost use Rattle.exports.specs.Number.{numberOf, Fits32, fieldsOf, readNumber, readAfter};
+use record::Line;
+use record::LineReply;
+use record::WriteReply;
+use request::WordsReply;
+
+// ---- records
+
+fn write_number(r: WriteReply) -> u64
+    requires { ⌜ Fits32 (writeReply r) ⌝ }
+    ensures { λ n. ⌜ n ≡ numberOf (writeReply r) ⌝ }
+{
+    match r {
+        WriteReply::Length(n) => n as u64,
+        WriteReply::Refused(q, second) => q as u64 * 4294967296 + second as u64,
+    }
+}
+
+// Begins a record; value: its length.
+#[no_mangle]
+pub extern "C" fn chains_begin(buf: &mut [u8], places: u16) -> u64
+    ensures reply { λ r. ⌜ r ≡ numberOf (told (beginOf (now (buf .entry)) places)) ⌝ }
+    ensures buffer { λ _. ⌜ now (buf .exit) ≡ beginAfter (now (buf .entry)) places ⌝ }
+{
+    write_number(record::begin_record(buf, places))
+}
+
+// Adds a line; value: the record's new length.
+#[no_mangle]
+pub extern "C" fn chains_add(
+    buf: &mut [u8],
+    len: usize,
+    from: u16,
+    kind: u8,
+    class: u8,
+    sail: u32,
+    to: u16,
+) -> u64
+    ensures reply { λ r. ⌜ r ≡ numberOf (told (addOf (now (buf .entry)) len (record { from = from; kind = kind; boat = record { class = class; sail = sail }; to = to }))) ⌝ }
+    ensures buffer { λ _. ⌜ now (buf .exit) ≡ addAfter (now (buf .entry)) len (record { from = from; kind = kind; boat = record { class = class; sail = sail }; to = to }) ⌝ }
+{
+    let line = Line {
+        from,
+        kind,
+        class,
+        sail,
+        to,
+    };
+    write_number(record::add_line(buf, len, line))
+}
+
+// Puts the five fields of a line at the front of a list that has room for them.
+fn put_fields(fields: &mut [u32], l: Line)
+    requires { ⌜ 5 ≤ length (now fields) ⌝ }
+    ensures { λ _. ⌜ now (fields .exit) ≡ fieldsOf (lineShown l) ++ drop 5 (now (fields .entry)) ⌝ }
+{
+    let new = [
+        l.from as u32,
+        l.kind as u32,
+        l.class as u32,
+        l.sail,
+        l.to as u32,
+    ];
+    let mut i: usize = 0;
+    while i < 5 {
+        fields[i] = new[i];
+        i += 1;
+    }
+}
+
+// Reads a line back into the first five words of a list: from, kind, class, sail number, to; value: 5, or 0 where the list is shorter.
+#[no_mangle]
+pub extern "C" fn chains_read(rec: &[u8], line: u16, fields: &mut [u32]) -> u64
+    ensures reply { λ r. ⌜ r ≡ readNumber (readOf (now (rec .entry)) line) (length (now (fields .entry))) ⌝ }
+    ensures words { λ _. ⌜ now (fields .exit) ≡ readAfter (readOf (now (rec .entry)) line) (now (fields .entry)) ⌝ }
+{
+    match record::read_line(rec, line) {
+        LineReply::Refused(q, _) => q as u64 * 4294967296,
+        LineReply::Line(l) => {
+            if fields.len() < 5 {
+                return 0;
+            }
+            put_fields(fields, l);
+            5
+        }
+    }
+}
+
+// ---- requests
+
+// How many words of work area a record and a pattern need; value: the words.
+#[no_mangle]
+pub extern "C" fn chains_words(rec: &[u8], pat: &[u8]) -> u64
+    ensures { λ r. ⌜ r ≡ numberOf (told (wordsOf (now (rec .entry)) (now (pat .entry)))) ⌝ }
+{
+    match request::words_needed(rec, pat) {
+        WordsReply::Words(n) => n as u64,
+        WordsReply::Refused(q, _) => q as u64 * 4294967296,
+    }
+}

@@ -1,0 +1,1069 @@
+//! Requests with replies written down by hand: the paper's rows, the places where it can
+//! be misread, and the vectors that tell wrong programs apart. Each is compared with this
+//! program and with the reply that stands here, so that it tests this program too.
+
+use crate::compare::{self, shown};
+use crate::generator::{dirt, dirty_bytes, dirty_entries};
+use crate::library::{Ask, Library};
+use crate::random::Random;
+use crate::record::{read_record, written, Line, LONGEST, MOST_LINES};
+use crate::request::{self, refused, search_size, FindReply, NO_CHAIN};
+use std::time::Instant;
+
+/// A named group of requests.
+pub struct Case {
+    pub name: &'static str,
+    /// Whether it calls the finder.
+    pub finder: bool,
+    /// Gives a note to print, or says where the two programs differ.
+    pub run: fn(&Bench) -> Result<String, String>,
+}
+
+const fn case(name: &'static str, run: fn(&Bench) -> Result<String, String>) -> Case {
+    Case {
+        name,
+        finder: false,
+        run,
+    }
+}
+
+const fn finder_case(name: &'static str, run: fn(&Bench) -> Result<String, String>) -> Case {
+    Case {
+        name,
+        finder: true,
+        run,
+    }
+}
+
+pub const ALL: &[Case] = &[
+    case("01: rows of the record", record_rows),
+    case("01: rows of the pattern", pattern_rows),
+    case("01: the largest size, and one boat more", size_row),
+    case("01: rows of the checker", check_rows),
+    case("A 1-8: the record", record_traps),
+    case("A 9-14: the pattern", pattern_traps),
+    case("A 15, 16, 19: sizes", sizes),
+    case("A 17, 18, 20: order of 15, 16 and 17", request_order),
+    case("A 21: a missing line after a bad join", missing_lines),
+    case("A 22: dirty, exact, short and over-long areas", areas),
+    case("A 25: empty chains", empty_chains),
+    case("A 26: a chain of a million entries", million),
+    case("A 29: repeat and other", repeat_and_other),
+    case("A 30: begin", begin_traps),
+    case("A 31-34: add and read", add_traps),
+    case("001, Example 2", example_2),
+    case("V1-V12: the chains, checked", vectors_checked),
+    finder_case("01: rows of the finder", find_rows),
+    finder_case("A 17-20: the finder's questions", finder_order),
+    finder_case("A 23, 24, 27: outputs", outputs),
+    finder_case("A 22: the finder's areas", finder_areas),
+    finder_case("V1-V7, V12", vectors),
+    finder_case("V11: a chain of 92,400 lines", vector_11),
+    finder_case("the largest size, found and none", largest),
+    finder_case("001, Proposition 3", proposition_3),
+];
+
+/// A library, and the calls that the cases are made of.
+pub struct Bench<'a> {
+    pub library: &'a dyn Library,
+}
+
+type Done = Result<(), String>;
+
+fn expect(what: &str, got: u64, expected: u64) -> Done {
+    if got == expected {
+        return Ok(());
+    }
+    Err(format!(
+        "{what}: {}, but the case says {}",
+        shown(got),
+        shown(expected)
+    ))
+}
+
+impl Bench<'_> {
+    fn words(&self, rec: &[u8], pat: &[u8], expected: u64) -> Done {
+        let got = compare::words(self.library, rec, pat)?;
+        expect(&format!("words of {rec:02x?}, {pat:02x?}"), got, expected)
+    }
+
+    fn read(&self, rec: &[u8], number: u16, expected: u64) -> Done {
+        let mut random = Random::new(rec.len() as u64);
+        for fields in [5, 4, 0, 7] {
+            let lent = dirt(&mut random, fields);
+            let got = compare::read(self.library, rec, number, &lent)?;
+            let short = fields < 5 && expected == 5;
+            expect("read", got, if short { 0 } else { expected })?;
+        }
+        Ok(())
+    }
+
+    fn begin(&self, buf: &[u8], places: u16, expected: u64) -> Done {
+        let got = compare::begin(self.library, buf, places)?;
+        expect("begin", got, expected)
+    }
+
+    fn add(&self, buf: &[u8], len: usize, line: Line, expected: u64) -> Result<Vec<u8>, String> {
+        let (got, after) = compare::add(self.library, buf, len, line)?;
+        expect(&format!("add {line:?} at {len}"), got, expected)?;
+        Ok(after)
+    }
+
+    /// A check with a dirty work area that fits exactly.
+    fn check(&self, ask: Ask, chain: &[u16], expected: u64) -> Done {
+        self.check_in(ask, chain, exact(ask), expected)
+    }
+
+    fn check_in(&self, ask: Ask, chain: &[u16], work_len: usize, expected: u64) -> Done {
+        let work = dirt(&mut Random::new(work_len as u64), work_len);
+        let got = compare::check(self.library, ask, chain, &work)?;
+        let length = chain.len();
+        expect(
+            &format!("check of {length} entries with {:02x?}", ask.pat),
+            got,
+            expected,
+        )
+    }
+
+    fn find_in(&self, ask: Ask, work_len: usize, out_len: usize, expected: u64) -> Done {
+        let mut random = Random::new(work_len as u64);
+        let work = dirt(&mut random, work_len);
+        let out = dirty_entries(&mut random, out_len);
+        let got = compare::find(self.library, ask, &work, &out)?;
+        expect(&format!("find with {:02x?}", ask.pat), got, expected)
+    }
+
+    /// This chain is found: in an exact output and in a longer one; one entry fewer is
+    /// refused with its length; and the checker says yes to it.
+    fn found(&self, ask: Ask, chain: &[u16]) -> Done {
+        let work_len = exact(ask);
+        let expected = request::find(ask.rec, ask.pat, ask.from, ask.to, work_len, chain.len());
+        if expected != FindReply::Found(chain.to_vec()) {
+            return Err(format!(
+                "this program says {expected:?}, but the case says {chain:?}"
+            ));
+        }
+        let length = chain.len();
+        self.find_in(ask, work_len, length, length as u64)?;
+        self.find_in(ask, work_len, length + 3, length as u64)?;
+        if length > 0 {
+            self.find_in(ask, work_len, length - 1, refused(19, length as u64))?;
+            self.find_in(ask, work_len, 0, refused(19, length as u64))?;
+        }
+        self.check(ask, chain, 1)
+    }
+
+    fn none(&self, ask: Ask) -> Done {
+        self.find_in(ask, exact(ask), 0, NO_CHAIN)?;
+        self.find_in(ask, exact(ask), 5, NO_CHAIN)
+    }
+}
+
+/// The words that a request needs, or some where none are enough.
+fn exact(ask: Ask) -> usize {
+    request::words(ask.rec, ask.pat).unwrap_or(9_000) as usize
+}
+
+fn ask<'a>(rec: &'a [u8], pat: &'a [u8], from: u16, to: u16) -> Ask<'a> {
+    Ask { rec, pat, from, to }
+}
+
+pub fn line(from: u16, kind: u8, class: u8, sail: u32, to: u16) -> Line {
+    Line {
+        from,
+        kind,
+        class,
+        sail,
+        to,
+    }
+}
+
+fn ok() -> Result<String, String> {
+    Ok(String::new())
+}
+
+// ---- 01's records and patterns
+
+pub fn lines_of_r() -> Vec<Line> {
+    vec![
+        line(0, 1, 1, 150, 1),
+        line(0, 1, 2, 150, 1),
+        line(1, 2, 2, 150, 2),
+        line(1, 2, 1, 150, 2),
+        line(2, 3, 1, 150, 2),
+        line(2, 4, 2, 150, 3),
+        line(2, 4, 1, 151, 3),
+    ]
+}
+
+pub fn r() -> Vec<u8> {
+    written(4, &lines_of_r())
+}
+
+pub fn t() -> Vec<u8> {
+    written(1, &[line(0, 1, 1, 1, 0), line(0, 1, 1, 2, 0)])
+}
+
+pub const E: [u8; 4] = [1, 0, 1, 0];
+pub const P: [u8; 15] = [
+    0x27, 1, 0, 0x25, 0x22, 2, 0, 0x25, 0x26, 0x22, 3, 0, 0x22, 4, 0,
+];
+pub const S: [u8; 13] = [0x27, 1, 0, 0x25, 0x27, 1, 0, 0x23, 1, 0, 0x22, 1, 0];
+
+/// A record of one place with this many different boats, one line each.
+fn boats(places: u16, count: u32) -> Vec<u8> {
+    let lines: Vec<Line> = (0..count)
+        .map(|n| line(0, 1, (n % 2) as u8, n / 2, 0))
+        .collect();
+    written(places, &lines)
+}
+
+/// So many repeats, and then these bytes.
+fn repeats(count: usize, then: &[u8]) -> Vec<u8> {
+    let mut bytes = vec![0x26; count];
+    bytes.extend(then);
+    bytes
+}
+
+/// The words of a search size.
+const fn words_of(size: u64) -> u64 {
+    4 * size + 8_192
+}
+
+// ---- 01's rows
+
+fn record_rows(b: &Bench) -> Result<String, String> {
+    for (rec, number) in [(&[1, 0, 0, 0][..], 2), (&[1, 4, 1, 0], 2), (&[1, 0, 1], 3)] {
+        b.words(rec, &[0x20], refused(number, 0))?;
+        b.read(rec, 0, refused(number, 0))?;
+    }
+    b.words(&[1, 4, 0, 0], &[0x20], words_of(1_024 * 2))?;
+    b.read(&[1, 4, 0, 0], 0, refused(18, 0))?;
+    ok()
+}
+
+fn pattern_rows(b: &Bench) -> Result<String, String> {
+    b.words(&E, &[], refused(8, 0))?;
+    b.words(&E, &[0x21], refused(10, 0))?;
+    b.words(&E, &[0x21, 0], refused(11, 0))?;
+    b.words(&E, &[0x22, 1, 0], refused(12, 0))?;
+    b.words(&E, &[0x20, 0x20], refused(14, 0))?;
+    b.words(&E, &repeats(62, &[0x20]), words_of(64))?;
+    b.words(&E, &repeats(63, &[0x20]), refused(9, 0))?;
+    ok()
+}
+
+fn size_row(b: &Bench) -> Result<String, String> {
+    let mut pat = vec![0x27, 1, 0];
+    pat.extend(repeats(13, &[0x21, 1]));
+    let (fits, over) = (boats(1_024, 63), boats(1_024, 64));
+    b.words(&fits, &pat, 4_202_496)?;
+    b.words(&over, &pat, refused(16, 0))?;
+    let enough = 4_202_496;
+    b.check_in(ask(&fits, &pat, 0, 0), &[0], enough, 1)?;
+    b.check_in(ask(&fits, &pat, 0, 1), &[0], enough, 0)?;
+    b.check_in(ask(&fits, &pat, 0, 0), &[0], enough - 1, refused(17, 0))?;
+    b.check_in(ask(&over, &pat, 0, 0), &[0], enough, refused(16, 0))?;
+    ok()
+}
+
+fn check_rows(b: &Bench) -> Result<String, String> {
+    let (r, t) = (r(), t());
+    b.words(&r, &P, 8_704)?;
+    b.check(ask(&r, &P, 0, 3), &[0, 2, 5], 0)?;
+    b.check(ask(&r, &P, 0, 3), &[1, 2, 5], 1)?;
+    b.check(ask(&t, &S, 0, 0), &[0, 1, 0, 0], 1)?;
+    b.check(ask(&t, &S, 0, 0), &[0, 1, 0, 1], 0)?;
+    b.check(ask(&E, &[0x20], 0, 0), &[], 1)?;
+    b.check(ask(&E, &[0x21, 3], 0, 0), &[], 0)?;
+    b.check(ask(&r, &[0x26, 0x20], 0, 1), &[], 0)?;
+    ok()
+}
+
+fn find_rows(b: &Bench) -> Result<String, String> {
+    let (r, t) = (r(), t());
+    b.found(ask(&r, &P, 0, 3), &[1, 2, 5])?;
+    let mut more = lines_of_r();
+    more.push(line(2, 4, 1, 150, 3));
+    b.found(ask(&written(4, &more), &P, 0, 3), &[0, 3, 7])?;
+    let mut fewer = lines_of_r();
+    fewer.remove(5);
+    b.none(ask(&written(4, &fewer), &P, 0, 3))?;
+    b.found(ask(&t, &S, 0, 0), &[0, 0, 1, 0])?;
+    b.found(ask(&E, &[0x20], 0, 0), &[])?;
+    b.none(ask(&E, &[0x21, 3], 0, 0))?;
+    b.none(ask(&r, &[0x26, 0x20], 0, 1))?;
+    b.find_in(ask(&r, &P, 0, 3), 8_704, 2, refused(19, 3))?;
+    ok()
+}
+
+// ---- the record
+
+fn record_traps(b: &Bench) -> Result<String, String> {
+    let asked = |rec: &[u8], number: u8| -> Done {
+        b.words(rec, &[0x20], refused(number, 0))?;
+        b.read(rec, 0, refused(number, 0))
+    };
+    // 1: in the order of the walk, not of the numbers.
+    asked(&written(1, &[line(0, 0, 1, 1, 0), line(0, 1, 1, 1, 1)]), 6)?;
+    asked(&written(1, &[line(0, 1, 1, 1, 1), line(0, 0, 1, 1, 0)]), 5)?;
+    // 2: by length alone.
+    asked(&vec![0xFF; LONGEST + 1], 1)?;
+    asked(&vec![0xFF; LONGEST], 2)?;
+    // 3: as many lines as there can be, and one more.
+    let good = line(0, 15, 255, 0xFF_FFFF, 0);
+    let full = written(1, &vec![good; MOST_LINES]);
+    b.words(&full, &[0x20], words_of(2))?;
+    b.read(&full, 4_095, 5)?;
+    b.read(&full, 4_096, refused(18, 0))?;
+    let mut over = full.clone();
+    *over.last_mut().expect("not empty") = 2;
+    asked(&over, 4)?;
+    over.push(0);
+    asked(&over, 1)?;
+    // 4
+    asked(&[], 2)?;
+    asked(&[1], 2)?;
+    asked(&[1, 0], 2)?;
+    asked(&[2, 0, 1, 0], 2)?;
+    asked(&[0], 2)?;
+    asked(&[1, 0xFF, 0xFF, 0], 2)?;
+    asked(&[1, 0, 1, 1, 0, 1, 0], 3)?;
+    asked(&[1, 0, 1, 3], 3)?;
+    // 5: all operands before 5, and 5 before 6.
+    let one = written(1, &[line(0, 1, 1, 1, 0)]);
+    asked(&one[..12], 4)?;
+    asked(&one[..4], 4)?;
+    asked(&one[..13], 3)?;
+    let mut bad = written(1, &[line(9, 0, 1, 1, 9)]);
+    asked(&bad, 5)?;
+    bad.truncate(12);
+    asked(&bad, 4)?;
+    asked(&written(1, &[line(1, 1, 1, 1, 0)]), 5)?;
+    asked(&written(1, &[line(0, 1, 1, 1, 1)]), 5)?;
+    asked(&written(1, &[line(0, 16, 1, 1, 0)]), 6)?;
+    asked(&written(1, &[line(0, 255, 1, 1, 0)]), 6)?;
+    for kind in 1..=15 {
+        b.words(&written(1, &[line(0, kind, 0, 0, 0)]), &[0x20], words_of(2))?;
+    }
+    // 6
+    asked(&[1, 0, 1, 0, 0], 7)?;
+    // 7: the whole record, past the named line too.
+    let mut late = written(2, &[line(0, 1, 1, 1, 1), line(1, 1, 1, 1, 0)]);
+    b.read(&late, 0, 5)?;
+    b.read(&late, 1, 5)?;
+    b.read(&late, 2, refused(18, 0))?;
+    b.read(&late, 65_535, refused(18, 0))?;
+    late.push(0);
+    asked(&late, 7)?;
+    // 8: the order of the operands.
+    let rec = [1, 4, 0, 2, 1, 2, 5, 6, 7, 8, 9, 3, 0xFF, 0];
+    let mut fields = [0; 5];
+    expect("read", compare::read(b.library, &rec, 0, &fields)?, 5)?;
+    b.library.read(&rec, 0, &mut fields);
+    if fields != [0x0102, 5, 6, 0x07_0809, 0x03FF] {
+        return Err(format!("fields {fields:?}"));
+    }
+    ok()
+}
+
+// ---- the pattern
+
+fn pattern_traps(b: &Bench) -> Result<String, String> {
+    let asked = |pat: &[u8], number: u8| b.words(&E, pat, refused(number, 0));
+    let passes = |pat: &[u8], size: u64| b.words(&E, pat, words_of(size));
+    // 9: one command is done before the next is looked at.
+    asked(&[0x25, 0x22, 1, 0, 0x21, 0], 12)?;
+    asked(&[0x25, 0x21, 0, 0x22, 1, 0], 11)?;
+    asked(&[0x25, 0x21, 1, 0xFF], 8)?;
+    asked(&[0x1F], 8)?;
+    asked(&[0x28], 8)?;
+    asked(&[0x25, 0x20], 8)?;
+    // 10: 8 before 9, and 9 before 10.
+    asked(&repeats(63, &[]), 8)?;
+    asked(&repeats(63, &[0xFF]), 8)?;
+    asked(&repeats(63, &[0x20]), 9)?;
+    asked(&repeats(63, &[0x21]), 9)?;
+    // 11: after a complete pattern nothing is read.
+    asked(&repeats(62, &[0x20, 0x20]), 14)?;
+    asked(&[0x20, 0xFF], 14)?;
+    passes(&repeats(62, &[0x21, 1]), 64)?;
+    // 12
+    asked(&[0x22, 0], 10)?;
+    asked(&[0x22, 0, 5], 11)?;
+    asked(&[0x22, 1, 4], 11)?;
+    asked(&[0x23, 1, 255], 11)?;
+    asked(&[0x27, 1], 10)?;
+    asked(&[0x27, 16, 0, 0x20], 11)?;
+    asked(&[0x27, 1, 4, 0x20], 11)?;
+    asked(&[0x21, 16], 11)?;
+    // 13: a keep around it, and not one to its left.
+    asked(&[0x25, 0x27, 1, 0, 0x20, 0x22, 1, 0], 12)?;
+    asked(&[0x27, 1, 0, 0x25, 0x27, 1, 1, 0x20, 0x22, 1, 1], 12)?;
+    asked(&[0x23, 1, 0], 12)?;
+    passes(&S, 6)?;
+    // 14: nested, itself counted; by commands and not by slots.
+    let three = [0x27, 1, 0, 0x27, 1, 0, 0x27, 1, 0];
+    let then = |more: &[u8]| [&three[..], more].concat();
+    passes(&then(&[0x20]), 5)?;
+    asked(&then(&[0x27, 1, 0, 0x20]), 13)?;
+    asked(&then(&[0x27, 1, 7, 0x20]), 11)?;
+    asked(&then(&[0x27, 1]), 10)?;
+    let keep = [0x27, 1, 0, 0x20];
+    let four = [&[0x25, 0x25, 0x25][..], &keep, &keep, &keep, &keep].concat();
+    passes(&four, 12)?;
+    ok()
+}
+
+// ---- sizes and the order of questions
+
+fn sizes(b: &Bench) -> Result<String, String> {
+    // 15 and 16: the deepest nesting, and commands; not bytes, slots or all keeps.
+    let three_boats = boats(2, 3);
+    let keep = [0x27, 1, 0, 0x20];
+    let beside = [&[0x25][..], &keep, &keep].concat();
+    b.words(&three_boats, &beside, words_of(2 * 6 * 4))?;
+    b.words(
+        &three_boats,
+        &[0x27, 1, 0, 0x27, 1, 0, 0x20],
+        words_of(2 * 4 * 16),
+    )?;
+    b.words(
+        &three_boats,
+        &[0x27, 1, 0, 0x27, 1, 1, 0x27, 1, 2, 0x20],
+        words_of(2 * 5 * 64),
+    )?;
+    b.words(&three_boats, &[0x21, 1], words_of(2 * 2))?;
+    // 19: different boats of the whole record, 0-0 as one of them.
+    let lines = [
+        line(0, 1, 0, 0, 0),
+        line(0, 2, 0, 0, 0),
+        line(0, 1, 1, 0, 0),
+        line(0, 1, 0, 1, 0),
+        line(0, 1, 1, 1, 0),
+        line(0, 1, 1, 1, 0),
+    ];
+    b.words(&written(1, &lines), &keep, words_of(3 * 5))?;
+    b.words(&E, &keep, words_of(3))?;
+    // The largest product there is.
+    let many = boats(1_024, 4_096);
+    let mut pat = vec![0x27, 1, 0, 0x27, 1, 1, 0x27, 1, 2];
+    pat.extend(repeats(59, &[0x21, 1]));
+    b.words(&many, &pat, refused(16, 0))?;
+    let record = read_record(&many).map_err(|n| format!("record refused {n}"))?;
+    let pattern = crate::pattern::read_pattern(&pat).map_err(|n| format!("pattern refused {n}"))?;
+    if search_size(&record, &pattern) != 1_024 * 64 * 4_097u128.pow(3) {
+        return Err("search size".to_string());
+    }
+    // Products that would come round to a small number in 32 bits: (255 + 1)^3 x 256.
+    let mut pat = vec![0x27, 1, 0, 0x27, 1, 1, 0x27, 1, 2];
+    pat.extend(repeats(11, &[0x21, 1]));
+    b.words(&boats(16, 255), &pat, refused(16, 0))?;
+    // One place, no keep, as many boats as lines: the size is 2.
+    b.words(&boats(1, 4_096), &[0x20], words_of(2))?;
+    ok()
+}
+
+fn request_order(b: &Bench) -> Result<String, String> {
+    let r = r();
+    let bad_rec = [1, 0, 1];
+    let bad_pat = [0xFF];
+    // 17: record, pattern, 15, 16, 17.
+    b.check(ask(&bad_rec, &bad_pat, 9, 9), &[9], refused(3, 0))?;
+    b.check(ask(&r, &bad_pat, 9, 9), &[9], refused(8, 0))?;
+    let over = boats(1_024, 64);
+    let mut pat = vec![0x27, 1, 0];
+    pat.extend(repeats(13, &[0x21, 1]));
+    b.check_in(ask(&over, &pat, 1_024, 0), &[999], 0, refused(15, 0))?;
+    b.check_in(ask(&over, &pat, 0, 1_024), &[999], 0, refused(15, 0))?;
+    b.check_in(ask(&over, &pat, 0, 0), &[999], 0, refused(16, 0))?;
+    b.check_in(
+        ask(&over, &pat, 1_023, 1_023),
+        &[999],
+        9_000,
+        refused(16, 0),
+    )?;
+    b.check_in(ask(&r, &P, 0, 3), &[999], 8_703, refused(17, 0))?;
+    b.check_in(ask(&r, &P, 0, 3), &[999], 8_704, refused(18, 0))?;
+    b.check(ask(&r, &P, 4, 3), &[], refused(15, 0))?;
+    b.check(ask(&r, &P, 3, 4), &[], refused(15, 0))?;
+    b.check(ask(&r, &P, 65_535, 65_535), &[], refused(15, 0))?;
+    // 20: the checker too, for an empty chain.
+    b.check_in(ask(&E, &[0x20], 0, 0), &[], 8_199, refused(17, 0))?;
+    b.check_in(ask(&E, &[0x20], 0, 0), &[], 8_200, 1)?;
+    b.check_in(ask(&E, &[0x20], 0, 0), &[], 0, refused(17, 0))?;
+    ok()
+}
+
+fn missing_lines(b: &Bench) -> Result<String, String> {
+    let r = r();
+    let asked = ask(&r, &P, 0, 3);
+    // A bad join and then a line that isn't there; an accepted chain and then one; one
+    // before all others.
+    b.check(asked, &[0, 0, 9_999], refused(18, 0))?;
+    b.check(asked, &[5, 0, 7], refused(18, 0))?;
+    b.check(asked, &[1, 2, 5, 7], refused(18, 0))?;
+    b.check(asked, &[7, 1, 2, 5], refused(18, 0))?;
+    b.check(asked, &[65_535], refused(18, 0))?;
+    b.check(asked, &[6], 0)?;
+    b.check(asked, &[7], refused(18, 0))?;
+    b.check(ask(&E, &[0x26, 0x21, 1], 0, 0), &[0], refused(18, 0))?;
+    let mut long = vec![0; 3_000];
+    long.push(7);
+    b.check(asked, &long, refused(18, 0))?;
+    ok()
+}
+
+fn areas(b: &Bench) -> Result<String, String> {
+    let (r, t) = (r(), t());
+    for more in [0, 1, 2, 63, 8_192, 100_000] {
+        b.check_in(ask(&r, &P, 0, 3), &[1, 2, 5], 8_704 + more, 1)?;
+        b.check_in(ask(&r, &P, 0, 3), &[0, 2, 5], 8_704 + more, 0)?;
+        b.check_in(ask(&r, &P, 0, 3), &[0, 2, 7], 8_704 + more, refused(18, 0))?;
+        b.check_in(ask(&t, &S, 0, 0), &[0, 1, 0, 0], 8_192 + 4 * 54 + more, 1)?;
+    }
+    for fewer in [1, 2, 512, 8_704] {
+        b.check_in(ask(&r, &P, 0, 3), &[1, 2, 5], 8_704 - fewer, refused(17, 0))?;
+    }
+    // What is in the area before is not seen: words of one value, small and large.
+    for word in [0, 1, 2, 7, 1_024, u32::MAX, 0x8000_0000] {
+        let asked = ask(&t, &S, 0, 0);
+        let work = vec![word; 8_192 + 4 * 54 + 5];
+        let yes = compare::check(b.library, asked, &[0, 1, 0, 0], &work)?;
+        let no = compare::check(b.library, asked, &[0, 1, 0, 1], &work)?;
+        expect("yes", yes, 1)?;
+        expect("no", no, 0)?;
+    }
+    ok()
+}
+
+fn empty_chains(b: &Bench) -> Result<String, String> {
+    let r = r();
+    b.check(ask(&r, &[0x26, 0x20], 1, 1), &[], 1)?;
+    b.check(ask(&r, &[0x26, 0x20], 0, 1), &[], 0)?;
+    b.check(ask(&r, &[0x26, 0x21, 1], 3, 3), &[], 1)?;
+    b.check(ask(&r, &[0x21, 1], 0, 0), &[], 0)?;
+    b.check(ask(&r, &[0x24, 0x21, 1, 0x20], 0, 0), &[], 1)?;
+    b.check(ask(&r, &[0x24, 0x21, 1, 0x20], 0, 3), &[], 0)?;
+    b.check(ask(&r, &P, 0, 0), &[], 0)?;
+    // The last line's end counts.
+    b.check(ask(&r, &[0x21, 1], 0, 1), &[0], 1)?;
+    b.check(ask(&r, &[0x21, 1], 0, 0), &[0], 0)?;
+    b.check(ask(&r, &[0x21, 1], 1, 1), &[0], 0)?;
+    ok()
+}
+
+/// Long chains with a handful of states alive; the time is printed and never judged.
+fn million(b: &Bench) -> Result<String, String> {
+    let lines = [
+        line(0, 1, 1, 1, 1),
+        line(1, 2, 1, 1, 0),
+        line(1, 2, 2, 1, 0),
+        line(0, 1, 2, 1, 1),
+    ];
+    let rec = written(2, &lines);
+    // Laps: a start kept, the same boat back, any number of times.
+    let laps = [0x26, 0x27, 1, 0, 0x24, 0x22, 2, 0, 0x25, 0x22, 2, 0, 0x20];
+    let asked = ask(&rec, &laps, 0, 0);
+    let mut chain: Vec<u16> = (0..1_000_000u32)
+        .map(|n| [0, 1, 3, 2][n as usize % 4])
+        .collect();
+    let clock = Instant::now();
+    b.check(asked, &chain, 1)?;
+    let compared = clock.elapsed();
+    let mut work = dirt(&mut Random::new(1), exact(asked));
+    let clock = Instant::now();
+    let reply = b.library.check(asked, &chain, &mut work);
+    let alone = clock.elapsed();
+    expect("a million entries", reply, 1)?;
+    // The last line's boat is wrong; its number is missing; the first line is.
+    chain[999_999] = 1;
+    b.check(asked, &chain, 0)?;
+    chain[999_999] = 4;
+    b.check(asked, &chain, refused(18, 0))?;
+    chain[999_999] = 2;
+    chain[0] = 1;
+    b.check(asked, &chain, 0)?;
+    chain[999_999] = 65_535;
+    b.check(asked, &chain, refused(18, 0))?;
+    Ok(format!(
+        "{alone:?} for a yes, {compared:?} with the comparison"
+    ))
+}
+
+fn repeat_and_other(b: &Bench) -> Result<String, String> {
+    let rec = written(
+        1,
+        &[
+            line(0, 1, 1, 1, 0),
+            line(0, 2, 1, 2, 0),
+            line(0, 1, 2, 1, 0),
+        ],
+    );
+    let other = [0x27, 1, 0, 0x23, 1, 0];
+    b.check(ask(&rec, &other, 0, 0), &[0, 2], 1)?;
+    b.check(ask(&rec, &other, 0, 0), &[0, 0], 0)?;
+    b.check(ask(&rec, &other, 0, 0), &[0, 1], 0)?;
+    b.check(ask(&rec, &[0x26, 0x26, 0x20], 0, 0), &[], 1)?;
+    b.check(ask(&rec, &[0x26, 0x26, 0x20], 0, 0), &[0], 0)?;
+    let nullable = [0x26, 0x26, 0x24, 0x20, 0x26, 0x21, 1];
+    b.check(ask(&rec, &nullable, 0, 0), &[], 1)?;
+    b.check(ask(&rec, &nullable, 0, 0), &[0, 2, 0, 0], 1)?;
+    b.check(ask(&rec, &nullable, 0, 0), &[0, 1, 0], 0)?;
+    // An unread number is compared like every other.
+    let unread = written(
+        1,
+        &[
+            line(0, 1, 0, 0, 0),
+            line(0, 2, 0, 0, 0),
+            line(0, 2, 1, 0, 0),
+        ],
+    );
+    b.check(ask(&unread, &[0x27, 1, 3, 0x22, 2, 3], 0, 0), &[0, 1], 1)?;
+    b.check(ask(&unread, &[0x27, 1, 3, 0x22, 2, 3], 0, 0), &[0, 2], 0)?;
+    b.check(ask(&unread, &[0x27, 1, 3, 0x23, 2, 3], 0, 0), &[0, 1], 0)?;
+    b.check(ask(&unread, &[0x27, 1, 3, 0x23, 2, 3], 0, 0), &[0, 2], 1)?;
+    ok()
+}
+
+// ---- writing
+
+fn begin_traps(b: &Bench) -> Result<String, String> {
+    let mut random = Random::new(30);
+    for room in [0, 1, 3, 4, 5, 40] {
+        let buf = dirty_bytes(&mut random, room);
+        b.begin(&buf, 0, refused(2, 0))?;
+        b.begin(&buf, 1_025, refused(2, 0))?;
+        b.begin(&buf, 65_535, refused(2, 0))?;
+        for places in [1, 255, 256, 258, 1_024] {
+            let expected = if room < 4 { refused(23, 0) } else { 4 };
+            b.begin(&buf, places, expected)?;
+        }
+    }
+    let mut buf = [9; 6];
+    b.library.begin(&mut buf, 0x0203);
+    if buf != [1, 2, 3, 0, 9, 9] {
+        return Err(format!("begin wrote {buf:02x?}"));
+    }
+    ok()
+}
+
+fn add_traps(b: &Bench) -> Result<String, String> {
+    let good = line(0, 1, 7, 0x01_0203, 1);
+    let mut buf = written(2, &[]);
+    buf.extend([9; 21]);
+    // The bytes, over the old end byte, and a new end byte.
+    let after = b.add(&buf, 4, good, 14)?;
+    if after[..15] != [1, 0, 2, 2, 0, 0, 1, 7, 1, 2, 3, 0, 1, 0, 9] {
+        return Err(format!("add wrote {:02x?}", &after[..15]));
+    }
+    // Line by line: all earlier lines stay.
+    let mut grown = buf.clone();
+    let mut lines = Vec::new();
+    for n in 0..2 {
+        let next = line(n, 3 + n as u8, 0, 16_777_215, 1 - n);
+        grown = b.add(&grown, 4 + 10 * n as usize, next, 14 + 10 * n as u64)?;
+        lines.push(next);
+        let len = 14 + 10 * n as usize;
+        if grown[..len] != written(2, &lines) {
+            return Err("a line that was added is not read back".to_string());
+        }
+        b.read(&grown[..len], n, 5)?;
+    }
+    // 31: 20, the record, 5, 6, 21, 22, 23.
+    b.add(&buf, 26, good, refused(20, 0))?;
+    b.add(&buf, usize::MAX, good, refused(20, 0))?;
+    b.add(&buf, usize::MAX - 9, good, refused(20, 0))?;
+    b.add(&[], 1, line(9, 0, 0, u32::MAX, 9), refused(20, 0))?;
+    b.add(&[], 0, good, refused(2, 0))?;
+    b.add(&buf, 3, good, refused(3, 0))?;
+    b.add(&buf, 5, good, refused(7, 0))?;
+    b.add(&buf, 25, good, refused(7, 0))?;
+    b.add(&buf, 4, line(2, 0, 0, u32::MAX, 0), refused(5, 0))?;
+    b.add(&buf, 4, line(0, 0, 0, u32::MAX, 2), refused(5, 0))?;
+    b.add(&buf, 4, line(0, 0, 0, u32::MAX, 1), refused(6, 0))?;
+    b.add(&buf, 4, line(0, 16, 0, 0, 1), refused(6, 0))?;
+    b.add(&buf, 4, line(0, 15, 0, 16_777_216, 1), refused(21, 0))?;
+    b.add(&buf, 4, line(0, 15, 255, 16_777_215, 1), 14)?;
+    b.add(&buf[..13], 4, good, refused(23, 0))?;
+    b.add(&buf[..4], 4, good, refused(23, 0))?;
+    b.add(&buf[..4], 4, line(0, 1, 0, u32::MAX, 1), refused(21, 0))?;
+    b.add(&buf[..14], 4, good, 14)?;
+    // A record's own fault before the new line's.
+    let bad = written(1, &[line(0, 0, 1, 1, 0)]);
+    b.add(&bad, bad.len(), line(9, 9, 9, 9, 9), refused(6, 0))?;
+    // 2: the length, and not the buffer's.
+    let mut large = written(2, &[]);
+    large.resize(60_000, 7);
+    b.add(&large, 4, good, 14)?;
+    b.add(&large, 40_964, good, refused(7, 0))?;
+    b.add(&large, 40_965, good, refused(1, 0))?;
+    // 22 before 23, and a last line that still goes in.
+    let one_left = written(2, &vec![good; MOST_LINES - 1]);
+    let mut room = one_left.clone();
+    room.resize(one_left.len() + 9, 1);
+    b.add(&room, one_left.len(), good, refused(23, 0))?;
+    room.push(1);
+    let full = b.add(&room, one_left.len(), good, 40_964)?;
+    b.read(&full, 4_095, 5)?;
+    b.add(&full, full.len(), good, refused(22, 0))?;
+    b.add(
+        &full,
+        full.len(),
+        line(0, 1, 1, 16_777_216, 1),
+        refused(21, 0),
+    )?;
+    let mut more = full.clone();
+    more.resize(full.len() + 20, 3);
+    b.add(&more, full.len(), good, refused(22, 0))?;
+    ok()
+}
+
+// ---- 001's examples
+
+/// The three languages of Example 2, against what the paper says of them in words.
+fn example_2(b: &Bench) -> Result<String, String> {
+    let rec = written(
+        1,
+        &[
+            line(0, 1, 1, 1, 0),
+            line(0, 1, 1, 2, 0),
+            line(0, 1, 2, 1, 0),
+        ],
+    );
+    let first_differs: &[u8] = &[0x27, 1, 0, 0x26, 0x23, 1, 0];
+    let first_is_last: &[u8] = &[0x27, 1, 0, 0x25, 0x26, 0x21, 1, 0x22, 1, 0];
+    let two_alike: &[u8] = &[
+        0x25, 0x26, 0x21, 1, 0x25, 0x27, 1, 0, 0x25, 0x26, 0x21, 1, 0x22, 1, 0, 0x26, 0x21, 1,
+    ];
+    let mut words: Vec<Vec<u16>> = vec![vec![]];
+    for _ in 0..5 {
+        for word in &words {
+            let n = word.len();
+            let differs = n > 0 && word[1..].iter().all(|boat| *boat != word[0]);
+            let ends = n > 1 && word[0] == word[n - 1];
+            let alike = (0..n).any(|i| word[i + 1..].contains(&word[i]));
+            b.check(ask(&rec, first_differs, 0, 0), word, differs as u64)?;
+            b.check(ask(&rec, first_is_last, 0, 0), word, ends as u64)?;
+            b.check(ask(&rec, two_alike, 0, 0), word, alike as u64)?;
+        }
+        let mut longer = Vec::new();
+        for word in &words {
+            for boat in 0..3 {
+                longer.push([&word[..], &[boat]].concat());
+            }
+        }
+        words = longer;
+    }
+    ok()
+}
+
+/// A graph of Proposition 3 with n lines to go up and n to come down.
+/// Kinds: 1 and 2 are the ends' own, 3 goes up, 4 comes down.
+pub fn proposition_3_day(n: u16) -> Vec<u8> {
+    let mut lines = vec![line(0, 1, 0, 0, 1), line(1, 1, 0, 0, 0)];
+    for i in 1..=n {
+        lines.push(line(i, 3, 1, i as u32, i + 1));
+        lines.push(line(i + 1, 4, 2, i as u32, i));
+    }
+    lines.push(line(n + 1, 2, 0, 0, n + 2));
+    lines.push(line(n + 2, 2, 0, 0, n + 1));
+    written(n + 3, &lines)
+}
+
+/// The pattern of Proposition 3 with so many nested keeps; all in one slot, or each in
+/// its own.
+pub fn proposition_3_pattern(keeps: u8, one_slot: bool) -> Vec<u8> {
+    fn inner(level: u8, up: bool, one_slot: bool) -> Vec<u8> {
+        let (kind, end) = if up { (3, 1) } else { (4, 2) };
+        if level == 0 {
+            return vec![0x21, kind];
+        }
+        let slot = if one_slot { 0 } else { level };
+        let mut bytes = vec![0x27, kind, slot, 0x25, 0x26];
+        bytes.extend(inner(level - 1, !up, one_slot));
+        bytes.extend([0x25, 0x21, end, 0x25, 0x21, end, 0x25, 0x26, 0x21, kind]);
+        bytes.extend([0x22, kind, slot]);
+        bytes
+    }
+    let mut bytes = vec![0x25, 0x21, 1, 0x25, 0x26];
+    bytes.extend(inner(keeps, true, one_slot));
+    bytes.extend([0x21, 2]);
+    bytes
+}
+
+/// How long the chain is, by the steps of the proof.
+pub fn proposition_3_length(n: u64, keeps: u8) -> u64 {
+    fn up(i: u64, n: u64, level: u8) -> u64 {
+        if level == 0 {
+            return 1;
+        }
+        let back: u64 = (1..=i).map(|l| down(l, n, level - 1)).sum();
+        1 + back + 2 + (i - 1) + 1
+    }
+    fn down(i: u64, n: u64, level: u8) -> u64 {
+        if level == 0 {
+            return 1;
+        }
+        let back: u64 = (i..=n).map(|l| up(l, n, level - 1)).sum();
+        1 + back + 2 + (n - i) + 1
+    }
+    2 + (1..=n).map(|i| up(i, n, keeps)).sum::<u64>()
+}
+
+fn proposition_3(b: &Bench) -> Result<String, String> {
+    let mut note = String::new();
+    for (keeps, most) in [(1, 12), (2, 8), (3, 6)] {
+        for n in [1, 2, 3, most] {
+            for one_slot in [true, false] {
+                let rec = proposition_3_day(n);
+                let pat = proposition_3_pattern(keeps, one_slot);
+                let asked = ask(&rec, &pat, 0, n + 2);
+                let length = proposition_3_length(n as u64, keeps);
+                b.find_in(asked, exact(asked), length as usize, length)?;
+                b.find_in(asked, exact(asked), 3, refused(19, length))?;
+                if n == most && one_slot {
+                    let comma = if note.is_empty() { "" } else { ", " };
+                    note += &format!("{comma}nested {keeps} deep: {length} lines");
+                }
+                // Backwards there is nothing.
+                b.find_in(ask(&rec, &pat, n + 2, 0), exact(asked), 3, NO_CHAIN)?;
+            }
+        }
+    }
+    Ok(note)
+}
+
+// ---- vectors
+
+struct Vector {
+    rec: Vec<u8>,
+    pat: Vec<u8>,
+    to: u16,
+    found: Option<Vec<u16>>,
+    /// Chains that are accepted too, but are not the first shortest, or are not accepted.
+    others: Vec<(Vec<u16>, u64)>,
+}
+
+fn vector_list() -> Vec<Vector> {
+    let one = |lines: &[Line]| written(1, lines);
+    vec![
+        // V1: the second part of either has the lower line.
+        Vector {
+            rec: one(&[line(0, 1, 2, 2, 0), line(0, 2, 1, 2, 0)]),
+            pat: vec![0x24, 0x21, 2, 0x21, 1],
+            to: 0,
+            found: Some(vec![0]),
+            others: vec![(vec![1], 1), (vec![0, 1], 0)],
+        },
+        // V2: two states stand behind the first line.
+        Vector {
+            rec: one(&[line(0, 1, 1, 1, 0), line(0, 2, 1, 1, 0)]),
+            pat: vec![0x24, 0x25, 0x21, 1, 0x21, 2, 0x25, 0x21, 1, 0x21, 1],
+            to: 0,
+            found: Some(vec![0, 0]),
+            others: vec![(vec![0, 1], 1), (vec![1, 0], 0)],
+        },
+        // V3: more lines than places.
+        Vector {
+            rec: one(&[line(0, 1, 1, 1, 0)]),
+            pat: vec![0x25, 0x21, 1, 0x25, 0x21, 1, 0x21, 1],
+            to: 0,
+            found: Some(vec![0, 0, 0]),
+            others: vec![(vec![0, 0], 0), (vec![0, 0, 0, 0], 0)],
+        },
+        // V4: a place passed twice.
+        Vector {
+            rec: written(2, &[line(0, 1, 1, 1, 0), line(0, 2, 1, 1, 1)]),
+            pat: vec![0x25, 0x21, 1, 0x21, 2],
+            to: 1,
+            found: Some(vec![0, 1]),
+            others: vec![(vec![1], 0), (vec![0, 0, 1], 0)],
+        },
+        // V7: rounds of nothing.
+        Vector {
+            rec: written(2, &[line(0, 1, 1, 1, 1)]),
+            pat: vec![0x26, 0x26, 0x20],
+            to: 0,
+            found: Some(vec![]),
+            others: vec![(vec![0], 0)],
+        },
+        Vector {
+            rec: written(2, &[line(0, 1, 1, 1, 1)]),
+            pat: vec![0x26, 0x26, 0x20],
+            to: 1,
+            found: None,
+            others: vec![(vec![], 0), (vec![0], 0)],
+        },
+        // V12: two steps that take no line against one that takes one.
+        Vector {
+            rec: one(&[line(0, 2, 1, 1, 0)]),
+            pat: vec![0x24, 0x25, 0x20, 0x20, 0x21, 2],
+            to: 0,
+            found: Some(vec![]),
+            others: vec![(vec![0], 1), (vec![0, 0], 0)],
+        },
+    ]
+}
+
+fn vectors_checked(b: &Bench) -> Result<String, String> {
+    for v in vector_list() {
+        let asked = ask(&v.rec, &v.pat, 0, v.to);
+        if let Some(chain) = &v.found {
+            b.check(asked, chain, 1)?;
+        }
+        for (chain, expected) in &v.others {
+            b.check(asked, chain, *expected)?;
+        }
+    }
+    let (rec, pat) = vector_11_day();
+    let asked = ask(&rec, &pat, 0, 100);
+    let chain = vector_11_chain();
+    b.check(asked, &chain, 1)?;
+    b.check(asked, &chain[..924 * 50], 0)?;
+    b.check(ask(&rec, &pat, 0, 50), &chain[..924 * 50], 1)?;
+    ok()
+}
+
+fn vectors(b: &Bench) -> Result<String, String> {
+    for v in vector_list() {
+        let asked = ask(&v.rec, &v.pat, 0, v.to);
+        match &v.found {
+            Some(chain) => b.found(asked, chain)?,
+            None => b.none(asked)?,
+        }
+    }
+    ok()
+}
+
+/// A hundred boats, each of which goes down the same long course and back to the next one.
+pub fn vector_11_day() -> (Vec<u8>, Vec<u8>) {
+    let mut lines = Vec::new();
+    for i in 0..100 {
+        lines.push(line(i, 1, 1, i as u32 + 1, 101));
+    }
+    for j in 0..922 {
+        lines.push(line(101 + j, 2, 9, 9, 102 + j));
+    }
+    for i in 0..100 {
+        lines.push(line(1_023, 3, 1, i as u32 + 1, i + 1));
+    }
+    let pat = vec![0x26, 0x27, 1, 0, 0x25, 0x26, 0x21, 2, 0x22, 3, 0];
+    (written(1_024, &lines), pat)
+}
+
+fn vector_11_chain() -> Vec<u16> {
+    let mut chain = Vec::new();
+    for i in 0..100 {
+        chain.push(i);
+        chain.extend(100..1_022);
+        chain.push(1_022 + i);
+    }
+    chain
+}
+
+fn vector_11(b: &Bench) -> Result<String, String> {
+    let (rec, pat) = vector_11_day();
+    let asked = ask(&rec, &pat, 0, 100);
+    b.words(&rec, &pat, words_of(731_136))?;
+    let chain = vector_11_chain();
+    expect("V11's length", chain.len() as u64, 92_400)?;
+    let work_len = exact(asked);
+    let expected = request::find(&rec, &pat, 0, 100, work_len, 92_400);
+    if expected != FindReply::Found(chain) {
+        return Err("this program finds another chain for V11".to_string());
+    }
+    b.find_in(asked, work_len, 92_400, 92_400)?;
+    b.find_in(asked, work_len, 92_399, refused(19, 92_400))?;
+    b.find_in(asked, work_len, 2_048, refused(19, 92_400))?;
+    ok()
+}
+
+// ---- the finder's questions, areas and outputs
+
+fn finder_order(b: &Bench) -> Result<String, String> {
+    let r = r();
+    b.find_in(ask(&[1, 0, 1], &[0xFF], 9, 9), 0, 0, refused(3, 0))?;
+    b.find_in(ask(&r, &[0xFF], 9, 9), 0, 0, refused(8, 0))?;
+    let over = boats(1_024, 64);
+    let mut pat = vec![0x27, 1, 0];
+    pat.extend(repeats(13, &[0x21, 1]));
+    b.find_in(ask(&over, &pat, 1_024, 0), 10, 4, refused(15, 0))?;
+    b.find_in(ask(&over, &pat, 0, 1_024), 10, 4, refused(15, 0))?;
+    b.find_in(ask(&over, &pat, 0, 0), 10, 4, refused(16, 0))?;
+    b.find_in(ask(&over, &pat, 0, 0), 4_300_000, 4, refused(16, 0))?;
+    b.find_in(ask(&r, &P, 0, 3), 8_703, 4, refused(17, 0))?;
+    b.find_in(ask(&r, &P, 0, 3), 0, 0, refused(17, 0))?;
+    ok()
+}
+
+fn finder_areas(b: &Bench) -> Result<String, String> {
+    let (r, t) = (r(), t());
+    for more in [0, 1, 63, 100_000] {
+        b.find_in(ask(&r, &P, 0, 3), 8_704 + more, 3, 3)?;
+        b.find_in(ask(&r, &P, 3, 0), 8_704 + more, 3, NO_CHAIN)?;
+        b.find_in(ask(&r, &P, 0, 3), 8_704 + more, 2, refused(19, 3))?;
+    }
+    for word in [0, 1, 2, 7, 1_024, u32::MAX, 0x8000_0000] {
+        let asked = ask(&t, &S, 0, 0);
+        let work = vec![word; 8_192 + 4 * 54 + 5];
+        let out = vec![word as u16; 6];
+        expect("found", compare::find(b.library, asked, &work, &out)?, 4)?;
+    }
+    ok()
+}
+
+fn outputs(b: &Bench) -> Result<String, String> {
+    let r = r();
+    // 23: exact, one short, and no room for a chain of no lines.
+    b.find_in(ask(&r, &P, 0, 3), 8_704, 3, 3)?;
+    b.find_in(ask(&r, &P, 0, 3), 8_704, 2, refused(19, 3))?;
+    b.find_in(ask(&r, &P, 0, 3), 8_704, 0, refused(19, 3))?;
+    b.find_in(ask(&r, &P, 0, 3), 8_704, 70_000, 3)?;
+    b.find_in(ask(&E, &[0x20], 0, 0), 8_200, 0, 0)?;
+    // 27: none, whatever the output.
+    b.find_in(ask(&r, &P, 1, 3), 8_704, 0, NO_CHAIN)?;
+    b.find_in(ask(&r, &P, 1, 3), 8_704, 2_000, NO_CHAIN)?;
+    ok()
+}
+
+/// Requests of the largest search size that really search.
+fn largest(b: &Bench) -> Result<String, String> {
+    let clock = Instant::now();
+    // Two rings that don't meet; each line comes twice, with different boats.
+    let mut lines = Vec::new();
+    for i in 0..1_024 {
+        let half = i / 512 * 512;
+        for shift in [0, 7] {
+            let to = half + (i + 1) % 512;
+            lines.push(line(i, 1, 1, (i as u32 + shift) % 63, to));
+        }
+    }
+    lines.push(line(300, 2, 1, 0, 301));
+    let rec = written(1_024, &lines);
+    // A boat kept, others after it, and that boat once more.
+    let core = [0x27, 1, 0, 0x25, 0x26, 0x23, 1, 0, 0x22, 2, 0];
+    let pat = repeats(10, &core);
+    b.words(&rec, &pat, 4_202_496)?;
+    b.find_in(ask(&rec, &pat, 0, 301), 4_202_496, 301, 301)?;
+    b.find_in(ask(&rec, &pat, 0, 301), 4_202_496, 300, refused(19, 301))?;
+    b.find_in(ask(&rec, &pat, 0, 600), 4_202_496, 300, NO_CHAIN)?;
+
+    // Four places, two keeps inside each other.
+    let mut lines: Vec<Line> = (0..63)
+        .map(|n| line(n % 3, 1, 1, n as u32, (n + 1) % 3))
+        .collect();
+    lines.push(line(1, 2, 1, 0, 2));
+    let none = written(4, &lines);
+    lines.push(line(2, 2, 1, 10, 3));
+    let found = written(4, &lines);
+    let core = [
+        0x27, 1, 0, 0x25, 0x26, 0x23, 1, 0, 0x27, 1, 1, 0x25, 0x26, 0x23, 1, 1, 0x25, 0x22, 2, 0,
+        0x22, 2, 1,
+    ];
+    let pat = repeats(52, &core);
+    b.words(&found, &pat, 4_202_496)?;
+    b.found(ask(&found, &pat, 0, 3), &[0, 10, 2, 0, 63, 64])?;
+    b.none(ask(&none, &pat, 0, 3))?;
+    Ok(format!("{:?} with the comparison", clock.elapsed()))
+}

@@ -1,0 +1,755 @@
+//! Requests made at random, leaning towards what goes wrong: laps and self-loops, so that
+//! chains get longer than the list of places; nested keeps that use a slot again; one
+//! sail number in two classes; patterns that accept the empty word under repeat; every
+//! question at its edge; damaged bytes; areas and outputs that fit exactly or just don't.
+
+use crate::membership::{Letter, Valuation};
+use crate::pattern::{read_pattern, Node};
+use crate::random::Random;
+use crate::record::{written, Boat, Line, LONGEST, MOST_LINES};
+use crate::request::words;
+
+/// A request to the checker or the finder.
+pub struct Request {
+    pub rec: Vec<u8>,
+    pub pat: Vec<u8>,
+    pub from: u16,
+    pub to: u16,
+    /// For the checker.
+    pub chain: Vec<u16>,
+    pub work_len: usize,
+    /// For the finder.
+    pub room: Room,
+}
+
+/// How long the output is.
+#[derive(Clone, Copy, Debug)]
+pub enum Room {
+    Exact,
+    OneShort,
+    More(usize),
+    Just(usize),
+}
+
+impl Room {
+    /// The output's length, the shortest chain having so many lines.
+    pub fn entries(self, length: usize) -> usize {
+        match self {
+            Room::Exact => length,
+            Room::OneShort => length.saturating_sub(1),
+            Room::More(more) => length + more,
+            Room::Just(entries) => entries,
+        }
+    }
+}
+
+/// What lines and patterns of one request draw from.
+struct Pool {
+    kinds: Vec<u8>,
+    boats: Vec<Boat>,
+}
+
+const fn boat(class: u8, sail: u32) -> Boat {
+    Boat { class, sail }
+}
+
+fn pool(random: &mut Random) -> Pool {
+    let mut kinds = vec![1, 2, 3, 15];
+    let most = random.pick(&[1, 2, 2, 3, 3, 4]);
+    kinds.truncate(most);
+    // Numbers shared by two classes, the boat of an unread number, and bytes at their edges.
+    let mut boats = vec![
+        boat(1, 150),
+        boat(2, 150),
+        boat(1, 151),
+        boat(0, 0),
+        boat(0, 150),
+        boat(1, 0),
+        boat(255, 16_777_215),
+        boat(1, 256 + 150),
+    ];
+    random.shuffle(&mut boats);
+    let most = random.between(1, 5);
+    boats.truncate(most);
+    Pool { kinds, boats }
+}
+
+// ---- patterns
+
+/// The bytes of a pattern with at most so many commands.
+fn grown(random: &mut Random, pool: &Pool, most: usize) -> Vec<u8> {
+    let mut bytes = Vec::new();
+    grow(random, pool, most, &mut Vec::new(), &mut bytes);
+    bytes
+}
+
+fn grow(random: &mut Random, pool: &Pool, most: usize, around: &mut Vec<u8>, bytes: &mut Vec<u8>) {
+    let choice = if most == 1 { 0 } else { random.below(20) };
+    match choice {
+        0..=2 => grow_leaf(random, pool, around, bytes),
+        3..=11 if most >= 3 => {
+            bytes.push(if choice < 9 { 0x25 } else { 0x24 });
+            let first = random.between(1, most - 2);
+            grow(random, pool, first, around, bytes);
+            grow(random, pool, most - 1 - first, around, bytes);
+        }
+        12..=19 if choice >= 15 && around.len() < 3 => {
+            let slot = if !around.is_empty() && random.once_in(2) {
+                random.pick(around)
+            } else {
+                random.below(4) as u8
+            };
+            bytes.extend([0x27, random.pick(&pool.kinds), slot]);
+            around.push(slot);
+            grow(random, pool, most - 1, around, bytes);
+            around.pop();
+        }
+        _ => {
+            bytes.push(0x26);
+            grow(random, pool, most - 1, around, bytes);
+        }
+    }
+}
+
+fn grow_leaf(random: &mut Random, pool: &Pool, around: &[u8], bytes: &mut Vec<u8>) {
+    let kind = random.pick(&pool.kinds);
+    let choice = random.below(10);
+    if !around.is_empty() && choice < 7 {
+        let slot = random.pick(around);
+        bytes.extend([if choice < 4 { 0x22 } else { 0x23 }, kind, slot]);
+    } else if choice == 9 || (around.is_empty() && choice == 8) {
+        bytes.push(0x20);
+    } else {
+        bytes.extend([0x21, kind]);
+    }
+}
+
+/// A pattern of so many commands whose keeps nest so deep, for sizes at their edge.
+fn padded(random: &mut Random, commands: usize, keeps: usize) -> Vec<u8> {
+    let mut bytes = Vec::new();
+    for _ in 0..keeps {
+        bytes.extend([0x27, 1, random.below(4) as u8]);
+    }
+    bytes.extend(vec![0x26; commands - keeps - 1]);
+    bytes.extend([0x21, 1]);
+    bytes
+}
+
+/// Patterns at the edges of questions 8 to 14.
+fn edge_pattern(random: &mut Random) -> Vec<u8> {
+    let repeats = |count: usize, then: &[u8]| {
+        let mut bytes = vec![0x26; count];
+        bytes.extend(then);
+        bytes
+    };
+    let slot = random.below(4) as u8;
+    match random.below(18) {
+        0 => repeats(62, &[0x20]),
+        1 => repeats(63, &[0x20]),
+        2 => repeats(63, &[]),
+        3 => repeats(63, &[0xFF]),
+        4 => repeats(63, &[0x21]),
+        5 => repeats(62, &[0x20, 0x20]),
+        6 => repeats(62, &[0x21, 1]),
+        7 => repeats(62, &[0x21, 0]),
+        8 => vec![0x27, 1, 0, 0x27, 1, 1, 0x27, 1, 2, 0x22, 1, slot],
+        9 => vec![0x27, 1, 0, 0x27, 1, 1, 0x27, 1, 2, 0x27, 1, slot, 0x20],
+        10 => vec![0x27, 1, 0, 0x27, 1, 0, 0x27, 1, 0, 0x27, 1, 7, 0x20],
+        11 => vec![0x25, 0x27, 1, 0, 0x20, 0x22, 1, 0],
+        12 => vec![0x27, 1, 0, 0x25, 0x27, 1, slot, 0x20, 0x22, 1, slot],
+        13 => vec![0x22, 0],
+        14 => vec![0x22, 0, 5],
+        15 => vec![0x22, 15, slot],
+        16 => vec![],
+        _ => {
+            // Thirty-one pairs and one more: 63 commands of the widest kind.
+            let mut bytes = vec![0x27, 1, slot];
+            for _ in 0..30 {
+                bytes.extend([0x25, 0x22, 1, slot]);
+            }
+            bytes.extend([0x26, 0x23, 1, slot]);
+            bytes
+        }
+    }
+}
+
+/// Patterns that are known to be hard to get right.
+fn known_pattern(random: &mut Random) -> Vec<u8> {
+    let known: [&[u8]; 10] = [
+        &[
+            0x27, 1, 0, 0x25, 0x22, 2, 0, 0x25, 0x26, 0x22, 3, 0, 0x22, 15, 0,
+        ],
+        &[0x27, 1, 0, 0x25, 0x27, 1, 0, 0x23, 1, 0, 0x22, 1, 0],
+        &[0x26, 0x26, 0x20],
+        &[0x26, 0x24, 0x20, 0x26, 0x21, 1],
+        &[0x24, 0x25, 0x21, 1, 0x21, 2, 0x25, 0x21, 1, 0x21, 1],
+        &[0x24, 0x25, 0x20, 0x20, 0x21, 2],
+        &[0x26, 0x27, 1, 0, 0x25, 0x26, 0x21, 2, 0x22, 3, 0],
+        &[0x27, 1, 0, 0x26, 0x23, 1, 0],
+        &[
+            0x25, 0x26, 0x21, 1, 0x25, 0x27, 1, 0, 0x25, 0x26, 0x21, 1, 0x22, 1, 0, 0x26, 0x21, 1,
+        ],
+        &[
+            0x27, 1, 2, 0x27, 1, 2, 0x25, 0x26, 0x27, 1, 2, 0x23, 1, 2, 0x22, 1, 2,
+        ],
+    ];
+    random.pick(&known).to_vec()
+}
+
+// ---- words and days
+
+/// A word of the pattern's language.
+fn sampled(
+    random: &mut Random,
+    pool: &Pool,
+    node: &Node,
+    v: Valuation,
+    rounds: usize,
+) -> Vec<Letter> {
+    match node {
+        Node::Nothing => vec![],
+        Node::Line { kind } => vec![Letter {
+            kind: *kind,
+            boat: random.pick(&pool.boats),
+        }],
+        Node::Same { kind, slot } => vec![Letter {
+            kind: *kind,
+            boat: v[*slot as usize].expect("kept"),
+        }],
+        Node::Other { kind, slot } => {
+            let kept = v[*slot as usize].expect("kept");
+            let others: Vec<Boat> = pool.boats.iter().copied().filter(|b| *b != kept).collect();
+            let boat = if others.is_empty() {
+                // The same number in another class.
+                boat(kept.class ^ 3, kept.sail)
+            } else {
+                random.pick(&others)
+            };
+            vec![Letter { kind: *kind, boat }]
+        }
+        Node::Either(one, two) => {
+            let chosen = if random.once_in(2) { one } else { two };
+            sampled(random, pool, chosen, v, rounds)
+        }
+        Node::Then(first, second) => {
+            let mut word = sampled(random, pool, first, v, rounds);
+            word.extend(sampled(random, pool, second, v, rounds));
+            word
+        }
+        Node::Repeat(body) => {
+            let mut word = Vec::new();
+            for _ in 0..random.below(rounds + 1) {
+                word.extend(sampled(random, pool, body, v, rounds / 2));
+            }
+            word
+        }
+        Node::Keep { kind, slot, inner } => {
+            let boat = random.pick(&pool.boats);
+            let mut inside = v;
+            inside[*slot as usize] = Some(boat);
+            let mut word = vec![Letter { kind: *kind, boat }];
+            word.extend(sampled(random, pool, inner, inside, rounds));
+            word
+        }
+    }
+}
+
+struct Day {
+    places: u16,
+    lines: Vec<Line>,
+    from: u16,
+    to: u16,
+    chain: Vec<u16>,
+}
+
+fn any_line(random: &mut Random, pool: &Pool, places: u16) -> Line {
+    let boat = random.pick(&pool.boats);
+    let from = random.below(places as usize) as u16;
+    Line {
+        from,
+        kind: random.pick(&pool.kinds),
+        class: boat.class,
+        sail: boat.sail,
+        to: next_place(random, from, places),
+    }
+}
+
+/// The same place, the next one round the course, or any.
+fn next_place(random: &mut Random, place: u16, places: u16) -> u16 {
+    match random.below(3) {
+        0 => place,
+        1 => (place + 1) % places,
+        _ => random.below(places as usize) as u16,
+    }
+}
+
+/// A day in which a chain has this word, among lines that look alike.
+fn laid_out(random: &mut Random, pool: &Pool, word: &[Letter], places: u16) -> Day {
+    let from = random.below(places as usize) as u16;
+    let mut lines: Vec<Line> = Vec::new();
+    let mut chain = Vec::new();
+    let mut place = from;
+    for letter in word {
+        let usable: Vec<usize> = (0..lines.len())
+            .filter(|&n| {
+                let line = lines[n];
+                line.from == place && line.kind == letter.kind && line.boat() == letter.boat
+            })
+            .collect();
+        let number = if !usable.is_empty() && !random.once_in(4) {
+            random.pick(&usable)
+        } else {
+            lines.push(Line {
+                from: place,
+                kind: letter.kind,
+                class: letter.boat.class,
+                sail: letter.boat.sail,
+                to: next_place(random, place, places),
+            });
+            lines.len() - 1
+        };
+        chain.push(number);
+        place = lines[number].to;
+    }
+    let planted = lines.len();
+    for _ in 0..random.pick(&[0, 1, 3, 6, 12]) {
+        let mut line = any_line(random, pool, places);
+        if planted > 0 && !random.once_in(3) {
+            let like = lines[random.below(planted)];
+            line = match random.below(6) {
+                0 => like,
+                1 => Line {
+                    kind: line.kind,
+                    ..like
+                },
+                2 => Line {
+                    from: line.from,
+                    ..like
+                },
+                3 => Line {
+                    to: line.to,
+                    ..like
+                },
+                _ => Line {
+                    class: line.class,
+                    sail: line.sail,
+                    ..like
+                },
+            };
+        }
+        lines.push(line);
+    }
+    // The order of lines is what ties are decided by, so it is mixed.
+    let mut order: Vec<usize> = (0..lines.len()).collect();
+    random.shuffle(&mut order);
+    let mut place_of = vec![0u16; lines.len()];
+    for (new, &old) in order.iter().enumerate() {
+        place_of[old] = new as u16;
+    }
+    Day {
+        places,
+        lines: order.iter().map(|&old| lines[old]).collect(),
+        from,
+        to: place,
+        chain: chain.iter().map(|&old| place_of[old]).collect(),
+    }
+}
+
+/// A day of lines that nobody planned, and a walk along them.
+fn unplanned(random: &mut Random, pool: &Pool) -> Day {
+    let places = random.pick(&[1, 1, 2, 2, 3, 4, 6, 12]);
+    let count = random.pick(&[0, 1, 2, 3, 5, 8, 13, 30, 60]);
+    let lines: Vec<Line> = (0..count).map(|_| any_line(random, pool, places)).collect();
+    let from = random.below(places as usize) as u16;
+    let mut to = from;
+    let mut chain = Vec::new();
+    for _ in 0..random.pick(&[0, 1, 2, 3, 4, 6, 9, 14]) {
+        let out: Vec<u16> = (0..count)
+            .filter(|&n| lines[n].from == to)
+            .map(|n| n as u16)
+            .collect();
+        if out.is_empty() {
+            break;
+        }
+        let number = random.pick(&out);
+        chain.push(number);
+        to = lines[number as usize].to;
+    }
+    if random.once_in(3) {
+        to = random.below(places as usize) as u16;
+    }
+    Day {
+        places,
+        lines,
+        from,
+        to,
+        chain,
+    }
+}
+
+/// A day and a pattern whose search size is the largest one, or next to it.
+fn at_the_limit(random: &mut Random) -> (Day, Vec<u8>) {
+    let exact: [(u16, usize, usize, usize); 10] = [
+        (1_024, 15, 1, 63),
+        (1_024, 63, 1, 15),
+        (1_024, 63, 2, 3),
+        (256, 63, 2, 7),
+        (64, 15, 2, 31),
+        (4, 63, 2, 63),
+        (2, 15, 3, 31),
+        (1, 31, 3, 31),
+        (256, 7, 3, 7),
+        (512, 31, 3, 3),
+    ];
+    let (mut places, mut commands, keeps, mut boats) = random.pick(&exact);
+    match random.below(6) {
+        0 => boats += 1,
+        1 if commands < 63 => commands += 1,
+        2 if places < 1_024 => places += 1,
+        3 => boats -= 1,
+        _ => {}
+    }
+    let mut lines: Vec<Line> = (0..boats)
+        .map(|n| {
+            let from = random.below(places as usize) as u16;
+            Line {
+                from,
+                kind: 1,
+                class: (n % 2) as u8,
+                sail: (n / 2) as u32,
+                to: next_place(random, from, places),
+            }
+        })
+        .collect();
+    // Lines that name a boat again don't count.
+    for _ in 0..random.below(4) {
+        let like = random.pick(&lines);
+        lines.push(like);
+    }
+    let from = random.below(places as usize) as u16;
+    let day = Day {
+        places,
+        lines,
+        from,
+        to: from,
+        chain: vec![],
+    };
+    (day, padded(random, commands, keeps))
+}
+
+/// A day with as many lines as there can be, or one fewer.
+fn full_day(random: &mut Random, pool: &Pool) -> Day {
+    let places = random.pick(&[1, 3, 9]);
+    let count = MOST_LINES - random.below(2);
+    let lines: Vec<Line> = (0..count).map(|_| any_line(random, pool, places)).collect();
+    let number = random.below(count);
+    Day {
+        places,
+        from: lines[number].from,
+        to: lines[number].to,
+        chain: vec![number as u16],
+        lines,
+    }
+}
+
+// ---- damage
+
+/// Damages a record's bytes, most often where a question is about to be asked.
+pub fn damage_record(random: &mut Random, bytes: &mut Vec<u8>) {
+    let lines = bytes.len().saturating_sub(4) / 10;
+    let line = if lines > 0 {
+        3 + 10 * random.below(lines)
+    } else {
+        3
+    };
+    let count = if bytes.len() >= 3 {
+        [bytes[1], bytes[2]]
+    } else {
+        [0, 0]
+    };
+    let below_count = u16::from_be_bytes(count).wrapping_sub(1).to_be_bytes();
+    match random.below(13) {
+        0 => bytes.truncate(random.below(bytes.len() + 1)),
+        1 => bytes.extend([random.pick(&[0, 0, 1, 2, 0xFF])]),
+        2 => set(bytes, random.below(44), &[random.byte()]),
+        3 => set(
+            bytes,
+            1,
+            &random
+                .pick(&[0u16, 1, 2, 1_023, 1_024, 1_025, 65_535])
+                .to_be_bytes(),
+        ),
+        4 => set(bytes, line + 1, &random.pick(&[count, below_count])),
+        5 => set(bytes, line + 8, &random.pick(&[count, below_count])),
+        6 | 7 => set(bytes, line + 3, &[random.pick(&[0, 1, 15, 16, 255])]),
+        8 => set(bytes, line, &[random.pick(&[0, 1, 3, 0x20, 0xFF])]),
+        9 => {
+            bytes.pop();
+        }
+        10 => set(bytes, 0, &[random.pick(&[0, 2, 0xFF])]),
+        11 => {
+            let at = line.min(bytes.len());
+            let rest = bytes.split_off(at);
+            bytes.extend([1, 0, 1]);
+            bytes.extend(rest);
+        }
+        _ => {
+            let at = random.below(bytes.len() + 1);
+            bytes.insert(at, random.byte());
+        }
+    }
+}
+
+/// Damages a pattern's bytes.
+pub fn damage_pattern(random: &mut Random, bytes: &mut Vec<u8>) {
+    let at = random.below(bytes.len() + 1);
+    match random.below(8) {
+        0 => bytes.truncate(at),
+        1 => bytes.push(random.pick(&[0x20, 0x21, 0x26, 0xFF, 0])),
+        2 => set(bytes, at, &[random.byte()]),
+        3 => set(bytes, at, &[random.pick(&[0x1F, 0x20, 0x27, 0x28, 0xFF])]),
+        4 => set(bytes, at, &[random.pick(&[0, 1, 3, 4, 15, 16, 255])]),
+        5 => bytes.insert(at, random.pick(&[0x20, 0x21, 0x22, 0x25, 0x26, 0x27])),
+        6 => {
+            if at < bytes.len() {
+                bytes.remove(at);
+            }
+        }
+        _ => *bytes = edge_pattern(random),
+    }
+}
+
+/// Writes bytes over others, as far as there are any.
+fn set(bytes: &mut [u8], at: usize, new: &[u8]) {
+    for (n, &byte) in new.iter().enumerate() {
+        if let Some(old) = bytes.get_mut(at + n) {
+            *old = byte;
+        }
+    }
+}
+
+/// Any bytes, or a record and a pattern that were damaged once or more.
+pub fn any_bytes(random: &mut Random) -> (Vec<u8>, Vec<u8>) {
+    let request = request(random);
+    let (mut rec, mut pat) = (request.rec, request.pat);
+    match random.below(4) {
+        0 => {
+            let command = random.pick(&[0, 1, 1, 1]);
+            rec = vec![command, 0, random.pick(&[0, 1, 2])];
+            for _ in 0..random.below(40) {
+                let byte = random.byte();
+                rec.push(random.pick(&[0, 1, 2, byte]));
+            }
+        }
+        1 => {
+            for _ in 0..random.between(1, 3) {
+                damage_record(random, &mut rec);
+            }
+        }
+        2 if random.once_in(50) => {
+            // Around the longest record.
+            rec.resize(LONGEST + random.below(3) - 1, 0);
+        }
+        _ => {}
+    }
+    match random.below(4) {
+        0 => {
+            pat.clear();
+            for _ in 0..random.below(12) {
+                let byte = random.byte();
+                pat.push(random.pick(&[0x20 + (byte & 7), byte & 15, byte & 3, byte]));
+            }
+        }
+        1 => {
+            for _ in 0..random.between(1, 3) {
+                damage_pattern(random, &mut pat);
+            }
+        }
+        2 => pat = edge_pattern(random),
+        _ => {}
+    }
+    (rec, pat)
+}
+
+// ---- requests
+
+/// A whole request.
+pub fn request(random: &mut Random) -> Request {
+    let pool = pool(random);
+    let mut pat = match random.below(20) {
+        0..=3 => known_pattern(random),
+        4 => edge_pattern(random),
+        5..=13 => {
+            let most = random.between(1, 9);
+            grown(random, &pool, most)
+        }
+        14..=18 => {
+            let most = random.between(6, 20);
+            grown(random, &pool, most)
+        }
+        _ => {
+            let most = random.between(20, 63);
+            grown(random, &pool, most)
+        }
+    };
+    let tree = read_pattern(&pat);
+    let mut day = match (&tree, random.below(10)) {
+        (_, 0..=2) => unplanned(random, &pool),
+        (Ok(tree), _) => {
+            let rounds = random.pick(&[0, 1, 2, 3, 5, 8]);
+            let mut word = sampled(random, &pool, &tree.root, [None; 4], rounds);
+            if word.len() > 150 {
+                word = sampled(random, &pool, &tree.root, [None; 4], 0);
+            }
+            let places = random.pick(&[1, 1, 2, 2, 3, 4, 5, 9]);
+            laid_out(random, &pool, &word, places)
+        }
+        _ => unplanned(random, &pool),
+    };
+    if random.once_in(40) {
+        (day, pat) = at_the_limit(random);
+    } else if random.once_in(400) {
+        day = full_day(random, &pool);
+    }
+    let chain = checked_chain(random, &mut day);
+    let (mut from, mut to) = (day.from, day.to);
+    if random.once_in(12) {
+        to = random.below(day.places as usize) as u16;
+    }
+    if random.once_in(12) {
+        let count = day.places;
+        let edge = random.pick(&[count, count - 1, 0, 65_535]);
+        match random.below(3) {
+            0 => from = edge,
+            1 => to = edge,
+            _ => (from, to) = (to, from),
+        }
+    }
+    let mut rec = written(day.places, &day.lines);
+    let needed = words(&rec, &pat);
+    if random.once_in(14) {
+        damage_record(random, &mut rec);
+    }
+    if random.once_in(14) {
+        damage_pattern(random, &mut pat);
+    }
+    Request {
+        work_len: work_len(random, needed.ok()),
+        room: room(random),
+        rec,
+        pat,
+        from,
+        to,
+        chain,
+    }
+}
+
+/// The planned chain, or one that differs a little, or one that shouldn't pass.
+fn checked_chain(random: &mut Random, day: &mut Day) -> Vec<u16> {
+    let mut chain = day.chain.clone();
+    let lines = day.lines.len();
+    let any = |random: &mut Random| random.below(lines.max(1)) as u16;
+    for _ in 0..random.pick(&[0, 0, 0, 0, 1, 1, 1, 2]) {
+        let at = random.below(chain.len() + 1);
+        match random.below(8) {
+            0 if at < chain.len() => chain[at] = any(random),
+            1 | 2 if at < chain.len() && lines > 0 => {
+                // Another line between the same places.
+                let line = day.lines[chain[at] as usize % lines];
+                let alike: Vec<u16> = (0..lines)
+                    .filter(|&n| day.lines[n].from == line.from && day.lines[n].to == line.to)
+                    .map(|n| n as u16)
+                    .collect();
+                chain[at] = random.pick(&alike);
+            }
+            3 if at < chain.len() => {
+                chain.remove(at);
+            }
+            4 => chain.insert(at, any(random)),
+            5 => {
+                // A stretch of it once more.
+                let end = random.between(at, chain.len());
+                let again = chain[at..end].to_vec();
+                for _ in 0..random.between(1, 3) {
+                    chain.splice(at..at, again.iter().copied());
+                }
+            }
+            6 => chain.truncate(at),
+            _ => chain = (0..random.below(8)).map(|_| any(random)).collect(),
+        }
+    }
+    if random.once_in(12) {
+        // A line that doesn't exist, anywhere, often after a join that fails.
+        let at = random.below(chain.len() + 1);
+        chain.insert(at, random.pick(&[lines as u16, lines as u16 + 1, 65_535]));
+        if random.once_in(2) {
+            chain.insert(0, any(random));
+        }
+    }
+    if random.once_in(30) {
+        chain.clear();
+    }
+    chain
+}
+
+/// Exactly enough, one too few, more than enough, or far too few. Areas of millions of
+/// words are rare, to keep the comparison quick.
+fn work_len(random: &mut Random, needed: Option<u64>) -> usize {
+    match needed {
+        Some(needed) if needed < 400_000 || random.once_in(60) => {
+            let needed = needed as usize;
+            match random.below(24) {
+                0 => needed - 1,
+                1 => random.below(needed),
+                2 => 0,
+                3..=9 => needed + random.between(1, 70),
+                _ => needed,
+            }
+        }
+        _ => random.below(12_000),
+    }
+}
+
+fn room(random: &mut Random) -> Room {
+    match random.below(8) {
+        0 | 1 => Room::OneShort,
+        2 | 3 => Room::More(random.between(1, 9)),
+        4 => Room::Just(random.pick(&[0, 0, 1, 2, 40])),
+        _ => Room::Exact,
+    }
+}
+
+/// What lent words hold before a call: anything.
+pub fn dirt(random: &mut Random, words: usize) -> Vec<u32> {
+    let mut dirty = Vec::with_capacity(words + 1);
+    while dirty.len() < words {
+        let two = random.draw();
+        dirty.push(two as u32);
+        dirty.push((two >> 32) as u32);
+    }
+    dirty.truncate(words);
+    dirty
+}
+
+pub fn dirty_bytes(random: &mut Random, bytes: usize) -> Vec<u8> {
+    (0..bytes).map(|_| random.byte()).collect()
+}
+
+pub fn dirty_entries(random: &mut Random, entries: usize) -> Vec<u16> {
+    (0..entries).map(|_| random.draw() as u16).collect()
+}
+
+/// A line to be added: most often a good one.
+pub fn new_line(random: &mut Random, places: u16) -> Line {
+    let pool = pool(random);
+    let mut line = any_line(random, &pool, places.max(1));
+    match random.below(12) {
+        0 => line.from = random.pick(&[places, places.wrapping_sub(1), 65_535]),
+        1 => line.to = random.pick(&[places, places.wrapping_sub(1), 65_535]),
+        2 => line.kind = random.pick(&[0, 1, 15, 16, 255]),
+        3 => line.sail = random.pick(&[16_777_215, 16_777_216, u32::MAX, 0, 0x01_0203]),
+        4 => line.class = random.byte(),
+        _ => {}
+    }
+    line
+}

@@ -1,0 +1,30 @@
+//! The chain finder a second time: a plain program that shares no code with the library.
+//!
+//! It is written from the paper's sentences and from the clauses of source 001, to be
+//! compared with the library on many requests. It is meant to be read and believed, so
+//! it allocates as it likes and prefers the plain way to the fast one.
+//!
+//! - `record`, `pattern`: bytes to values, or the number of the refused question.
+//! - `membership`: is a word in a pattern's language, clause by clause.
+//! - `machine`: the same by moving sets of states along a word, for long words.
+//! - `chains`: the first shortest accepted chain, by trying all chains and by a search.
+//! - `request`: every question in order, the replies, and what becomes of lent words.
+//! - `program`: the line that the small program prints.
+//! - `library`: the six functions that scoring software calls, as a trait.
+//! - `compare`, `cases`, `rounds`, `generator`, `random`: a library compared with this one.
+
+pub mod cases;
+pub mod chains;
+pub mod compare;
+pub mod generator;
+pub mod library;
+#[cfg(feature = "linked")]
+pub mod linked;
+pub mod machine;
+pub mod membership;
+pub mod pattern;
+pub mod program;
+pub mod random;
+pub mod record;
+pub mod request;
+pub mod rounds;

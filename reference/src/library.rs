@@ -1,0 +1,98 @@
+//! The six functions that scoring software calls, as a trait: the linked library is one
+//! of these, and this program is another.
+
+use crate::record::{self, Line};
+use crate::request::{self, refused};
+
+/// Each reply is n · 2^32 + value: n is 0 or the number of the refused question, value
+/// the second number then.
+pub trait Library {
+    fn begin(&self, buf: &mut [u8], places: u16) -> u64;
+    fn add(&self, buf: &mut [u8], len: usize, line: Line) -> u64;
+    fn read(&self, rec: &[u8], number: u16, fields: &mut [u32]) -> u64;
+    fn words(&self, rec: &[u8], pat: &[u8]) -> u64;
+    fn check(&self, ask: Ask, chain: &[u16], work: &mut [u32]) -> u64;
+    fn find(&self, ask: Ask, work: &mut [u32], out: &mut [u16]) -> u64;
+    /// Whether `find` may be called.
+    fn has_finder(&self) -> bool;
+}
+
+/// What checker and finder are both given.
+#[derive(Clone, Copy)]
+pub struct Ask<'a> {
+    pub rec: &'a [u8],
+    pub pat: &'a [u8],
+    pub from: u16,
+    pub to: u16,
+}
+
+/// This program behind the same six functions.
+pub struct Own;
+
+impl Library for Own {
+    fn begin(&self, buf: &mut [u8], places: u16) -> u64 {
+        put(record::begin(buf, places), buf)
+    }
+
+    fn add(&self, buf: &mut [u8], len: usize, line: Line) -> u64 {
+        put(record::add(buf, len, line), buf)
+    }
+
+    fn read(&self, rec: &[u8], number: u16, fields: &mut [u32]) -> u64 {
+        let (reply, after) = read_values(rec, number, fields);
+        fields.copy_from_slice(&after);
+        reply
+    }
+
+    fn words(&self, rec: &[u8], pat: &[u8]) -> u64 {
+        request::words(rec, pat).unwrap_or_else(|number| refused(number, 0))
+    }
+
+    fn check(&self, ask: Ask, chain: &[u16], work: &mut [u32]) -> u64 {
+        let reply = request::check(ask.rec, ask.pat, ask.from, ask.to, chain, work.len());
+        work.copy_from_slice(&reply.work_after(work));
+        reply.number()
+    }
+
+    fn find(&self, ask: Ask, work: &mut [u32], out: &mut [u16]) -> u64 {
+        let reply = request::find(ask.rec, ask.pat, ask.from, ask.to, work.len(), out.len());
+        work.copy_from_slice(&reply.work_after(work));
+        out.copy_from_slice(&reply.out_after(out));
+        reply.number()
+    }
+
+    fn has_finder(&self) -> bool {
+        true
+    }
+}
+
+fn put(reply: Result<(usize, Vec<u8>), u8>, buf: &mut [u8]) -> u64 {
+    match reply {
+        Ok((len, after)) => {
+            buf.copy_from_slice(&after);
+            len as u64
+        }
+        Err(number) => refused(number, 0),
+    }
+}
+
+/// The reply of reading a line back, and the fields after it. The questions come first,
+/// however many fields are lent; fewer than five words get nothing, and the value is 0.
+pub fn read_values(rec: &[u8], number: u16, fields: &[u32]) -> (u64, Vec<u32>) {
+    let mut after = fields.to_vec();
+    match record::read_line(rec, number) {
+        Err(number) => (refused(number, 0), after),
+        Ok(_) if fields.len() < 5 => (0, after),
+        Ok(line) => {
+            let values = [
+                line.from as u32,
+                line.kind as u32,
+                line.class as u32,
+                line.sail,
+                line.to as u32,
+            ];
+            after[..5].copy_from_slice(&values);
+            (5, after)
+        }
+    }
+}

@@ -1,0 +1,139 @@
+//! The static library behind the six functions. Nothing checks these declarations
+//! against its source: the comparison does.
+
+use crate::library::{Ask, Library};
+use crate::record::Line;
+
+#[link(name = "exports", kind = "static")]
+extern "C" {
+    fn chains_begin(buf: *mut u8, buf_len: usize, places: u16) -> u64;
+    fn chains_add(
+        buf: *mut u8,
+        buf_len: usize,
+        len: usize,
+        from: u16,
+        kind: u8,
+        class_: u8,
+        sail: u32,
+        to: u16,
+    ) -> u64;
+    fn chains_read(
+        rec: *const u8,
+        rec_len: usize,
+        line: u16,
+        fields: *mut u32,
+        fields_len: usize,
+    ) -> u64;
+    fn chains_words(rec: *const u8, rec_len: usize, pat: *const u8, pat_len: usize) -> u64;
+    fn chains_check(
+        rec: *const u8,
+        rec_len: usize,
+        pat: *const u8,
+        pat_len: usize,
+        from: u16,
+        to: u16,
+        chain: *const u16,
+        chain_len: usize,
+        work: *mut u32,
+        work_len: usize,
+    ) -> u64;
+    #[cfg(feature = "finder")]
+    fn chains_find(
+        rec: *const u8,
+        rec_len: usize,
+        pat: *const u8,
+        pat_len: usize,
+        from: u16,
+        to: u16,
+        work: *mut u32,
+        work_len: usize,
+        out: *mut u16,
+        out_len: usize,
+    ) -> u64;
+}
+
+/// The linked library.
+pub struct Linked;
+
+// Each call gives pointers with the lengths of live slices, and mutable ones of slices
+// that nothing else uses meanwhile.
+impl Library for Linked {
+    fn begin(&self, buf: &mut [u8], places: u16) -> u64 {
+        unsafe { chains_begin(buf.as_mut_ptr(), buf.len(), places) }
+    }
+
+    fn add(&self, buf: &mut [u8], len: usize, line: Line) -> u64 {
+        unsafe {
+            chains_add(
+                buf.as_mut_ptr(),
+                buf.len(),
+                len,
+                line.from,
+                line.kind,
+                line.class,
+                line.sail,
+                line.to,
+            )
+        }
+    }
+
+    fn read(&self, rec: &[u8], number: u16, fields: &mut [u32]) -> u64 {
+        unsafe {
+            chains_read(
+                rec.as_ptr(),
+                rec.len(),
+                number,
+                fields.as_mut_ptr(),
+                fields.len(),
+            )
+        }
+    }
+
+    fn words(&self, rec: &[u8], pat: &[u8]) -> u64 {
+        unsafe { chains_words(rec.as_ptr(), rec.len(), pat.as_ptr(), pat.len()) }
+    }
+
+    fn check(&self, ask: Ask, chain: &[u16], work: &mut [u32]) -> u64 {
+        unsafe {
+            chains_check(
+                ask.rec.as_ptr(),
+                ask.rec.len(),
+                ask.pat.as_ptr(),
+                ask.pat.len(),
+                ask.from,
+                ask.to,
+                chain.as_ptr(),
+                chain.len(),
+                work.as_mut_ptr(),
+                work.len(),
+            )
+        }
+    }
+
+    #[cfg(feature = "finder")]
+    fn find(&self, ask: Ask, work: &mut [u32], out: &mut [u16]) -> u64 {
+        unsafe {
+            chains_find(
+                ask.rec.as_ptr(),
+                ask.rec.len(),
+                ask.pat.as_ptr(),
+                ask.pat.len(),
+                ask.from,
+                ask.to,
+                work.as_mut_ptr(),
+                work.len(),
+                out.as_mut_ptr(),
+                out.len(),
+            )
+        }
+    }
+
+    #[cfg(not(feature = "finder"))]
+    fn find(&self, _: Ask, _: &mut [u32], _: &mut [u16]) -> u64 {
+        unreachable!("this build has no finder")
+    }
+
+    fn has_finder(&self) -> bool {
+        cfg!(feature = "finder")
+    }
+}

@@ -1,0 +1,99 @@
+//! Is a word in a pattern's language? Straight from the clauses of source 001, section 3:
+//! `accepts(r, v, from, to)` says whether the letters `from..to` are a word of L(r, v).
+
+use crate::pattern::Node;
+use crate::record::Boat;
+use std::collections::HashMap;
+
+/// One letter: the kind and the boat of a line.
+#[derive(Clone, Copy, PartialEq, Eq, Debug)]
+pub struct Letter {
+    pub kind: u8,
+    pub boat: Boat,
+}
+
+/// The boat of each slot, where it has one.
+pub type Valuation = [Option<Boat>; 4];
+
+/// Is the whole word in the language of a closed pattern?
+pub fn is_member(root: &Node, word: &[Letter]) -> bool {
+    let mut asked = Membership {
+        word,
+        known: HashMap::new(),
+    };
+    asked.accepts(root, [None; 4], 0, word.len())
+}
+
+struct Membership<'a> {
+    word: &'a [Letter],
+    /// Answers already found; a node is known by its address.
+    known: HashMap<(*const Node, Valuation, usize, usize), bool>,
+}
+
+impl Membership<'_> {
+    fn accepts(&mut self, r: &Node, v: Valuation, from: usize, to: usize) -> bool {
+        // One letter or none is settled at once; only splits are worth remembering.
+        match r {
+            Node::Nothing => from == to,
+            Node::Line { kind } => self.one(from, to).is_some_and(|l| l.kind == *kind),
+            Node::Same { kind, slot } => self
+                .one(from, to)
+                .is_some_and(|l| l.kind == *kind && v[*slot as usize] == Some(l.boat)),
+            Node::Other { kind, slot } => self.one(from, to).is_some_and(|l| {
+                l.kind == *kind && v[*slot as usize].is_some_and(|kept| kept != l.boat)
+            }),
+            Node::Either(one, two) => {
+                self.accepts(one, v, from, to) || self.accepts(two, v, from, to)
+            }
+            Node::Keep { kind, slot, inner } => {
+                if from == to || self.word[from].kind != *kind {
+                    return false;
+                }
+                let mut inside = v;
+                inside[*slot as usize] = Some(self.word[from].boat);
+                self.accepts(inner, inside, from + 1, to)
+            }
+            Node::Then(first, second) => self.remembered(r, v, from, to, |asked| {
+                (from..=to).any(|cut| {
+                    asked.accepts(first, v, from, cut) && asked.accepts(second, v, cut, to)
+                })
+            }),
+            // None in a row, or a first round and then more of them. A round of no
+            // letters adds nothing, so the first round may be taken to have some.
+            Node::Repeat(body) => {
+                from == to
+                    || self.remembered(r, v, from, to, |asked| {
+                        (from + 1..=to).any(|cut| {
+                            asked.accepts(body, v, from, cut) && asked.accepts(r, v, cut, to)
+                        })
+                    })
+            }
+        }
+    }
+
+    /// The letter, when the stretch is one letter long.
+    fn one(&self, from: usize, to: usize) -> Option<Letter> {
+        if from + 1 == to {
+            Some(self.word[from])
+        } else {
+            None
+        }
+    }
+
+    fn remembered(
+        &mut self,
+        r: &Node,
+        v: Valuation,
+        from: usize,
+        to: usize,
+        find_out: impl FnOnce(&mut Self) -> bool,
+    ) -> bool {
+        let key = (r as *const Node, v, from, to);
+        if let Some(&answer) = self.known.get(&key) {
+            return answer;
+        }
+        let answer = find_out(self);
+        self.known.insert(key, answer);
+        answer
+    }
+}

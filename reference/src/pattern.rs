@@ -1,0 +1,134 @@
+//! Patterns: bytes to a tree, or the number of the refused question.
+
+/// A pattern has at most this many commands.
+pub const MOST_COMMANDS: usize = 63;
+/// Keeps nest at most this deep.
+pub const DEEPEST: usize = 3;
+
+#[derive(Clone, PartialEq, Eq, Debug)]
+pub enum Node {
+    Nothing,
+    Line {
+        kind: u8,
+    },
+    Same {
+        kind: u8,
+        slot: u8,
+    },
+    Other {
+        kind: u8,
+        slot: u8,
+    },
+    Either(Box<Node>, Box<Node>),
+    Then(Box<Node>, Box<Node>),
+    Repeat(Box<Node>),
+    Keep {
+        kind: u8,
+        slot: u8,
+        inner: Box<Node>,
+    },
+}
+
+#[derive(Clone, PartialEq, Eq, Debug)]
+pub struct Pattern {
+    pub root: Node,
+    /// How many commands it has.
+    pub commands: usize,
+    /// The deepest nesting of keeps.
+    pub keeps: usize,
+}
+
+/// Questions 8 to 14: each command in byte order, then the end.
+pub fn read_pattern(bytes: &[u8]) -> Result<Pattern, u8> {
+    let mut reader = Reader {
+        bytes,
+        at: 0,
+        commands: 0,
+        keeps: 0,
+    };
+    let root = reader.node(&[])?;
+    if reader.at != bytes.len() {
+        return Err(14);
+    }
+    Ok(Pattern {
+        root,
+        commands: reader.commands,
+        keeps: reader.keeps,
+    })
+}
+
+struct Reader<'a> {
+    bytes: &'a [u8],
+    at: usize,
+    commands: usize,
+    keeps: usize,
+}
+
+impl Reader<'_> {
+    /// One pattern, inside keeps of the slots `around`, the outermost first.
+    fn node(&mut self, around: &[u8]) -> Result<Node, u8> {
+        let Some(&command) = self.bytes.get(self.at) else {
+            return Err(8);
+        };
+        if !(0x20..=0x27).contains(&command) {
+            return Err(8);
+        }
+        self.commands += 1;
+        if self.commands > MOST_COMMANDS {
+            return Err(9);
+        }
+        let width = match command {
+            0x21 => 1,
+            0x22 | 0x23 | 0x27 => 2,
+            _ => 0,
+        };
+        let first = self.at + 1;
+        let Some(operands) = self.bytes.get(first..first + width) else {
+            return Err(10);
+        };
+        if width >= 1 && !(1..=15).contains(&operands[0]) {
+            return Err(11);
+        }
+        if width >= 2 && operands[1] > 3 {
+            return Err(11);
+        }
+        self.at = first + width;
+        match command {
+            0x20 => Ok(Node::Nothing),
+            0x21 => Ok(Node::Line { kind: operands[0] }),
+            0x22 | 0x23 => {
+                let (kind, slot) = (operands[0], operands[1]);
+                if !around.contains(&slot) {
+                    return Err(12);
+                }
+                if command == 0x22 {
+                    Ok(Node::Same { kind, slot })
+                } else {
+                    Ok(Node::Other { kind, slot })
+                }
+            }
+            0x24 => {
+                let one = self.node(around)?;
+                let two = self.node(around)?;
+                Ok(Node::Either(Box::new(one), Box::new(two)))
+            }
+            0x25 => {
+                let first = self.node(around)?;
+                let second = self.node(around)?;
+                Ok(Node::Then(Box::new(first), Box::new(second)))
+            }
+            0x26 => Ok(Node::Repeat(Box::new(self.node(around)?))),
+            _ => {
+                let (kind, slot) = (operands[0], operands[1]);
+                let mut inside = around.to_vec();
+                inside.push(slot);
+                if inside.len() > DEEPEST {
+                    return Err(13);
+                }
+                self.keeps = self.keeps.max(inside.len());
+                let inner = Box::new(self.node(&inside)?);
+                Ok(Node::Keep { kind, slot, inner })
+            }
+        }
+    }
+}

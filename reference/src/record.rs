@@ -1,0 +1,160 @@
+//! The day's record: reading it, beginning one, adding a line, reading a line back.
+
+/// No record is longer than this.
+pub const LONGEST: usize = 40_964;
+/// No record has more lines than this.
+pub const MOST_LINES: usize = 4_096;
+/// No record has more places than this.
+pub const MOST_PLACES: u16 = 1_024;
+/// Sail numbers are below this.
+pub const SAIL_LIMIT: u32 = 16_777_216;
+
+#[derive(Clone, Copy, PartialEq, Eq, Debug)]
+pub struct Line {
+    pub from: u16,
+    pub kind: u8,
+    pub class: u8,
+    pub sail: u32,
+    pub to: u16,
+}
+
+/// Class and sail number together; two boats are the same when both agree.
+#[derive(Clone, Copy, PartialEq, Eq, PartialOrd, Ord, Hash, Debug)]
+pub struct Boat {
+    pub class: u8,
+    pub sail: u32,
+}
+
+impl Line {
+    pub fn boat(&self) -> Boat {
+        Boat {
+            class: self.class,
+            sail: self.sail,
+        }
+    }
+
+    /// The line's ten bytes.
+    pub fn bytes(&self) -> [u8; 10] {
+        let from = self.from.to_be_bytes();
+        let sail = self.sail.to_be_bytes();
+        let to = self.to.to_be_bytes();
+        [
+            0x02, from[0], from[1], self.kind, self.class, sail[1], sail[2], sail[3], to[0], to[1],
+        ]
+    }
+}
+
+/// What a record says.
+#[derive(Clone, PartialEq, Eq, Debug)]
+pub struct Record {
+    pub places: u16,
+    pub lines: Vec<Line>,
+}
+
+/// The bytes of a record with these places and lines.
+pub fn written(places: u16, lines: &[Line]) -> Vec<u8> {
+    let mut bytes = vec![0x01];
+    bytes.extend(places.to_be_bytes());
+    for line in lines {
+        bytes.extend(line.bytes());
+    }
+    bytes.push(0x00);
+    bytes
+}
+
+/// Questions 1 to 7, in the order of the walk.
+pub fn read_record(bytes: &[u8]) -> Result<Record, u8> {
+    if bytes.len() > LONGEST {
+        return Err(1);
+    }
+    if bytes.len() < 3 || bytes[0] != 0x01 {
+        return Err(2);
+    }
+    let places = u16::from_be_bytes([bytes[1], bytes[2]]);
+    if !(1..=MOST_PLACES).contains(&places) {
+        return Err(2);
+    }
+    let mut lines = Vec::new();
+    let mut at = 3;
+    loop {
+        match bytes.get(at) {
+            Some(0x02) => {
+                let Some(o) = bytes.get(at + 1..at + 10) else {
+                    return Err(4);
+                };
+                let line = Line {
+                    from: u16::from_be_bytes([o[0], o[1]]),
+                    kind: o[2],
+                    class: o[3],
+                    sail: u32::from_be_bytes([0, o[4], o[5], o[6]]),
+                    to: u16::from_be_bytes([o[7], o[8]]),
+                };
+                asked_of_line(&line, places)?;
+                lines.push(line);
+                at += 10;
+            }
+            Some(0x00) => {
+                if at + 1 != bytes.len() {
+                    return Err(7);
+                }
+                return Ok(Record { places, lines });
+            }
+            _ => return Err(3),
+        }
+    }
+}
+
+/// Questions 5 and 6 of a line.
+fn asked_of_line(line: &Line, places: u16) -> Result<(), u8> {
+    if line.from >= places || line.to >= places {
+        return Err(5);
+    }
+    if !(1..=15).contains(&line.kind) {
+        return Err(6);
+    }
+    Ok(())
+}
+
+/// Begins a record of so many places: its length and the whole buffer after it.
+pub fn begin(buf: &[u8], places: u16) -> Result<(usize, Vec<u8>), u8> {
+    if !(1..=MOST_PLACES).contains(&places) {
+        return Err(2);
+    }
+    if buf.len() < 4 {
+        return Err(23);
+    }
+    let mut after = written(places, &[]);
+    after.extend(&buf[4..]);
+    Ok((4, after))
+}
+
+/// Adds a line to the record that is the first `len` bytes of the buffer: the new
+/// length and the whole buffer after it.
+pub fn add(buf: &[u8], len: usize, line: Line) -> Result<(usize, Vec<u8>), u8> {
+    if len > buf.len() {
+        return Err(20);
+    }
+    let record = read_record(&buf[..len])?;
+    asked_of_line(&line, record.places)?;
+    if line.sail >= SAIL_LIMIT {
+        return Err(21);
+    }
+    if record.lines.len() >= MOST_LINES {
+        return Err(22);
+    }
+    if len + 10 > buf.len() {
+        return Err(23);
+    }
+    let mut lines = record.lines;
+    lines.push(line);
+    let mut after = written(record.places, &lines);
+    let new_len = after.len();
+    after.extend(&buf[new_len..]);
+    Ok((new_len, after))
+}
+
+/// Reads one line back: the whole record is asked about first, then question 18.
+pub fn read_line(bytes: &[u8], number: u16) -> Result<Line, u8> {
+    let record = read_record(bytes)?;
+    record.lines.get(number as usize).copied().ok_or(18)
+}

@@ -1,0 +1,224 @@
+//! Requests: questions 15 to 19, the replies, and what becomes of the lent words.
+//!
+//! A reply depends on the lengths of the work area and the output and never on what is in
+//! them; what they hold afterwards is a function of the reply and of what they held.
+
+use crate::chains::{search, try_all, Asked, Tried};
+use crate::pattern::{read_pattern, Pattern};
+use crate::record::{read_record, Record};
+use std::collections::BTreeSet;
+
+/// No search size is above this.
+pub const LARGEST: u128 = 1_048_576;
+/// Chains up to this long are checked by the language's clauses, longer ones by the machine.
+pub const SHORT: usize = 8;
+/// So many chains at most are tried one by one before the search is believed by itself.
+pub const TRIED: usize = 30;
+
+#[derive(Clone, PartialEq, Eq, Debug)]
+pub enum CheckReply {
+    Yes,
+    No,
+    Refused(u8),
+}
+
+#[derive(Clone, PartialEq, Eq, Debug)]
+pub enum FindReply {
+    Found(Vec<u16>),
+    NoChain,
+    /// The number and the second number.
+    Refused(u8, usize),
+}
+
+/// Places × (commands + 1) × (boats + 1) to the power of keeps.
+pub fn search_size(record: &Record, pattern: &Pattern) -> u128 {
+    let boats: BTreeSet<_> = record.lines.iter().map(|line| line.boat()).collect();
+    let mut size = record.places as u128 * (pattern.commands as u128 + 1);
+    for _ in 0..pattern.keeps {
+        size *= boats.len() as u128 + 1;
+    }
+    size
+}
+
+/// How many words a request of this search size needs.
+fn words_for(size: u128) -> u128 {
+    4 * size + 8_192
+}
+
+/// The words that a record and a pattern need: questions 1 to 14, and 16.
+pub fn words(record: &[u8], pattern: &[u8]) -> Result<u64, u8> {
+    let record = read_record(record)?;
+    let pattern = read_pattern(pattern)?;
+    let size = search_size(&record, &pattern);
+    if size > LARGEST {
+        return Err(16);
+    }
+    Ok(words_for(size) as u64)
+}
+
+/// Questions 1 to 17.
+pub fn ask(
+    record: &[u8],
+    pattern: &[u8],
+    from: u16,
+    to: u16,
+    work_len: usize,
+) -> Result<Asked, u8> {
+    let record = read_record(record)?;
+    let pattern = read_pattern(pattern)?;
+    if from >= record.places || to >= record.places {
+        return Err(15);
+    }
+    let size = search_size(&record, &pattern);
+    if size > LARGEST {
+        return Err(16);
+    }
+    if (work_len as u128) < words_for(size) {
+        return Err(17);
+    }
+    Ok(Asked {
+        record,
+        pattern,
+        from,
+        to,
+    })
+}
+
+/// The checker.
+pub fn check(
+    record: &[u8],
+    pattern: &[u8],
+    from: u16,
+    to: u16,
+    chain: &[u16],
+    work_len: usize,
+) -> CheckReply {
+    let asked = match ask(record, pattern, from, to, work_len) {
+        Ok(asked) => asked,
+        Err(number) => return CheckReply::Refused(number),
+    };
+    let lines = asked.record.lines.len();
+    if chain.iter().any(|&number| number as usize >= lines) {
+        return CheckReply::Refused(18);
+    }
+    let accepted = if chain.len() <= SHORT {
+        asked.accepted_by_clauses(chain)
+    } else {
+        asked.accepted_by_machine(chain)
+    };
+    if accepted {
+        CheckReply::Yes
+    } else {
+        CheckReply::No
+    }
+}
+
+/// The first shortest accepted chain of a request that passed the questions. Where
+/// trying all chains settles it, the two ways must agree.
+pub fn first_chain(asked: &Asked) -> Option<Vec<u16>> {
+    let searched = search(asked);
+    match try_all(asked, TRIED, SHORT) {
+        Tried::First(chain) => assert_eq!(searched.as_ref(), Some(&chain), "the two ways differ"),
+        Tried::NoChain => assert_eq!(searched, None, "the two ways differ"),
+        Tried::NoneBelow(length) => assert!(
+            searched.as_ref().is_none_or(|chain| chain.len() >= length),
+            "the two ways differ"
+        ),
+    }
+    searched
+}
+
+/// Questions 1 to 17 and the search, the output being left aside.
+pub fn shortest(
+    record: &[u8],
+    pattern: &[u8],
+    from: u16,
+    to: u16,
+    work_len: usize,
+) -> Result<Option<Vec<u16>>, u8> {
+    ask(record, pattern, from, to, work_len).map(|asked| first_chain(&asked))
+}
+
+/// The finder's reply, given what `shortest` says and the output's length.
+pub fn fitted(shortest: Result<Option<Vec<u16>>, u8>, out_len: usize) -> FindReply {
+    match shortest {
+        Err(number) => FindReply::Refused(number, 0),
+        Ok(None) => FindReply::NoChain,
+        Ok(Some(chain)) if chain.len() > out_len => FindReply::Refused(19, chain.len()),
+        Ok(Some(chain)) => FindReply::Found(chain),
+    }
+}
+
+/// The finder.
+pub fn find(
+    record: &[u8],
+    pattern: &[u8],
+    from: u16,
+    to: u16,
+    work_len: usize,
+    out_len: usize,
+) -> FindReply {
+    fitted(shortest(record, pattern, from, to, work_len), out_len)
+}
+
+/// The work area afterwards: untouched by a refusal at 17 or at any question asked before
+/// it, and else all zeros. Only 18 and 19 are asked after 17.
+fn work_after(refused: Option<u8>, work: &[u32]) -> Vec<u32> {
+    match refused {
+        None | Some(18 | 19) => vec![0; work.len()],
+        Some(_) => work.to_vec(),
+    }
+}
+
+impl CheckReply {
+    pub fn work_after(&self, work: &[u32]) -> Vec<u32> {
+        match self {
+            CheckReply::Refused(number) => work_after(Some(*number), work),
+            _ => work_after(None, work),
+        }
+    }
+
+    /// As the library gives it: n · 2^32 + value.
+    pub fn number(&self) -> u64 {
+        match self {
+            CheckReply::Yes => 1,
+            CheckReply::No => 0,
+            CheckReply::Refused(number) => refused(*number, 0),
+        }
+    }
+}
+
+impl FindReply {
+    pub fn work_after(&self, work: &[u32]) -> Vec<u32> {
+        match self {
+            FindReply::Refused(number, _) => work_after(Some(*number), work),
+            _ => work_after(None, work),
+        }
+    }
+
+    /// The output afterwards: the chain in front when found, and the rest untouched.
+    pub fn out_after(&self, out: &[u16]) -> Vec<u16> {
+        let mut after = out.to_vec();
+        if let FindReply::Found(chain) = self {
+            after[..chain.len()].copy_from_slice(chain);
+        }
+        after
+    }
+
+    /// As the library gives it: n · 2^32 + value.
+    pub fn number(&self) -> u64 {
+        match self {
+            FindReply::Found(chain) => chain.len() as u64,
+            FindReply::NoChain => NO_CHAIN,
+            FindReply::Refused(number, second) => refused(*number, *second as u64),
+        }
+    }
+}
+
+/// The value that stands for none.
+pub const NO_CHAIN: u64 = 4_294_967_295;
+
+/// A refusal as one number.
+pub const fn refused(number: u8, second: u64) -> u64 {
+    ((number as u64) << 32) + second
+}

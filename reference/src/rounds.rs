@@ -1,0 +1,120 @@
+//! One round of the random comparison, of each sort. A round gives the replies it saw, to
+//! be counted, or says where the two programs differ.
+
+use crate::compare;
+use crate::generator::{
+    any_bytes, damage_record, dirt, dirty_bytes, dirty_entries, new_line, request,
+};
+use crate::library::{Ask, Library};
+use crate::random::Random;
+use crate::record::{written, Line, MOST_LINES};
+use crate::request::{fitted, shortest};
+
+pub type Replies = Result<Vec<u64>, String>;
+
+/// Records and patterns of any bytes: words, and one line read back.
+pub fn bytes(library: &dyn Library, random: &mut Random) -> Replies {
+    let (rec, pat) = any_bytes(random);
+    let number = random.pick(&[0, 1, 2, 7, 65_535]);
+    let lent = random.pick(&[5, 5, 5, 4, 0, 6, 9]);
+    let fields = dirt(random, lent);
+    Ok(vec![
+        compare::words(library, &rec, &pat)?,
+        compare::read(library, &rec, number, &fields)?,
+    ])
+}
+
+/// A record begun, lines added to it, and some of them read back.
+pub fn writes(library: &dyn Library, random: &mut Random) -> Replies {
+    let places = random.pick(&[0, 1, 2, 2, 4, 300, 1_023, 1_024, 1_025, 65_535]);
+    let room = random.pick(&[0, 3, 4, 5, 13, 14, 15, 24, 33, 34, 44, 60, 64]);
+    let mut buf = dirty_bytes(random, room);
+    let reply = compare::begin(library, &buf, places)?;
+    let mut replies = vec![reply];
+    let mut len = room;
+    if reply == 4 {
+        buf[..4].copy_from_slice(&written(places, &[]));
+        len = 4;
+    }
+    if random.once_in(100) {
+        (buf, len) = nearly_full(random);
+    }
+    for _ in 0..random.between(1, 6) {
+        let line = new_line(random, places.clamp(1, 1_024));
+        let claimed = match random.below(10) {
+            0 => random.pick(&[len + 1, len.wrapping_sub(1), buf.len(), buf.len() + 1]),
+            1 => random.pick(&[usize::MAX, usize::MAX - 9, 40_965, 3, 0]),
+            2 => len.saturating_sub(random.between(1, 11)),
+            _ => len,
+        };
+        if random.once_in(10) {
+            damage_record(random, &mut buf);
+        }
+        let (reply, after) = compare::add(library, &buf, claimed, line)?;
+        replies.push(reply);
+        buf = after;
+        if reply >> 32 == 0 {
+            len = reply as usize;
+            let last = ((len - 4) / 10 - 1) as u16;
+            let number = random.pick(&[last, last, last.wrapping_sub(1), 0, last + 1]);
+            let lent = random.pick(&[5, 5, 8, 4]);
+            let fields = dirt(random, lent);
+            replies.push(compare::read(library, &buf[..len], number, &fields)?);
+        }
+    }
+    Ok(replies)
+}
+
+/// A buffer with a record that is full, or has room for one line, and the record's length.
+fn nearly_full(random: &mut Random) -> (Vec<u8>, usize) {
+    let line = Line {
+        from: 0,
+        kind: 1,
+        class: random.byte(),
+        sail: random.below(16_777_216) as u32,
+        to: 0,
+    };
+    let count = MOST_LINES - random.below(2);
+    let mut buf = written(1, &vec![line; count]);
+    let len = buf.len();
+    let more = random.pick(&[0, 9, 10, 11]);
+    buf.extend(dirty_bytes(random, more));
+    (buf, len)
+}
+
+/// One request to the checker.
+pub fn check(library: &dyn Library, random: &mut Random) -> Replies {
+    let asked = request(random);
+    let ask = Ask {
+        rec: &asked.rec,
+        pat: &asked.pat,
+        from: asked.from,
+        to: asked.to,
+    };
+    let work = dirt(random, asked.work_len);
+    Ok(vec![compare::check(library, ask, &asked.chain, &work)?])
+}
+
+/// One request to the finder; a chain that is found is given to the checker too.
+pub fn find(library: &dyn Library, random: &mut Random) -> Replies {
+    let asked = request(random);
+    let ask = Ask {
+        rec: &asked.rec,
+        pat: &asked.pat,
+        from: asked.from,
+        to: asked.to,
+    };
+    let first = shortest(ask.rec, ask.pat, ask.from, ask.to, asked.work_len);
+    let chain = match &first {
+        Ok(Some(chain)) => chain.clone(),
+        _ => Vec::new(),
+    };
+    let out = dirty_entries(random, asked.room.entries(chain.len()));
+    let work = dirt(random, asked.work_len);
+    let expected = fitted(first, out.len());
+    let reply = compare::find_against(library, ask, &work, &out, &expected)?;
+    if reply >> 32 == 0 && reply == chain.len() as u64 {
+        compare::check(library, ask, &chain, &work)?;
+    }
+    Ok(vec![reply])
+}
