@@ -13,8 +13,10 @@ use lib.Seq.{getD-take}
 use Rattle.automaton.specs.Columns.{Columns}
 use Rattle.request.specs.Layout.{Laid}
 use Rattle.request.specs.declared.Plan.{Plan}
-use Rattle.search.specs.Spots.{Fit, spotIn, Sane, off, offBy, Stacks}
+use Rattle.search.specs.Loaded.{codeAt, wordAt}
+use Rattle.search.specs.Spots.{front, Fit, spotIn, Sane, off, offBy, Aimed, Stacks}
 use Rattle.search.specs.declared.Spot.{Spot}
+use Rattle.search.specs.declared.Target.{Target}
 
 -- one more factor
 pub pow-turn : (R e i p : ℕ) → 0 < R → i < e → R ^ e ≤ 1048576 → p ≡ R ^ i → (p * R ≤ 1048576) × (p * R ≡ R ^ (i + 1))
@@ -82,6 +84,30 @@ module _ {plan : Plan} {area : ℕ} (l : Laid plan area) where
       let block = (plan .done + 1) * plan .stacks in
       let whole : plan .size ≡ block * plan .places = l .size-is ∙ (mul-assoc (plan .places) (plan .done + 1) (plan .stacks) ∙ mul-comm (plan .places) block) in
       omega (arith, le-mul-of-pos-right block (l .some-place), whole, l .small)
+
+  -- the words of a line stand before the search's stretches
+  pub word-low : (i : ℕ) → i < plan .lines → plan .words + i < plan .base
+  word-low i h = omega (arith, l .base-at)
+
+  pub code-low : (i : ℕ) → i < plan .lines → plan .codes + i < plan .base
+  code-low i h = omega (arith, l .words-at, l .base-at)
+
+  pub base-in : plan .base ≤ area
+  base-in = omega (arith, l .room)
+
+  -- and are read there
+  pub word-front : (w : List ℕ) (i : ℕ) → i < plan .lines → (p : ℕ) → p ≡ getD w (plan .words + i) 0 → p ≡ wordAt plan (front plan w) i
+  word-front w i h p e = e ∙ sym (front-get (plan .base) w (plan .words + i) (word-low i h))
+
+  pub code-front : (w : List ℕ) (i : ℕ) → i < plan .lines → (x : ℕ) → x ≡ getD w (plan .codes + i) 0 → x ≡ codeAt plan (front plan w) i
+  code-front w i h x e = e ∙ sym (front-get (plan .base) w (plan .codes + i) (code-low i h))
+
+  -- every stack tried for a target is one of the stacks
+  pub stacks-fit : (t : Target) → Aimed plan t → (D count : ℕ) → D ≤ plan .keeps → count ≡ plan .radix ^ (D - t .depth) → Stacks count (t .weight) (t .stack) (plan .stacks)
+  stacks-fit t m D count h e x hx =
+      let below : x < plan .radix ^ (D - t .depth) = subst (x <_) e hx in
+      let cut : t .stack < plan .radix ^ t .depth = subst (t .stack <_) (m .weight-is) (m .stack-low) in
+      subst (λ z. x * z + t .stack < plan .stacks) (sym (m .weight-is)) (uncut-fits D (t .depth) (t .stack) h (m .depth-low) cut x below)
 
 -- ---- a position's numbers
 

@@ -1,9 +1,10 @@
 -- The code's steps by numbers are the steps of the setting that the columns and the loaded words say: forward for one line from one state
--- (`from-taken` and its other cases, `next-is`), backward for one expanded state (`expand-is`, `spot-taken`, `spot-passed`).
+-- (`from-taken` and its other cases), backward for one expanded state (`expand-is`).
 use mathlib.Core.Path.{_≡_, refl, sym, ap, _∙_}
 use mathlib.Core.Bool.{Bool, true, false, cond, _&&_}
 use mathlib.Core.List.{List, [], _∷_}
 use Prim.Native.Nat.{ℕ, zero, suc, _+_, _*_, _-_, _^_, _/_, _%_, _<_, _≤_}
+use native.Mathlib.Nat.{add-zero, mod-lt}
 use native.Mathlib.Decide.{ℕ-discrete}
 use native.Mathlib.Omega.{arith}
 use lib.Dec.{eqb}
@@ -22,9 +23,10 @@ use Rattle.search.specs.Digits.{pushOn, popOff}
 use Rattle.search.specs.Loops.{turns}
 use Rattle.search.specs.Table.{Search, push}
 use Rattle.search.specs.Product.{Setting, stacks, state, placeOf, posOf, stackOf, cut, passes, takes, pushed, popped, undoes}
+use Rattle.search.specs.Along.{goal}
 use Rattle.search.specs.Loaded.{codeAt, wordAt, lineIn, linesIn, boatWordAt, settingIn}
 use Rattle.search.specs.Moves.{overStacks, overLines, expand, visit, overNext, onward}
-use Rattle.search.specs.Spots.{wordsCompared, metBy, spotIn, off, offBy, on, onBy, okay, boatOf, stateIn, stackAt, stackTurn, lineTurn, nextTurn, targetIn}
+use Rattle.search.specs.Spots.{wordsCompared, metBy, spotIn, off, offBy, on, onBy, okay, boatOf, stateIn, stackAt, stackTurn, lineTurn, nextTurn, targetIn, spotTurn}
 use Rattle.search.specs.declared.Spot.{Spot}
 use Rattle.search.specs.declared.Target.{Target}
 
@@ -213,3 +215,106 @@ module _ (a : Columns) (plan : Plan) (g : List ℕ) where
               let goes : onward S see i s st ≡ overNext S see i s st = from-is ∙ rw (← es, ← eb, f, eq-eqb _ _ k, o) in
               let own : left s i ≡ u = sym (eu ∙ rw (es, ex)) in
               goes ∙ (next-is s i st h ∙ rw (own, e))
+
+  -- ---- backward
+
+  module _ (big : plan .stacks ≡ plan .radix ^ plan .keeps) where
+    undone-is : (c i v : ℕ)
+        → undoes S (S .node c) i v
+        ≡ (eqb (on (spot c) (off (spot c) v) (codeAt plan g i)) v && okay plan g (spot c) (boatOf plan g i) (off (spot c) v))
+    unfolding settingIn nodeIn spotIn off on okay
+    undone-is c i v =
+        let R = plan .radix in
+        let b = eqb (getD (a .pushes) c 0) 1 in
+        let d = getD (a .depths) c 0 in
+        let pop : popOff R b d v ≡ offBy b (R ^ d) v = pop-off R d v b in
+        let u = offBy b (R ^ d) v in
+        let again : pushOn R b d u (codeAt plan g i) ≡ onBy b (R ^ d) u (codeAt plan g i) = push-on R d _ _ b in
+        rw (pop, again)
+        (ap (λ z. eqb (onBy b (R ^ d) u (codeAt plan g i)) v && z) (passes-is (getD (a .tests) c 0) (getD (a .levels) c 0) u (codeAt plan g i)))
+
+    state-is : (c i v : ℕ)
+        → i < plan .lines
+        → state S (lineAt (S .lines) i .from) c (popped S (S .node c) v) ≡ stateIn plan (fromIn (wordAt plan g i)) c 0 + off (spot c) v
+    unfolding settingIn nodeIn state stacks spotIn off
+    state-is c i v h =
+        let next : suc (plan .done) ≡ plan .done + 1 = omega arith in
+        let b = eqb (getD (a .pushes) c 0) 1 in
+        let pop : popOff (plan .radix) b (getD (a .depths) c 0) v ≡ offBy b (plan .radix ^ getD (a .depths) c 0) v = pop-off (plan .radix) (getD (a .depths) c 0) v b in
+        rw (line-is plan g i h, next, ← big, pop, add-zero)
+
+    -- a line's loop over stacks
+    stacks-are : (d c i e w : ℕ) (st : Search) → i < plan .lines
+        → overStacks S d c i e w st
+        ≡ turns
+        (stackTurn plan g (spot c) d (stateIn plan (fromIn (wordAt plan g i)) c 0) (codeAt plan g i) (boatOf plan g i) (plan .radix ^ e) w)
+        0
+        (plan .radix ^ (leaves (nodeIn a c) - e))
+        st
+    stacks-are d c i e w st h = unfold overStacks settingIn in turns-within _ turn′ 0 n n (omega arith) same-turn st
+      where
+        n : ℕ
+        n = plan .radix ^ (leaves (nodeIn a c) - e)
+
+        turn′ : ℕ → Search → Search
+        turn′ = stackTurn plan g (spot c) d (stateIn plan (fromIn (wordAt plan g i)) c 0) (codeAt plan g i) (boatOf plan g i) (plan .radix ^ e) w
+
+        same-turn : (x : ℕ) → x < n → (b : Search)
+            → cond (undoes S (S .node c) i (x * plan .radix ^ e + w)) (push d (state S (lineAt (S .lines) i .from) c (popped S (S .node c) (x * plan .radix ^ e + w))) b) b
+            ≡ turn′ x b
+        same-turn x l b = unfold stackTurn stackAt in rw (undone-is c i (x * plan .radix ^ e + w), state-is c i (x * plan .radix ^ e + w) h)
+
+    lines-are : (d c e : ℕ) (t : Target) (st : Search) → t .weight ≡ plan .radix ^ e
+        → overLines S d c (t .place) e (t .stack) st ≡ turns (lineTurn plan g (spot c) t d c (plan .radix ^ (leaves (nodeIn a c) - e))) 0 (plan .lines) st
+    lines-are d c e t st ew = whole ∙ turns-within body (lineTurn plan g (spot c) t d c n) 0 (plan .lines) (plan .lines) (omega arith) same-turn st
+      where
+        n : ℕ
+        n = plan .radix ^ (leaves (nodeIn a c) - e)
+
+        body : ℕ → Search → Search
+        body i b = cond (eqb (lineAt (S .lines) i .to) (t .place) && eqb (lineAt (S .lines) i .kind) (S .node c .kind)) (overStacks S d c i e (t .stack) b) b
+
+        whole : overLines S d c (t .place) e (t .stack) st ≡ turns body 0 (plan .lines) st
+        whole = unfold overLines in ap (λ m. turns body 0 m st) (unfold settingIn in lines-long plan g 0 (plan .lines))
+
+        same-turn : (i : ℕ) → i < plan .lines → (b : Search) → body i b ≡ lineTurn plan g (spot c) t d c n i b
+        same-turn i l b = rw (stacks-are d c i e (t .stack) b l) (unfold settingIn lineTurn nodeIn spotIn in rw (line-is plan g i l, ew))
+
+    -- the state t expanded
+    pub expand-is : plan .done ≤ 63 → (d t : ℕ) (st : Search) → expand S d t st ≡ turns (spotTurn a plan g (targetIn (a .depths) plan t) d) 0 (plan .done) st
+    expand-is few d t st = whole ∙ turns-within body (spotTurn a plan g aim d) 0 (plan .done) (plan .done) (omega arith) same-turn st
+      where
+        aim : Target
+        aim = targetIn (a .depths) plan t
+
+        k : ℕ
+        k = t / plan .stacks % (plan .done + 1)
+
+        e : ℕ
+        e = getD (a .depths) k 0
+
+        body : ℕ → Search → Search
+        body c b = cond (memb k (S .node c .follow)) (overLines S d c (t / plan .stacks / (plan .done + 1)) e (t % plan .stacks % plan .radix ^ e) b) b
+
+        whole : expand S d t st ≡ turns body 0 (plan .done) st
+        whole = unfold expand settingIn nodeIn placeOf posOf stackOf stacks in let next : plan .done + 1 ≡ suc (plan .done) = omega arith in rw (← next, ← big)
+
+        low : k < 64
+        low = omega (arith, few, mod-lt (t / plan .stacks) {m = plan .done + 1} (omega arith))
+
+        lines-here : (c : ℕ) (b : Search)
+            → overLines S d c (t / plan .stacks / (plan .done + 1)) e (t % plan .stacks % plan .radix ^ e) b
+            ≡ turns (lineTurn plan g (spot c) aim d c (plan .radix ^ (leaves (nodeIn a c) - e))) 0 (plan .lines) b
+        lines-here c b = unfold targetIn in lines-are d c e aim b refl
+
+        same-turn : (c : ℕ) → c < plan .done → (b : Search) → body c b ≡ spotTurn a plan g aim d c b
+        same-turn c l b =
+            let may : memb k (S .node c .follow) ≡ eqb (bitOf (getD (a .follow) c 0) k) 1 = unfold settingIn nodeIn in member (getD (a .follow) c 0) k low in
+            ap (λ z. cond z (overLines S d c (t / plan .stacks / (plan .done + 1)) e (t % plan .stacks % plan .radix ^ e) b) b) may
+            ∙ ap (λ z. cond (eqb (bitOf (getD (a .follow) c 0) k) 1) z b) (lines-here c b)
+            ∙ unfold spotTurn targetIn nodeIn in refl
+
+    -- the state from which phase one begins
+    pub goal-is : (b : ℕ) → stateIn plan b (plan .done) 0 ≡ goal S b
+    unfolding settingIn state stacks
+    goal-is b = let next : plan .done + 1 ≡ suc (plan .done) = omega arith in rw (next, big)

@@ -225,6 +225,10 @@ module _ {base size : ℕ} where
   pub under-start : (F : Search → Search) {t : ℕ} {w : List ℕ} → Ready base size t w → Under base size F t w F t w
   under-start F r = record { rest = refl; same = refl; long = refl; grows = omega arith; ready = r }
 
+  -- with what is to be done said in another way
+  pub under-as : (F G : Search → Search) {t : ℕ} {w : List ℕ} → Ready base size t w → G (found base size t w) ≡ F (found base size t w) → Under base size F t w G t w
+  under-as F G r e = record { rest = e; same = refl; long = refl; grows = omega arith; ready = r }
+
   module _ {F : Search → Search} {t₀ : ℕ} {w₀ : List ℕ} {G : Search → Search} {t : ℕ} {w : List ℕ} (u : Under base size F t₀ w₀ G t w) where
     -- a step f done, of which G′ is left
     pub under-step : {f : Search → Search} {t′ : ℕ} {w′ : List ℕ} (G′ : Search → Search)
@@ -302,4 +306,15 @@ module _ (base size : ℕ) (w : List ℕ) (room : base + size + size ≤ length 
         small = s;
         fits = omega arith;
         good = rw cleared-found (blank-good size);
+      }
+
+  -- a step from the cleared pair, as a step from the area before it was cleared
+  pub step-cleared : (f : Search → Search) (r : ℕ) (v : List ℕ) → Step base size f 0 cleared r v → Step base size (λ _. f (blank size)) 0 w r v
+  step-cleared f r v s =
+      record {
+        now-found = s .now-found ∙ ap f cleared-found;
+        same = s .same ∙ cleared-outside r;
+        long = s .long ∙ patch-length base size (replicate size 0) w (length-replicate _ _) (omega arith);
+        grows = omega arith;
+        ready = s .ready;
       }

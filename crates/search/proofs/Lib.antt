@@ -4,3 +4,4 @@ pub mod Bounds
 pub mod Comparing
 pub mod Bridge
 pub mod Visits
+pub mod Backs

@@ -2,7 +2,7 @@
 -- `proofs/Bridge` shows that loops of these are the loops of `Moves` over the setting that the columns and the loaded words say.
 use mathlib.Core.Path.{_≡_}
 use mathlib.Core.Bool.{Bool, true, false, cond, _&&_}
-use mathlib.Core.List.{List}
+use mathlib.Core.List.{List, [], _∷_}
 use Prim.Native.Nat.{ℕ, suc, _+_, _*_, _-_, _^_, _/_, _%_, _≤_, _<_}
 use lib.Dec.{eqb}
 use lib.ListN.{length, getD, take}
@@ -15,7 +15,10 @@ use Rattle.request.specs.declared.Plan.{Plan}
 use Rattle.search.specs.Loops.{turns}
 use Rattle.search.specs.Table.{Search, push}
 use Rattle.search.specs.Loaded.{codeAt, wordAt, boatIn, boatWordAt}
-use Rattle.search.specs.Moves.{visit}
+use Rattle.search.specs.PhaseOne.{begun, advanceBy}
+use Rattle.search.specs.Product.{Setting}
+use Rattle.search.specs.Along.{goal}
+use Rattle.search.specs.Moves.{expand}
 use Rattle.search.specs.declared.Spot.{Spot}
 use Rattle.search.specs.declared.Target.{Target}
 use Rattle.search.specs.declared.Told.{Told}
@@ -27,10 +30,14 @@ use Rattle.search.specs.declared.Told.the-variants as Told
 abbrev pub front : Plan → List ℕ → List ℕ
 front plan w = take (plan .base) w
 
+-- lines start at places
+abbrev pub Starts : Plan → List ℕ → Type 0
+Starts plan g = (i : ℕ) → i < plan .lines → fromIn (wordAt plan g i) < plan .places
+
 -- the tables stand in the area, lines go between the places, and no stack is deeper than the keeps
 pub record Fit (plan : Plan) (a : Columns) (w : List ℕ) : Type 0 where
   pub laid : Laid plan (length w)
-  pub starts : (i : ℕ) → i < plan .lines → fromIn (wordAt plan (front plan w) i) < plan .places
+  pub starts : Starts plan (front plan w)
   pub ends : (i : ℕ) → i < plan .lines → toIn (wordAt plan (front plan w) i) < plan .places
   pub levels-low : (c : ℕ) → c ≤ plan .done → getD (a .levels) c 0 ≤ plan .keeps
   pub depths-low : (c : ℕ) → c ≤ plan .done → getD (a .depths) c 0 ≤ plan .keeps
@@ -87,6 +94,27 @@ on s u x = onBy (eqb (s .push) 1) (s .weight) u x
 abbrev pub stateIn : Plan → ℕ → ℕ → ℕ → ℕ
 stateIn plan q k v = (q * (plan .done + 1) + k) * plan .stacks + v
 
+-- ---- a state that is expanded, by its numbers
+
+unfoldable pub targetIn : List ℕ → Plan → ℕ → Target
+targetIn depths plan t =
+    let k = t / plan .stacks % (plan .done + 1) in
+    let e = getD depths k 0 in
+    record {
+      place = t / plan .stacks / (plan .done + 1);
+      position = k;
+      depth = e;
+      weight = plan .radix ^ e;
+      stack = t % plan .stacks % plan .radix ^ e;
+    }
+
+-- its position and depth are in range
+pub record Aimed (plan : Plan) (t : Target) : Type 0 where
+  pub position-low : t .position ≤ plan .done
+  pub depth-low : t .depth ≤ plan .keeps
+  pub weight-is : t .weight ≡ plan .radix ^ t .depth
+  pub stack-low : t .stack < t .weight
+
 -- ---- forward
 
 -- the position k, if the mask has it, at the place `to` with the stack v cut to its depth
@@ -118,27 +146,24 @@ module _ (plan : Plan) (g : List ℕ) where
       (turns (stackTurn s d (stateIn plan (fromIn (wordAt plan g i)) c 0) (codeAt plan g i) (boatOf i) (t .weight) (t .stack)) 0 count st)
       st
 
--- ---- a state that is expanded, by its numbers
-
-unfoldable pub targetIn : List ℕ → Plan → ℕ → Target
-targetIn depths plan t =
-    let k = t / plan .stacks % (plan .done + 1) in
-    let e = getD depths k 0 in
-    record {
-      place = t / plan .stacks / (plan .done + 1);
-      position = k;
-      depth = e;
-      weight = plan .radix ^ e;
-      stack = t % plan .stacks % plan .radix ^ e;
-    }
-
--- its position and depth are in range
-pub record Aimed (plan : Plan) (t : Target) : Type 0 where
-  pub position-low : t .position ≤ plan .done
-  pub depth-low : t .depth ≤ plan .keeps
-  pub weight-is : t .weight ≡ plan .radix ^ t .depth
-  pub stack-low : t .stack < t .weight
-
 -- every stack tried is one of the stacks
 abbrev pub Stacks : ℕ → ℕ → ℕ → ℕ → Type 0
 Stacks count weight w stacks = (x : ℕ) → x < count → x * weight + w < stacks
+
+-- the position c, if the target's position may come after it: each line, for the stacks that it can leave
+unfoldable pub spotTurn : Columns → Plan → List ℕ → Target → ℕ → ℕ → Search → Search
+spotTurn a plan g t d c st =
+    let deep = deeper (eqb (getD (a .pushes) c 0) 1) (getD (a .depths) c 0) in
+    cond (eqb (bitOf (getD (a .follow) c 0) (t .position)) 1)
+    (turns (lineTurn plan g (spotIn a (plan .radix) c) t d c (plan .radix ^ (deep - t .depth))) 0 (plan .lines) st)
+    st
+
+-- ---- phase one
+
+-- k expansions, from a table of which h states are expanded
+unfoldable pub run : (ℕ → ℕ → Search → Search) → ℕ → ℕ → Search → Search
+run E k h st = advanceBy E k (record { expanded = h; table = st }) .table
+
+-- the table of phase one at its end, for the place b; whatever the pair held before
+unfoldable pub backward : Setting → ℕ → ℕ → Search → Search
+backward S N b st = advanceBy (expand S) N (begun N (goal S b ∷ [])) .table

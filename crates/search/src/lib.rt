@@ -13,7 +13,7 @@ ghost use Rattle.search.specs.Table.{push};
 ghost use Rattle.search.specs.Area.{stretch, patch, found, Ready, Step};
 ghost use Rattle.search.specs.Loaded.{boatWordAt, settingIn};
 ghost use Rattle.search.specs.Moves.{visit, onward, expand};
-ghost use Rattle.search.specs.Spots.{front, Fit, toldShown, wordsCompared, metBy, spotIn, Sane, off, on, okay, stateIn, stackAt, stackTurn, lineTurn, nextTurn, targetIn, Aimed, Stacks};
+ghost use Rattle.search.specs.Spots.{front, Fit, toldShown, wordsCompared, metBy, spotIn, Sane, off, on, okay, stateIn, stackAt, stackTurn, lineTurn, nextTurn, targetIn, Aimed, Stacks, Starts, spotTurn, run, backward};
 use request::Plan;
 
 // ---- the work area
@@ -382,4 +382,293 @@ pub struct Target {
     pub depth: usize,
     pub weight: usize,
     pub stack: usize,
+}
+
+// The state `t` by its numbers.
+pub fn target_of(depths: &[u8; 64], plan: Plan, t: usize) -> Target
+    requires { ⌜ (0 < plan .stacks) × (0 < plan .radix) × (plan .done ≤ 63) × ((k : ℕ) → k ≤ plan .done → plan .radix ^ getD (now depths) k 0 ≤ 1048576) ⌝ }
+    ensures { λ r. ⌜ r ≡ targetIn (now (depths .entry)) plan t ⌝ }
+{
+    let position = t / plan.stacks % (plan.done + 1);
+    let depth = wide(depths[position]);
+    let weight = power(plan.radix, depth);
+    Target {
+        place: t / plan.stacks / (plan.done + 1),
+        position,
+        depth,
+        weight,
+        stack: t % plan.stacks % weight,
+    }
+}
+
+// One stack `v` after the position: it is undone for the line's boat, and the state before is pushed.
+pub fn one_stack(
+    work: &mut [u32],
+    plan: Plan,
+    spot: Spot,
+    d: u32,
+    home: usize,
+    code: u32,
+    boat: u32,
+    v: usize,
+    tail: usize,
+) -> usize
+    requires { ⌜ Ready (plan .base) (plan .size) tail (now work) ⌝ }
+    requires { ⌜ Laid plan (length (now work)) ⌝ }
+    requires { ⌜ Sane spot ⌝ }
+    requires { ⌜ (0 < d) × (d ≤ suc tail) × (home + v < plan .size) ⌝ }
+    ensures { λ r. ⌜ Step (plan .base) (plan .size) (stackAt plan (front plan (now (work .entry))) spot d home code boat v) tail (now (work .entry)) r (now (work .exit)) ⌝ }
+{
+    let u = take_off(spot, v);
+    if put_on(spot, u, code) == v {
+        if passes(work, plan, spot, boat, u) {
+            return push_if_new(work, plan.base, plan.size, d, home + u, tail);
+        }
+    }
+    tail
+}
+
+// Each stack x * weight + w, of `count`.
+pub fn over_stacks(
+    work: &mut [u32],
+    plan: Plan,
+    spot: Spot,
+    d: u32,
+    home: usize,
+    code: u32,
+    boat: u32,
+    weight: usize,
+    w: usize,
+    count: usize,
+    tail: usize,
+) -> usize
+    requires { ⌜ Ready (plan .base) (plan .size) tail (now work) ⌝ }
+    requires { ⌜ Laid plan (length (now work)) ⌝ }
+    requires { ⌜ Sane spot ⌝ }
+    requires { ⌜ (0 < d) × (d ≤ suc tail) × ((x : ℕ) → x < count → home + (x * weight + w) < plan .size) ⌝ }
+    ensures { λ r. ⌜ Step (plan .base) (plan .size) (turns (stackTurn plan (front plan (now (work .entry))) spot d home code boat weight w) 0 count) tail (now (work .entry)) r (now (work .exit)) ⌝ }
+{
+    let mut t = tail;
+    for x in 0..count {
+        t = one_stack(work, plan, spot, d, home, code, boat, x * weight + w, t);
+    }
+    t
+}
+
+// Line `i`, if it leads to the target's place and is of the position's kind: gone back over to the position `c`.
+pub fn one_line(
+    work: &mut [u32],
+    plan: Plan,
+    spot: Spot,
+    target: Target,
+    d: u32,
+    c: usize,
+    count: usize,
+    i: usize,
+    tail: usize,
+) -> usize
+    requires { ⌜ Ready (plan .base) (plan .size) tail (now work) ⌝ }
+    requires { ⌜ Laid plan (length (now work)) × Starts plan (front plan (now work)) ⌝ }
+    requires { ⌜ Sane spot ⌝ }
+    requires { ⌜ (0 < d) × (d ≤ suc tail) × (c ≤ plan .done) × (i < plan .lines) × Stacks count (target .weight) (target .stack) (plan .stacks) ⌝ }
+    ensures { λ r. ⌜ Step (plan .base) (plan .size) (lineTurn plan (front plan (now (work .entry))) spot target d c count i) tail (now (work .entry)) r (now (work .exit)) ⌝ }
+{
+    let line = word(work, plan.words + i) as usize;
+    if line / 16 % 1024 == target.place {
+        if line % 16 == spot.kind {
+            let code = word(work, plan.codes + i);
+            let boat = boat_word(work, plan, code as usize);
+            let home = state_at(plan, line / 16384, c, 0);
+            return over_stacks(
+                work,
+                plan,
+                spot,
+                d,
+                home,
+                code,
+                boat,
+                target.weight,
+                target.stack,
+                count,
+                tail,
+            );
+        }
+    }
+    tail
+}
+
+// Each line.
+pub fn over_lines(
+    work: &mut [u32],
+    plan: Plan,
+    spot: Spot,
+    target: Target,
+    d: u32,
+    c: usize,
+    count: usize,
+    tail: usize,
+) -> usize
+    requires { ⌜ Ready (plan .base) (plan .size) tail (now work) ⌝ }
+    requires { ⌜ Laid plan (length (now work)) × Starts plan (front plan (now work)) ⌝ }
+    requires { ⌜ Sane spot ⌝ }
+    requires { ⌜ (0 < d) × (d ≤ suc tail) × (c ≤ plan .done) × Stacks count (target .weight) (target .stack) (plan .stacks) ⌝ }
+    ensures { λ r. ⌜ Step (plan .base) (plan .size) (turns (lineTurn plan (front plan (now (work .entry))) spot target d c count) 0 (plan .lines)) tail (now (work .entry)) r (now (work .exit)) ⌝ }
+{
+    let lines = plan.lines;
+    let mut t = tail;
+    for i in 0..lines {
+        t = one_line(work, plan, spot, target, d, c, count, i, t);
+    }
+    t
+}
+
+// The stack's depth after a position.
+fn leaves_of(depth: u8, push: u8) -> usize
+    ensures { λ r. ⌜ r ≡ deeper (eqb push 1) depth ⌝ }
+{
+    if push == 1 {
+        wide(depth) + 1
+    } else {
+        wide(depth)
+    }
+}
+
+// How many stacks of depth `deep` there are over one of depth `e`: radix^(deep - e), and 1 where `e` is not below.
+fn stacks_over(radix: usize, deep: usize, e: usize) -> usize
+    requires { ⌜ (0 < radix) × (radix ^ (deep - e) ≤ 1048576) ⌝ }
+    ensures { λ r. ⌜ r ≡ radix ^ (deep - e) ⌝ }
+{
+    if e < deep { power(radix, deep - e) } else { 1 }
+}
+
+// The position `c`, if the target's may come after it: each line, for each stack that it can leave.
+pub fn one_spot(
+    work: &mut [u32],
+    plan: Plan,
+    kinds: &[u8; 64],
+    tests: &[u8; 64],
+    levels: &[u8; 64],
+    depths: &[u8; 64],
+    pushes: &[u8; 64],
+    follow: &[u64; 64],
+    target: Target,
+    d: u32,
+    c: usize,
+    tail: usize,
+) -> usize
+    requires { ⌜ Ready (plan .base) (plan .size) tail (now work) ⌝ }
+    requires { ⌜ Fit plan (columns (now kinds) (now tests) (now levels) (now depths) (now pushes) (now follow)) (now work) ⌝ }
+    requires { ⌜ Aimed plan target ⌝ }
+    requires { ⌜ (0 < d) × (d ≤ suc tail) × (c < plan .done) ⌝ }
+    ensures { λ r. ⌜ Step (plan .base) (plan .size) (spotTurn (columns (now (kinds .entry)) (now (tests .entry)) (now (levels .entry)) (now (depths .entry)) (now (pushes .entry)) (now (follow .entry))) plan (front plan (now (work .entry))) target d c) tail (now (work .entry)) r (now (work .exit)) ⌝ }
+{
+    if (follow[c] >> target.position) % 2 == 1 {
+        let spot = spot_at(kinds, tests, levels, depths, pushes, follow, plan.radix, c);
+        let count = stacks_over(plan.radix, leaves_of(depths[c], pushes[c]), target.depth);
+        return over_lines(work, plan, spot, target, d, c, count, tail);
+    }
+    tail
+}
+
+// The state `t` is expanded: each state before it that has no word gets the word `d`.
+pub fn expand_state(
+    work: &mut [u32],
+    plan: Plan,
+    kinds: &[u8; 64],
+    tests: &[u8; 64],
+    levels: &[u8; 64],
+    depths: &[u8; 64],
+    pushes: &[u8; 64],
+    follow: &[u64; 64],
+    d: u32,
+    t: usize,
+    tail: usize,
+) -> usize
+    requires { ⌜ Ready (plan .base) (plan .size) tail (now work) ⌝ }
+    requires { ⌜ Fit plan (columns (now kinds) (now tests) (now levels) (now depths) (now pushes) (now follow)) (now work) ⌝ }
+    requires { ⌜ (0 < d) × (d ≤ suc tail) ⌝ }
+    ensures { λ r. ⌜ Step (plan .base) (plan .size) (expand (settingIn (columns (now (kinds .entry)) (now (tests .entry)) (now (levels .entry)) (now (depths .entry)) (now (pushes .entry)) (now (follow .entry))) plan (front plan (now (work .entry)))) d t) tail (now (work .entry)) r (now (work .exit)) ⌝ }
+{
+    let target = target_of(depths, plan, t);
+    let done = plan.done;
+    let mut u = tail;
+    for c in 0..done {
+        u = one_spot(
+            work,
+            plan,
+            kinds,
+            tests,
+            levels,
+            depths,
+            pushes,
+            follow,
+            target,
+            d,
+            c,
+            u,
+        );
+    }
+    u
+}
+
+// Phase one from a queue with `tail` states in it: states are expanded until none waits.
+pub fn search_back(
+    work: &mut [u32],
+    plan: Plan,
+    kinds: &[u8; 64],
+    tests: &[u8; 64],
+    levels: &[u8; 64],
+    depths: &[u8; 64],
+    pushes: &[u8; 64],
+    follow: &[u64; 64],
+    tail: usize,
+) -> usize
+    requires { ⌜ Ready (plan .base) (plan .size) tail (now work) ⌝ }
+    requires { ⌜ Fit plan (columns (now kinds) (now tests) (now levels) (now depths) (now pushes) (now follow)) (now work) ⌝ }
+    ensures { λ r. ⌜ Step (plan .base) (plan .size) (run (expand (settingIn (columns (now (kinds .entry)) (now (tests .entry)) (now (levels .entry)) (now (depths .entry)) (now (pushes .entry)) (now (follow .entry))) plan (front plan (now (work .entry))))) (plan .size) 0) tail (now (work .entry)) r (now (work .exit)) ⌝ }
+{
+    let mut t = tail;
+    let mut head = 0;
+    while head < t {
+        let s = waiting(work, plan.base, plan.size, t, head);
+        let d = dist_at(work, plan.base, plan.size, t, s) + 1;
+        t = expand_state(
+            work,
+            plan,
+            kinds,
+            tests,
+            levels,
+            depths,
+            pushes,
+            follow,
+            d,
+            s,
+            t,
+        );
+        head += 1;
+    }
+    t
+}
+
+// Phase one: the distance of every state to the end position at the place `to`. Returns how many states have one.
+pub fn distances(
+    work: &mut [u32],
+    plan: Plan,
+    kinds: &[u8; 64],
+    tests: &[u8; 64],
+    levels: &[u8; 64],
+    depths: &[u8; 64],
+    pushes: &[u8; 64],
+    follow: &[u64; 64],
+    to: usize,
+) -> usize
+    requires { ⌜ Fit plan (columns (now kinds) (now tests) (now levels) (now depths) (now pushes) (now follow)) (now work) ⌝ }
+    requires { ⌜ to < plan .places ⌝ }
+    ensures { λ r. ⌜ Step (plan .base) (plan .size) (backward (settingIn (columns (now (kinds .entry)) (now (tests .entry)) (now (levels .entry)) (now (depths .entry)) (now (pushes .entry)) (now (follow .entry))) plan (front plan (now (work .entry)))) (plan .size) to) 0 (now (work .entry)) r (now (work .exit)) ⌝ }
+{
+    let base = plan.base;
+    let size = plan.size;
+    clear_stretch(work, base, size);
+    let t = push_if_new(work, base, size, 1, state_at(plan, to, plan.done, 0), 0);
+    search_back(work, plan, kinds, tests, levels, depths, pushes, follow, t)
 }

@@ -1,15 +1,15 @@
 -- `search::from_state` meets its contract: each test that stops the line makes the step of the setting none, and past them it is the loop over the next positions.
 -- Assumes nothing.
 use mathlib.Core.Path.{_≡_, sym, ap, _∙_, subst}
-use Prim.Native.Nat.{ℕ, _+_, _*_, _/_, _%_, _<_, _≤_}
+use Prim.Native.Nat.{_+_, _*_, _/_, _%_, _<_, _≤_}
 use native.Mathlib.Nat.{mod-lt}
 use native.Mathlib.Omega.{arith}
-use lib.ListN.{length, getD}
+use lib.ListN.{length}
 use Rattle.automaton.specs.Columns.{Columns, columns}
-use Rattle.request.specs.Layout.{fromIn, toIn}
-use Rattle.search.specs.Loaded.{codeAt, wordAt, boatWordAt}
+use Rattle.request.specs.Layout.{toIn}
+use Rattle.search.specs.Loaded.{boatWordAt}
 use Rattle.search.specs.Spots.{front, Fit}
-use Rattle.search.proofs.Bounds.{front-get, stacks-pos, power-small, block-small, stacks-small, spot-sane}
+use Rattle.search.proofs.Bounds.{word-low, code-low, base-in, word-front, code-front, stacks-pos, power-small, block-small, stacks-small, spot-sane}
 use Rattle.search.proofs.Changes.{step-as, step-none}
 use Rattle.search.proofs.Bridge.{from-elsewhere, from-other-kind, from-refused, from-taken}
 use borrow.Author.Needs.{needs}
@@ -22,22 +22,14 @@ cols c = columns (c .args .kinds .now) (c .args .tests .now) (c .args .levels .n
 fit : (c : tie.Start) → Fit (c .args .plan) (cols c) (c .args .work .now)
 fit c = c .pre .1 .0
 
--- the line's tables stand before the search
-at-word : (c : tie.Start) → c .args .plan .words + c .args .i < length (c .args .work .now)
-at-word c = let l = fit c .laid in omega (arith, l .base-at, l .room, c .pre .1 .1 .0)
-
-at-code : (c : tie.Start) → (c .args .plan .codes + c .args .i < length (c .args .work .now)) × (length (c .args .work .now) < 18446744073709551616)
-at-code c = let l = fit c .laid in (omega (arith, l .words-at, l .base-at, l .room, c .pre .1 .1 .0), omega arith)
-
-word-is : (c : tie.Start) (p : ℕ)
-    → p ≡ getD (c .args .work .now) (c .args .plan .words + c .args .i) 0
-    → p ≡ wordAt (c .args .plan) (front (c .args .plan) (c .args .work .now)) (c .args .i)
-word-is c p e = let l = fit c .laid in e ∙ sym (front-get (c .args .plan .base) (c .args .work .now) (c .args .plan .words + c .args .i) (omega (arith, l .base-at, c .pre .1 .1 .0)))
-
-code-is : (c : tie.Start) (x : ℕ)
-    → x ≡ getD (c .args .work .now) (c .args .plan .codes + c .args .i) 0
-    → x ≡ codeAt (c .args .plan) (front (c .args .plan) (c .args .work .now)) (c .args .i)
-code-is c x e = let l = fit c .laid in e ∙ sym (front-get (c .args .plan .base) (c .args .work .now) (c .args .plan .codes + c .args .i) (omega (arith, l .words-at, l .base-at, c .pre .1 .1 .0)))
+-- the line's words stand in the area
+in-area : (c : tie.Start)
+    → let a = c .args in
+    (a .plan .words + a .i < length (a .work .now)) × (a .plan .codes + a .i < length (a .work .now)) × (length (a .work .now) < 18446744073709551616)
+in-area c =
+    let l = fit c .laid in
+    let h = c .pre .1 .1 .0 in
+    (omega (arith, word-low l (c .args .i) h, base-in l), omega (arith, code-low l (c .args .i) h, base-in l), omega arith)
 
 -- the position and the stack of the state are in range
 pos-low : (c : tie.Start) → c .args .s / c .args .plan .stacks % (c .args .plan .done + 1) ≤ c .args .plan .done
@@ -47,10 +39,10 @@ stack-small : (c : tie.Start) → c .args .s % c .args .plan .stacks < 429496729
 stack-small c = let l = fit c .laid in omega (arith, mod-lt (c .args .s) {m = c .args .plan .stacks} (stacks-pos l), stacks-small l, l .small)
 
 add-word : tie.Need-add-word
-add-word c = omega (arith, at-word (c .before .before .before))
+add-word c = omega (arith, in-area (c .before .before .before) .0)
 
 word-requires : tie.Need-word-requires
-word-requires c κs = at-word (c .before .before .before)
+word-requires c κs = in-area (c .before .before .before) .0
 
 cast-line : tie.Need-cast-line
 cast-line c = search needs
@@ -79,10 +71,10 @@ rem-v : tie.Need-rem-v
 rem-v c = omega (arith, stacks-pos (fit (c .before .before .before .before .before .before .before .before .before .before .before .before) .laid))
 
 add-word-2 : tie.Need-add-word-2
-add-word-2 c = omega (arith, at-code (c .before .before .before .before .before .before .before .before .before .before .before .before .before .before))
+add-word-2 c = let h = in-area (c .before .before .before .before .before .before .before .before .before .before .before .before .before .before) in omega (arith, h .1, h .2)
 
 word-requires-2 : tie.Need-word-requires-2
-word-requires-2 c κs = at-code (c .before .before .before .before .before .before .before .before .before .before .before .before .before .before) .0
+word-requires-2 c κs = in-area (c .before .before .before .before .before .before .before .before .before .before .before .before .before .before) .1
 
 cast-boat-word : tie.Need-cast-boat-word
 cast-boat-word c = search needs
@@ -105,7 +97,7 @@ element-copy-out-over-next c = omega (arith, pos-low (c .before .before .before 
 over-next-requires : tie.Need-over-next-requires
 over-next-requires c κs =
     let f = fit (c .before .before .before .before .before .before .before .before .before .before .before .before .before .before .before .before .before .before .before .before .before .before .before) in
-    let p = word-is (c .before .before .before .before .before .before .before .before .before .before .before .before .before .before .before .before .before .before .before .before .before .before .before) _ (c .before .before .before .before .before .before .before .before .before .before .before .before .before .before .before .before .before .before .before .word .ensures) in
+    let p = word-front (f .laid) _ _ (c .before .before .before .before .before .before .before .before .before .before .before .before .before .before .before .before .before .before .before .before .before .before .before .pre .1 .1 .0) _ (c .before .before .before .before .before .before .before .before .before .before .before .before .before .before .before .before .before .before .before .word .ensures) in
     (c .before .before .before .before .before .before .before .before .before .before .before .before .before .before .before .before .before .before .before .before .before .before .before .pre .0, (f .laid, (subst (λ z. toIn z < c .before .before .before .before .before .before .before .before .before .before .before .before .before .before .before .before .before .before .before .before .before .before .before .args .plan .places) (sym p) (f .ends _ (c .before .before .before .before .before .before .before .before .before .before .before .before .before .before .before .before .before .before .before .before .before .before .before .pre .1 .1 .0)), f .depths-low)))
 
 same-length : tie.Need-same-length
@@ -115,8 +107,8 @@ returns : tie.Need-returns
 returns c =
     let a = c .before .before .before .before .before .before .before .before .before .before .before .before .before .before .before .before .before .before .before .before .before .before .before .before .before .before in
     let laid = fit a .laid in
-    let p = word-is a _ (c .before .before .before .before .before .before .before .before .before .before .before .before .before .before .before .before .before .before .before .before .before .before .word .ensures) in
-    let x = code-is a _ (c .before .before .before .before .before .before .before .before .before .before .before .word2 .ensures) in
+    let p = word-front laid _ _ (a .pre .1 .1 .0) _ (c .before .before .before .before .before .before .before .before .before .before .before .before .before .before .before .before .before .before .before .before .before .before .word .ensures) in
+    let x = code-front laid _ _ (a .pre .1 .1 .0) _ (c .before .before .before .before .before .before .before .before .before .before .before .word2 .ensures) in
     let b = c .before .before .before .before .before .before .before .before .before .boat-word .ensures ∙ ap (boatWordAt (a .args .plan) (front (a .args .plan) (a .args .work .now))) x in
     let here = sym (c .before .before .before .before .before .before .before .before .before .before .before .before .before .before .before .before .before .before .before .before .before .stands-at .ensures) ∙ c .before .before .before .before .before .before .before .before .before .before .before .before .before .before .before .before .before .before .before .before .if1 .taken in
     let ok = sym (c .before .before .before .before .before .before .before .passes .ensures) ∙ c .before .before .before .before .before .before .if3 .taken in
@@ -130,8 +122,8 @@ returns-2 : tie.Need-returns-2
 returns-2 c =
     let a = c .before .before .before .before .before .before .before .before .before .before .before .before .before .before .before .before .before .before .before .before in
     let laid = fit a .laid in
-    let p = word-is a _ (c .before .before .before .before .before .before .before .before .before .before .before .before .before .before .before .before .word .ensures) in
-    let x = code-is a _ (c .before .before .before .before .before .word2 .ensures) in
+    let p = word-front laid _ _ (a .pre .1 .1 .0) _ (c .before .before .before .before .before .before .before .before .before .before .before .before .before .before .before .before .word .ensures) in
+    let x = code-front laid _ _ (a .pre .1 .1 .0) _ (c .before .before .before .before .before .word2 .ensures) in
     let b = c .before .before .before .boat-word .ensures ∙ ap (boatWordAt (a .args .plan) (front (a .args .plan) (a .args .work .now))) x in
     let here = sym (c .before .before .before .before .before .before .before .before .before .before .before .before .before .before .before .stands-at .ensures) ∙ c .before .before .before .before .before .before .before .before .before .before .before .before .before .before .if1 .taken in
     let no-pass = sym (c .before .passes .ensures) ∙ c .if3 .left in
@@ -145,7 +137,7 @@ returns-3 : tie.Need-returns-3
 returns-3 c =
     let a = c .before .before .before .before .before .before .before .before .before .before .before in
     let laid = fit a .laid in
-    let p = word-is a _ (c .before .before .before .before .before .before .before .word .ensures) in
+    let p = word-front laid _ _ (a .pre .1 .1 .0) _ (c .before .before .before .before .before .before .before .word .ensures) in
     let here = sym (c .before .before .before .before .before .before .stands-at .ensures) ∙ c .before .before .before .before .before .if1 .taken in
     step-none _ (a .pre .0) (from-other-kind (cols a) _ _ (laid .stacks-is) (laid .few-commands) _ _ _ _ _ (a .pre .1 .1 .0) p here _ (c .before .before .spot-at .ensures) (c .if2 .left))
 
@@ -156,7 +148,7 @@ returns-4 : tie.Need-returns-4
 returns-4 c =
     let a = c .before .before .before .before .before .before in
     let laid = fit a .laid in
-    let p = word-is a _ (c .before .before .word .ensures) in
+    let p = word-front laid _ _ (a .pre .1 .1 .0) _ (c .before .before .word .ensures) in
     step-none _ (a .pre .0) (from-elsewhere (cols a) _ _ (laid .stacks-is) (laid .few-commands) _ _ _ _ _ (a .pre .1 .1 .0) p (sym (c .before .stands-at .ensures) ∙ c .if1 .left))
 
 pub from-state-spec : {M : Type 1} → statement M
