@@ -1,0 +1,82 @@
+-- Demand 3, in terms of accepted chains of any length and of what the caller sees: the reply and the output.
+-- Claimed: `finds` (the definition that the finder's promise cites meets the demand).
+use mathlib.Core.Path.{_≡_, refl, sym, ap, _∙_, subst}
+use mathlib.Core.Bool.{Bool, true, false, cond, _&&_}
+use mathlib.Core.List.{List, _++_}
+use mathlib.Core.Option.{Option, none, some}
+use Prim.Native.Nat.{ℕ, _<_, _≤_}
+use native.Mathlib.Omega.{arith}
+use lib.Dec.{ltb, leb}
+use lib.ListN.{length, take, drop, getD}
+use lib.Seq.{take-append-seam}
+use borrow.Author.Tests.{ltb-true, leb-true, leb-false}
+use Rattle.meaning.specs.Outcome.{Outcome, refused, passed, ask}
+use Rattle.meaning.specs.Record.{Line, Day, readRecord}
+use Rattle.meaning.specs.Pattern.{Pattern, readPattern, noneGiven}
+use Rattle.meaning.specs.Chain.{Accepted, First}
+use Rattle.meaning.specs.Request.{Asked, sizeOf, need, askRequest}
+use Rattle.record.specs.Outcomes.{and-true}
+use Rattle.record.specs.Fit.{record-fits}
+use Rattle.search.specs.Answer.{LinesWithin, answer, answer-none, answer-some}
+use Rattle.finder.specs.Reply.{Finding, stopped, nowhere, chain, too-long, settled, searched, findOf, Said, found, none-found, refusal, said, outAfter}
+
+-- none: no chain of any length is accepted. Found: the chain written is accepted and comes before every other accepted one.
+-- 19: so does a chain of the length given, which doesn't fit
+abbrev pub Answers : List Line → Pattern → ℕ → ℕ → ℕ → Said → List ℕ → Type 0
+Answers lines p a b room none-found out = (c : List ℕ) → Accepted lines p a b c → ⊥
+Answers lines p a b room (found n) out = (n ≤ room) × (length (take n out) ≡ n) × First lines p a b (take n out)
+Answers lines p a b room (refusal number n) out = number ≡ 19 → (c : List ℕ) × First lines p a b c × (length c ≡ n) × (room < n)
+
+-- for every record and pattern that the bytes read as
+abbrev pub Demand3 : List ℕ → List ℕ → ℕ → ℕ → ℕ → Said → List ℕ → Type 0
+Demand3 rec pat from to room reply out =
+    (day : Day) (p : Pattern) → readRecord rec ≡ passed day → readPattern noneGiven pat ≡ passed p → Answers (day .lines) p from to room reply out
+
+-- ---- the definition meets it
+
+module _ (lines : List Line) (places : ℕ) (p : Pattern) (a b : ℕ) (within : LinesWithin lines places) (ha : a < places) (hb : b < places) (room : ℕ) (out : List ℕ) where
+  -- a chain that fits is read off the output's front
+  written : (c : List ℕ) → take (length c) (c ++ drop (length c) out) ≡ c
+  written c = take-append-seam c (drop (length c) out)
+
+  settled-right : Answers lines p a b room (said (settled room (answer lines places p a b))) (outAfter (settled room (answer lines places p a b)) out)
+  settled-right = go (answer lines places p a b) refl
+    where
+      go : (o : Option (List ℕ)) → answer lines places p a b ≡ o → Answers lines p a b room (said (settled room o)) (outAfter (settled room o) out)
+      go none e = answer-none lines places p within a b ha hb .0 e
+      go (some c) e = fits (leb (length c) room) refl
+        where
+          first : First lines p a b c
+          first = answer-some lines places p within a b ha hb c e .0
+
+          fits : (t : Bool) → leb (length c) room ≡ t → Answers lines p a b room (said (cond t (chain c) (too-long (length c)))) (outAfter (cond t (chain c) (too-long (length c))) out)
+          fits true h = (leb-true _ _ h, ap length (written c), subst (First lines p a b) (sym (written c)) first)
+          fits false h = λ q. (c, first, refl, leb-false _ _ h)
+
+-- bytes read as a day and a pattern: only 15, 16 and 17 are left to ask
+asked-of : (rec pat : List ℕ) (from to words : ℕ) (day : Day) (p : Pattern) → readRecord rec ≡ passed day → readPattern noneGiven pat ≡ passed p
+    → let q : Asked = record { day = day; pattern = p } in askRequest rec pat from to words ≡ ask (ltb from (day .places) && ltb to (day .places)) 15 (ask (leb (sizeOf q) 1048576) 16 (ask (leb (need (sizeOf q)) words) 17 (passed q)))
+unfolding askRequest
+asked-of rec pat from to words day p r s = simp (r, s)
+
+pub finds : (rec pat : List ℕ) (from to words room : ℕ) (out : List ℕ) → ((i : ℕ) → getD rec i 0 < 256) → Demand3 rec pat from to room (said (findOf rec pat from to words room)) (outAfter (findOf rec pat from to words room) out)
+unfolding findOf
+finds rec pat from to words room out low day p r s =
+    let q : Asked = record { day = day; pattern = p } in
+    rw (asked-of rec pat from to words day p r s)
+    (go (ltb from (day .places) && ltb to (day .places)) refl (leb (sizeOf q) 1048576) (leb (need (sizeOf q)) words))
+  where
+    q : Asked
+    q = record { day = day; pattern = p }
+
+    never : {A : Type 0} (m n : ℕ) → m < n → m ≡ n → A
+    never m n less e = absurd (omega (arith, less, e))
+
+    go : (t : Bool) → (ltb from (day .places) && ltb to (day .places)) ≡ t → (u v : Bool)
+        → let f = searched (ask t 15 (ask u 16 (ask v 17 (passed (record { day = day; pattern = p }))))) from to room in Answers (day .lines) p from to room (said f) (outAfter f out)
+    go true e true true =
+        let (f, g) = and-true (ltb from (day .places)) (ltb to (day .places)) e in
+        settled-right (day .lines) (day .places) p from to (record-fits rec day r low .within) (ltb-true _ _ f) (ltb-true _ _ g) room out
+    go true e true false = never 17 19 (omega arith)
+    go true e false v = never 16 19 (omega arith)
+    go false e u v = never 15 19 (omega arith)
