@@ -5,7 +5,7 @@ use mathlib.Core.List.{List, _++_}
 use mathlib.Core.Option.{Option, none, some}
 use Prim.Native.Nat.{ℕ}
 use lib.Dec.{leb}
-use lib.ListN.{length, drop, replicate}
+use lib.ListN.{length, drop}
 use Rattle.meaning.specs.Outcome.{Outcome, refused, passed}
 use Rattle.meaning.specs.Request.{Asked, askRequest}
 use Rattle.search.specs.Answer.{answer}
@@ -50,14 +50,7 @@ findReply (Find.Found n) = found n
 findReply Find.NoChain = none-found
 findReply (Find.Refused number second) = refusal number second
 
--- ---- the lent words
-
--- untouched after a refusal at 17 or before, else all zeros
-abbrev pub workAfter : Finding → List ℕ → List ℕ
-workAfter (stopped number) work = work
-workAfter nowhere work = replicate (length work) 0
-workAfter (chain c) work = replicate (length work) 0
-workAfter (too-long n) work = replicate (length work) 0
+-- ---- the output (the work area is `workAfter` of the questions up to 17, in `meaning`)
 
 -- the chain at the front when found, the rest untouched; else all of it untouched
 abbrev pub outAfter : Finding → List ℕ → List ℕ
