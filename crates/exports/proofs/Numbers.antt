@@ -1,14 +1,14 @@
 -- Replies as numbers: a refusal's second number is 0, and lengths and words fit 32 bits. Assumes nothing.
-use mathlib.Core.Path.{_≡_, refl, sym, ap, _∙_}
+use mathlib.Core.Path.{_≡_, refl, sym, ap}
 use mathlib.Core.List.{List}
-use Prim.Native.Nat.{ℕ, _+_, _*_, _<_, _≤_}
+use Prim.Native.Nat.{ℕ, _*_, _<_}
 use native.Mathlib.Omega.{arith}
-use lib.ListN.{length, take}
+use lib.ListN.{take}
 use lib.Seq.{length-take-le}
-use Rattle.meaning.specs.Outcome.{Outcome, refused, passed, told, Reply, value, refusal}
+use Rattle.meaning.specs.Outcome.{Outcome, refused, passed, told, value, refusal}
 use Rattle.meaning.specs.Record.{Line}
 use Rattle.meaning.specs.Writing.{beginOf, addOf}
-use Rattle.record.specs.Added.{begun, Adds, adds}
+use Rattle.record.specs.Added.{begun, adds}
 use Rattle.record.specs.Whole.{whole-of}
 use Rattle.exports.specs.Number.{numberOf, Fits32}
 

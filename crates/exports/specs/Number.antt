@@ -1,5 +1,5 @@
 -- A reply as one number of 64 bits, n · 2^32 + value: what the functions for C and Rust return.
-use mathlib.Core.Bool.{Bool, cond, true, false}
+use mathlib.Core.Bool.{cond}
 use mathlib.Core.List.{List, [], _∷_, _++_}
 use Prim.Native.Nat.{ℕ, _+_, _*_, _<_}
 use lib.Dec.{leb}

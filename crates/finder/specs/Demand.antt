@@ -1,6 +1,6 @@
 -- Demand 3, in terms of accepted chains of any length and of what the caller sees: the reply and the output.
 -- Claimed: `finds` (the definition that the finder's promise cites meets the demand).
-use mathlib.Core.Path.{_≡_, refl, sym, ap, _∙_, subst}
+use mathlib.Core.Path.{_≡_, refl, sym, ap, subst}
 use mathlib.Core.Bool.{Bool, true, false, cond, _&&_}
 use mathlib.Core.List.{List, _++_}
 use mathlib.Core.Option.{Option, none, some}
@@ -10,7 +10,7 @@ use lib.Dec.{ltb, leb}
 use lib.ListN.{length, take, drop, getD}
 use lib.Seq.{take-append-seam}
 use borrow.Author.Tests.{ltb-true, leb-true, leb-false}
-use Rattle.meaning.specs.Outcome.{Outcome, refused, passed, ask}
+use Rattle.meaning.specs.Outcome.{passed, ask}
 use Rattle.meaning.specs.Record.{Line, Day, readRecord}
 use Rattle.meaning.specs.Pattern.{Pattern, readPattern, noneGiven}
 use Rattle.meaning.specs.Chain.{Accepted, First}
@@ -18,7 +18,7 @@ use Rattle.meaning.specs.Request.{Asked, sizeOf, need, askRequest}
 use Rattle.record.specs.Outcomes.{and-true}
 use Rattle.record.specs.Fit.{record-fits}
 use Rattle.search.specs.Answer.{LinesWithin, answer, answer-none, answer-some}
-use Rattle.finder.specs.Reply.{Finding, stopped, nowhere, chain, too-long, settled, searched, findOf, Said, found, none-found, refusal, said, outAfter}
+use Rattle.finder.specs.Reply.{chain, too-long, settled, searched, findOf, Said, found, none-found, refusal, said, outAfter}
 
 -- none: no chain of any length is accepted. Found: the chain written is accepted and comes before every other accepted one.
 -- 19: so does a chain of the length given, which doesn't fit

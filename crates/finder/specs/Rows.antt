@@ -5,8 +5,6 @@ use mathlib.Core.Bool.{Bool, true, false, cond, _&&_}
 use mathlib.Core.List.{List, [], _∷_, _++_}
 use Prim.Native.Nat.{ℕ}
 use lib.Dec.{eqb}
-use lib.ListN.{length}
-use Rattle.meaning.specs.Outcome.{refused, passed}
 use Rattle.meaning.specs.Record.{boatsAfter, entryAt, linesFrom, readRecord}
 use Rattle.meaning.specs.Pattern.{readPattern, readAt, commandAt, shapeOf}
 use Rattle.meaning.specs.Request.{searchSize, askRequest}

@@ -1,6 +1,6 @@
 -- The pattern (document 01, "The pattern" and questions 8 to 14): what its bytes say.
 -- `readPattern` is the whole of it: the number of the first question that fails, or the pattern as a tree.
-use mathlib.Core.Bool.{Bool, cond, true, false, not, _&&_, _||_}
+use mathlib.Core.Bool.{Bool, cond, not, _&&_, _||_}
 use mathlib.Core.List.{List, [], _∷_}
 use mathlib.Core.Option.{Option, none, some}
 use Prim.Native.Nat.{ℕ, zero, suc, _+_, _-_, max}

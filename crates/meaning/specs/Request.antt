@@ -1,6 +1,6 @@
 -- A request (document 01, "Asking" and questions 15 to 17): the search size, the words of work area that it needs, and what becomes
 -- of the area. Record first, then pattern, then request.
-use mathlib.Core.Bool.{Bool, _&&_}
+use mathlib.Core.Bool.{_&&_}
 use mathlib.Core.List.{List}
 use Prim.Native.Nat.{ℕ, suc, _+_, _*_, _^_}
 use lib.Dec.{ltb, leb}

@@ -5,7 +5,7 @@ use Prim.Native.Nat.{ℕ, _+_, _-_, _/_, _%_}
 use lib.Dec.{ltb, leb}
 use lib.ListN.{length, getD, take, drop}
 use Rattle.meaning.specs.Outcome.{Outcome, refused, passed, ask, andThen}
-use Rattle.meaning.specs.Record.{Boat, Line, Day, bytesOf, countAllowed, askLine, readRecord}
+use Rattle.meaning.specs.Record.{Line, bytesOf, countAllowed, askLine, readRecord}
 
 -- a buffer with new bytes from a place on; all other bytes stay
 abbrev pub written : ℕ → List ℕ → List ℕ → List ℕ

@@ -4,7 +4,7 @@ use mathlib.Core.Path.{_≡_, refl, sym, ap, _∙_, subst}
 use mathlib.Core.Bool.{Bool, true, false, cond}
 use mathlib.Core.List.{List, [], _∷_}
 use mathlib.Core.Logic.{⊎-elim}
-use Prim.Native.Nat.{ℕ, zero, suc, _+_, _*_, _-_, _<_, _≤_}
+use Prim.Native.Nat.{ℕ, suc, _+_, _*_, _-_, _≤_}
 use native.Mathlib.Nat.{add-zero, zero-add}
 use native.Mathlib.Omega.{arith}
 use lib.ListN.{length, take, drop, length-drop}
@@ -12,7 +12,7 @@ use lib.Seq.{drop-drop, take-all}
 use types.Run.{OneOf}
 use denote.Enum.Declared.{tagOf}
 use Rattle.meaning.specs.Outcome.{Outcome, refused, passed, andThen}
-use Rattle.meaning.specs.Record.{Line, Day, Entry, line, end, two, placesWhole, entryAt, linesFrom}
+use Rattle.meaning.specs.Record.{Line, Entry, line, end, two, placesWhole, entryAt, linesFrom}
 use Rattle.record.specs.Reply.{entryTold, headTold, countedWith, closedWith, readingTold}
 use Rattle.record.specs.Walk.{Stands, entry-stands, step-refused, step-end, step-line}
 use Rattle.record.specs.declared.Entry.{Entry as EntryEnum}

@@ -7,15 +7,15 @@ use Prim.Native.Nat.{ℕ, zero, suc, _+_, _*_, _-_, _/_, _%_, _<_, _≤_}
 use native.Mathlib.Nat.{div-add-mod'}
 use native.Mathlib.Omega.{arith}
 use lib.Dec.{ltb, leb, eqb}
-use lib.ListN.{length, getD, take, drop, length-append, length-take, length-drop, List·getD-append}
-use lib.Seq.{take-append-le, drop-append-le, take-at, take-all, take-take, take-suc, take-nil, getD-take, getD-append-seam, length-take-le, drop-drop}
+use lib.ListN.{length, getD, take, drop, length-append, length-drop, List·getD-append}
+use lib.Seq.{take-append-le, drop-append-le, take-at, take-suc, getD-take, getD-append-seam, length-take-le}
 use borrow.Author.Tests.{leb-true, ltb-true, le-leb, lt-ltb}
-use Rattle.meaning.specs.Outcome.{Outcome, refused, passed, andThen}
-use Rattle.meaning.specs.Record.{Boat, Line, Day, Entry, line, end, byte, two, three, lineOf, bytesOf, countAllowed, placesBelow, kindAllowed, entryAt, linesFrom, placesWhole, readRecord}
-use Rattle.meaning.specs.Writing.{written, unlessRefused, emptyRecord, beginOf, beginAfter, askNew, addOf, addAfter, lineAt, noLine, readOf}
+use Rattle.meaning.specs.Outcome.{passed, andThen}
+use Rattle.meaning.specs.Record.{Line, Day, line, end, byte, two, lineOf, bytesOf, countAllowed, placesBelow, kindAllowed, entryAt, linesFrom, placesWhole, readRecord}
+use Rattle.meaning.specs.Writing.{written, emptyRecord, beginOf, beginAfter, addOf, addAfter, noLine, readOf}
 use Rattle.record.specs.Outcomes.{passed-inj, not-both, ask-passed, andThen-passed, and-true, true-and}
 use Rattle.record.specs.Walk.{Stands, entry-stands, step-end, step-line, none-zero, Walk, over-end, over-line, walked, lines-length}
-use Rattle.record.specs.Whole.{Whole, whole-of, of-whole, head-long, record-length, lines-few}
+use Rattle.record.specs.Whole.{whole-of, of-whole, record-length}
 
 -- ---- a walk goes by its first bytes
 

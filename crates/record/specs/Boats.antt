@@ -1,18 +1,18 @@
 -- Counting the different boats: a line's boat is new exactly where no earlier line has it.
 -- Claimed: `boats-more` (one line more, by the first line with its boat) and `word-agree` (a boat as one number).
-use mathlib.Core.Path.{_≡_, refl, sym, ap, _∙_, subst}
-use mathlib.Core.Bool.{Bool, true, false, cond, _&&_, _||_}
+use mathlib.Core.Path.{_≡_, refl, sym, ap, _∙_}
+use mathlib.Core.Bool.{Bool, true, false, cond, _||_}
 use mathlib.Core.List.{List, [], _∷_, _++_}
 use Prim.Native.Nat.{ℕ, zero, suc, _+_, _*_, _<_, _≤_}
 use native.Mathlib.Omega.{arith}
 use lib.Dec.{ltb, eqb, leb·suc-suc}
-use lib.ListN.{length, getD, take, length-append}
+use lib.ListN.{length, take, length-append}
 use lib.Seq.{take-suc, take-length}
-use borrow.Author.Tests.{eqb-true, eqb-false, eq-eqb, ne-eqb, lt-ltb, le-ltb, ltb-true, ltb-false}
+use borrow.Author.Tests.{eqb-true, eq-eqb, ne-eqb, lt-ltb, le-ltb, ltb-true, ltb-false}
 use Rattle.meaning.specs.Record.{Boat, Line, agree, among, boatsAfter, boats}
 use Rattle.meaning.specs.Writing.{lineAt, noLine}
 use mathlib.Core.Bool.{or-assoc, or-false}
-use Rattle.record.specs.Outcomes.{and-true, true-and, false-true}
+use Rattle.record.specs.Outcomes.{and-true, true-and}
 
 -- ---- boats that agree
 

@@ -1,9 +1,9 @@
 -- Laws of outcomes: what it takes to pass a question and two parts one after the other. Every crate above uses them.
-use mathlib.Core.Path.{_≡_, refl, ap}
-use mathlib.Core.Bool.{Bool, true, false, cond, _&&_}
+use mathlib.Core.Path.{_≡_, refl}
+use mathlib.Core.Bool.{Bool, true, false, _&&_}
 use Prim.Native.Nat.{ℕ}
 use native.Mathlib.Omega.{arith}
-use Rattle.meaning.specs.Outcome.{Outcome, refused, passed, ask, andThen, Reply, told}
+use Rattle.meaning.specs.Outcome.{Outcome, refused, passed, ask, andThen}
 
 -- ---- passed and refused
 

@@ -5,7 +5,7 @@ use mathlib.Core.List.{List}
 use Prim.Native.Nat.{ℕ, _+_}
 use lib.ListN.{length}
 use Rattle.meaning.specs.Outcome.{Outcome, refused, passed, Reply, value, refusal}
-use Rattle.meaning.specs.Record.{Boat, Line, Day, Entry, two, placesWhole}
+use Rattle.meaning.specs.Record.{Line, Day, Entry, two, placesWhole}
 use Rattle.meaning.specs.Record as meaning
 use Rattle.record.specs.declared.Line.{Line as LineStruct}
 use Rattle.record.specs.declared.WriteReply.{WriteReply}

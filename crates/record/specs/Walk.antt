@@ -1,18 +1,18 @@
 -- Laws of the walk over a record's entries: what `linesFrom` is after one entry, and where its lines stand.
 -- The code's loop and the theorems about records use these and never the definition's text.
 use mathlib.Core.Path.{_≡_, refl, sym, ap, _∙_, subst}
-use mathlib.Core.Bool.{Bool, true, false, cond, _&&_}
-use mathlib.Core.List.{List, [], _∷_, _++_}
+use mathlib.Core.Bool.{Bool, true, false, cond}
+use mathlib.Core.List.{List, [], _∷_}
 use Prim.Native.Nat.{ℕ, zero, suc, _+_, _*_, _-_, _<_, _≤_}
 use native.Mathlib.Omega.{arith}
 use lib.Dec.{ltb, leb, eqb}
-use lib.ListN.{length, getD, drop, length-drop}
+use lib.ListN.{length, drop, length-drop}
 use lib.Seq.{drop-drop}
-use borrow.Author.Tests.{leb-true, eqb-true, ltb-true}
+use borrow.Author.Tests.{leb-true, eqb-true}
 use Rattle.meaning.specs.Outcome.{Outcome, refused, passed, ask, andThen}
 use Rattle.meaning.specs.Writing.{lineAt}
 use Rattle.record.specs.Outcomes.{passed-inj, not-both, andThen-passed}
-use Rattle.meaning.specs.Record.{Line, Entry, line, end, byte, lineOf, askLine, placesBelow, kindAllowed, entryAt, followed, linesFrom}
+use Rattle.meaning.specs.Record.{Line, Entry, line, end, byte, lineOf, placesBelow, kindAllowed, entryAt, followed, linesFrom}
 
 -- ---- one entry
 

@@ -1,6 +1,6 @@
 -- The search size by steps: a product that has passed the limit stays above it. Assumes nothing.
 use mathlib.Core.Path.{_≡_, sym, ap, _∙_}
-use Prim.Native.Nat.{ℕ, zero, suc, _+_, _*_, _^_, _<_, _≤_}
+use Prim.Native.Nat.{ℕ, _+_, _*_, _^_, _<_, _≤_}
 use native.Mathlib.Nat.{pow-zero, pow-succ', mul-one, mul-assoc, mul-comm, mul-le-mul-left, pow-le-pow-right}
 use native.Mathlib.Numerals.{add-one}
 

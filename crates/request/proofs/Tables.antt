@@ -1,16 +1,16 @@
 -- Three stretches written end to end into an area of zeros: what the area then holds. Assumes nothing.
-use mathlib.Core.Path.{_≡_, refl, sym, ap, _∙_, subst}
+use mathlib.Core.Path.{_≡_, sym, ap, _∙_}
 use mathlib.Core.Bool.{Bool, true, false, cond}
-use mathlib.Core.List.{List, [], _∷_, _++_, map, append-assoc}
-use Prim.Native.Nat.{ℕ, _+_, _*_, _-_, _≤_}
+use mathlib.Core.List.{List, [], _++_, map, append-assoc}
+use Prim.Native.Nat.{ℕ, _+_, _-_}
 use native.Mathlib.Omega.{arith}
 use lib.Dec.{eqb}
-use lib.ListN.{length, replicate, length-append, length-replicate, length-map, replicate-append-replicate}
+use lib.ListN.{length, replicate, length-append, length-replicate, replicate-append-replicate}
 use borrow.Rule.Slice.PartMut.{putMid}
 use Rattle.meaning.specs.Record.{Line, boats}
 use Rattle.record.specs.Boats.{word}
 use Rattle.request.specs.Codes.{codes, codes-length}
-use Rattle.request.specs.Layout.{lineWord, loadedOf, boatWords, Loading}
+use Rattle.request.specs.Layout.{lineWord, loadedOf, Loading}
 use Rattle.request.specs.declared.Plan.{Plan}
 use Rattle.request.proofs.Fills.{put-between}
 

@@ -1,11 +1,11 @@
 -- The layout of the work area, and what is loaded into it: the boats, each line's boat number, and the lines.
 use mathlib.Core.Path.{_≡_}
 use mathlib.Core.Bool.{cond}
-use mathlib.Core.List.{List, [], _∷_, _++_, map}
+use mathlib.Core.List.{List, [], _++_, map}
 use Prim.Native.Nat.{ℕ, _+_, _*_, _^_, _≤_, _<_, _/_, _%_}
 use lib.Dec.{eqb}
 use lib.ListN.{length, take}
-use Rattle.meaning.specs.Record.{Boat, Line, boats}
+use Rattle.meaning.specs.Record.{Line, boats}
 use Rattle.record.specs.Boats.{word}
 use Rattle.request.specs.Codes.{codes}
 use Rattle.request.specs.declared.Plan.{Plan}

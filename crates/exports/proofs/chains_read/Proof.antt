@@ -1,6 +1,6 @@
 -- `exports::chains_read` meets its contract: the fields of the line that `read_line` gives, where there is room for them.
 -- Assumes nothing.
-use mathlib.Core.Path.{_≡_, refl, sym, ap, _∙_}
+use mathlib.Core.Path.{refl, sym, ap, _∙_}
 use borrow.Author.Tests.{le-leb, lt-leb}
 use Rattle.meaning.specs.Writing.{readOf}
 use Rattle.record.specs.Reply.{lineReply}

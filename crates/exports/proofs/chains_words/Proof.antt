@@ -1,5 +1,5 @@
 -- `exports::chains_words` meets its contract: the reply of `words_needed`, as a number. Assumes nothing.
-use mathlib.Core.Path.{_≡_, sym, ap, _∙_}
+use mathlib.Core.Path.{sym, ap, _∙_}
 use Rattle.meaning.specs.Request.{wordsOf}
 use Rattle.request.specs.Reply.{wordsReply}
 use Rattle.exports.proofs.Numbers.{refusal-number, value-number}

@@ -1,8 +1,8 @@
 -- `exports::put_fields` meets its contract: after i turns the first i fields stand at the front. Assumes nothing.
-use mathlib.Core.Path.{_≡_, refl, sym, ap, _∙_}
-use Prim.Native.Nat.{ℕ, _+_, _-_, _<_, _≤_}
+use mathlib.Core.Path.{_≡_, refl, _∙_}
+use Prim.Native.Nat.{_-_, _<_, _≤_}
 use native.Mathlib.Omega.{arith}
-use lib.ListN.{length, getD, length-set}
+use lib.ListN.{length, length-set}
 use Rattle.request.proofs.Fills.{filled, fill-next}
 use borrow.Author.Needs.{needs}
 use Rattle.exports.proofs.put_fields.Statement.{statement}

@@ -1,6 +1,6 @@
 -- `exports::write_number` meets its contract, case by case. Assumes nothing.
-use mathlib.Core.Path.{_≡_, sym, ap, _∙_, subst}
-use Prim.Native.Nat.{ℕ, _<_}
+use mathlib.Core.Path.{sym, ap, subst}
+use Prim.Native.Nat.{_<_}
 use native.Mathlib.Omega.{arith}
 use Rattle.record.specs.Reply.{writeReply}
 use Rattle.record.specs.declared.WriteReply.{WriteReply}

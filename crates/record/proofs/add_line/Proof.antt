@@ -8,7 +8,7 @@ use borrow.Author.Needs.{needs}
 use borrow.Author.Tests.{lt-leb}
 use lib.ListN.{length, take}
 use lib.Seq.{length-take-le}
-use Rattle.meaning.specs.Outcome.{Outcome, refused, passed, told, refusal}
+use Rattle.meaning.specs.Outcome.{Outcome, passed, told, refusal}
 use Rattle.meaning.specs.Record.{Line, readRecord}
 use Rattle.meaning.specs.Writing.{written, askNew, addOf}
 use Rattle.record.specs.Reply.{lineShown, writeReply, readingTold, readingNumber}

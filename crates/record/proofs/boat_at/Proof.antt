@@ -1,6 +1,6 @@
 -- `record::boat_at` meets its contract: class and sail number are those of the line read. Assumes nothing.
-use mathlib.Core.Path.{_≡_, sym, ap, _∙_, subst}
-use Prim.Native.Nat.{ℕ, _<_}
+use mathlib.Core.Path.{ap, subst}
+use Prim.Native.Nat.{_<_}
 use native.Mathlib.Omega.{arith}
 use Rattle.meaning.specs.Record.{Line}
 use Rattle.record.specs.Boats.{word}

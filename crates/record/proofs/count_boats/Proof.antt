@@ -2,7 +2,7 @@
 -- Assumes nothing.
 use mathlib.Core.Path.{_≡_, refl, sym, ap, _∙_}
 use mathlib.Core.Bool.{cond}
-use Prim.Native.Nat.{ℕ, suc, _+_, _-_, _≤_}
+use Prim.Native.Nat.{ℕ, suc, _-_, _≤_}
 use lib.Dec.{eqb}
 use native.Mathlib.Omega.{arith}
 use native.Mathlib.Numerals.{add-one}
@@ -11,7 +11,6 @@ use lib.Seq.{take-length}
 use Rattle.meaning.specs.Record.{boats, boatsAfter}
 use Rattle.record.specs.Boats.{firstSame, boats-few, boats-more}
 use Rattle.record.specs.Whole.{linesOf, lines-short}
-use borrow.Author.Needs.{needs}
 use Rattle.record.proofs.count_boats.Statement.{statement}
 use Rattle.record.proofs.count_boats.Tie as tie
 

@@ -3,7 +3,7 @@
 use mathlib.Core.Path.{_∙_, ap}
 use Rattle.record.proofs.Tests.{not-zero}
 use borrow.Author.Needs.{needs}
-use borrow.Author.Tests.{le-ltb, lt-ltb, le-leb, lt-leb, eq-eqb, ne-eqb}
+use borrow.Author.Tests.{le-leb, lt-leb, eq-eqb, ne-eqb}
 use Rattle.meaning.specs.Outcome.{passed}
 use Rattle.meaning.specs.Record.{Line, line, askLine, entryAt}
 use Rattle.record.specs.Reply.{entryTold}

@@ -1,11 +1,9 @@
 -- `record::first_same` meets its contract. The invariant: no line passed has the boat of line i. Assumes nothing.
-use mathlib.Core.Path.{_≡_, sym, ap, _∙_}
-use mathlib.Core.Bool.{true, false}
-use mathlib.Core.List.{List}
+use mathlib.Core.Path.{_≡_, sym, _∙_}
+use mathlib.Core.Bool.{false}
 use Prim.Native.Nat.{ℕ, _-_, _<_, _≤_}
 use native.Mathlib.Omega.{arith}
 use borrow.Author.Count.{below-more}
-use lib.ListN.{length}
 use Rattle.meaning.specs.Record.{agree}
 use Rattle.meaning.specs.Writing.{lineAt}
 use Rattle.record.specs.Boats.{agree-self, word-agree, word-differ, first-is}

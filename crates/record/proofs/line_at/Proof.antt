@@ -1,9 +1,9 @@
 -- `record::line_at` meets its contract: line i of a record that passes stands at byte 3 + 10 · i. Assumes nothing.
-use mathlib.Core.Path.{_≡_, sym, ap, _∙_}
+use mathlib.Core.Path.{sym, ap, _∙_}
 use Prim.Native.Nat.{ℕ, _+_, _*_, _-_, _≤_}
 use native.Mathlib.Omega.{arith}
 use borrow.Author.Needs.{needs}
-use lib.ListN.{length, take, drop, length-drop}
+use lib.ListN.{length, length-drop}
 use Rattle.meaning.specs.Record.{lineOf}
 use Rattle.record.specs.Whole.{line-read, lines-short}
 use Rattle.record.proofs.Loop.{lent}

@@ -1,11 +1,10 @@
 -- `record::lines_from` meets its contract. The invariant: ten bytes a line have been passed, and what is left to count from
 -- here, with the lines passed, is what there was to count at the start. The measure is the bytes left. Assumes nothing.
-use mathlib.Core.Path.{_≡_, refl, sym, ap, _∙_, subst}
-use Prim.Native.Nat.{ℕ, suc, _+_, _*_, _-_, _≤_}
+use mathlib.Core.Path.{_≡_, refl, sym, ap, _∙_}
+use Prim.Native.Nat.{ℕ, _+_, _*_, _-_, _≤_}
 use native.Mathlib.Omega.{arith}
 use borrow.Author.Needs.{needs}
-use lib.ListN.{length, drop, length-drop}
-use lib.Seq.{drop-drop}
+use lib.ListN.{length, drop}
 use Rattle.meaning.specs.Record.{linesFrom}
 use Rattle.record.specs.Reply.{countedWith}
 use Rattle.record.proofs.Loop.{turn, stop-here}

@@ -1,10 +1,9 @@
 -- `record::read_record` meets its contract: questions 1 and 2 by its tests, the rest by what `lines_from` ensures.
 -- Assumes nothing.
-use mathlib.Core.Path.{_≡_, sym, ap, _∙_, subst}
+use mathlib.Core.Path.{sym, ap, _∙_}
 use Prim.Native.Nat.{ℕ}
-use native.Mathlib.Omega.{arith}
 use borrow.Author.Needs.{needs}
-use borrow.Author.Tests.{le-leb, lt-leb, leb-true}
+use borrow.Author.Tests.{le-leb, lt-leb}
 use lib.ListN.{length, drop}
 use Rattle.meaning.specs.Record.{two, linesFrom, readRecord}
 use Rattle.record.specs.Reply.{countedWith}

@@ -1,8 +1,5 @@
 -- `record_rows::back` is safe and ends: i goes up to n. Assumes nothing.
-use mathlib.Core.Path.{_≡_, refl}
 use Prim.Native.Nat.{_-_, _≤_}
-use native.Mathlib.Omega.{arith}
-use lib.ListN.{length}
 use borrow.Author.Needs.{needs}
 use Rattle.record_rows.proofs.back.Statement.{statement}
 use Rattle.record_rows.proofs.back.Tie as tie

@@ -1,7 +1,6 @@
 -- `record_rows::grown` is safe and ends: i goes up to b, and the buffer keeps its length. Assumes nothing.
-use mathlib.Core.Path.{_≡_, refl}
-use Prim.Native.Nat.{_-_, _≤_}
-use native.Mathlib.Omega.{arith}
+use mathlib.Core.Path.{_≡_}
+use Prim.Native.Nat.{_-_}
 use lib.ListN.{length}
 use borrow.Author.Needs.{needs}
 use Rattle.record_rows.proofs.grown.Statement.{statement}

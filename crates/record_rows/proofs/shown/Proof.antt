@@ -1,7 +1,6 @@
 -- `record_rows::shown` is safe and ends: i goes up to the length. Assumes nothing.
-use mathlib.Core.Path.{_≡_, refl}
+use mathlib.Core.Path.{_≡_}
 use Prim.Native.Nat.{_-_, _≤_}
-use native.Mathlib.Omega.{arith}
 use lib.ListN.{length}
 use borrow.Author.Needs.{needs}
 use Rattle.record_rows.proofs.shown.Statement.{statement}

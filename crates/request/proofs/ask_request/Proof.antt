@@ -1,20 +1,19 @@
 -- `request::ask_request` meets its contract: questions 1 to 14 by what asking them ensures, 15 and 17 by its tests, 16 by what
 -- measuring ensures; the plan is laid out in the area. Assumes nothing.
 use mathlib.Core.Path.{_≡_, refl, sym, ap, _∙_, subst}
-use mathlib.Core.Bool.{true, false}
+use mathlib.Core.Bool.{true}
 use mathlib.Core.List.{List}
-use Prim.Native.Nat.{ℕ, suc, _+_, _*_, _^_, _<_, _≤_}
+use Prim.Native.Nat.{ℕ, suc, _*_, _^_, _<_, _≤_}
 use native.Mathlib.Omega.{arith}
 use lib.Dec.{leb}
 use lib.ListN.{length}
-use Rattle.meaning.specs.Outcome.{Outcome, told, refusal, value}
 use Rattle.meaning.specs.Record.{boats}
-use Rattle.meaning.specs.Request.{askBoth, askRequest, sizeOf, need}
+use Rattle.meaning.specs.Request.{askBoth, sizeOf, need}
 use Rattle.record.specs.Whole.{linesOf, lines-short}
 use Rattle.record.specs.Boats.{boats-few}
 use lib.Seq.{take-length}
-use Rattle.request.specs.Reply.{bothNumber, Small, Answers, Planned}
-use Rattle.request.specs.Drawing.{Fitting, Drawn, laid, planned-of}
+use Rattle.request.specs.Reply.{bothNumber, Small}
+use Rattle.request.specs.Drawing.{Fitting, laid, planned-of}
 use Rattle.request.specs.declared.Request.the-variants as Request
 use Rattle.request.proofs.Asking.{Counted, both-refused, both-counted, counted-size, above, measured, refused-both, asked-from, asked-to, asked-size, asked-room, asked-all}
 use borrow.Author.Needs.{needs}

@@ -1,6 +1,5 @@
 -- `request::kept_boats` meets its contract, by its test. Assumes nothing.
 use borrow.Author.Tests.{eq-eqb, ne-eqb}
-use borrow.Author.Needs.{needs}
 use Rattle.request.proofs.kept_boats.Statement.{statement}
 use Rattle.request.proofs.kept_boats.Tie as tie
 

@@ -1,19 +1,14 @@
 -- `request::load_boat` meets its contract: the boat is counted, and stored, just where line i is the first with it. Assumes nothing.
-use mathlib.Core.Path.{_≡_, refl, sym, ap, _∙_}
-use mathlib.Core.Bool.{true, false, cond}
-use mathlib.Core.List.{List, [], _∷_, _++_, map, append-assoc, append-nil}
-use Prim.Native.Nat.{ℕ, zero, suc, _+_, _*_, _-_, _<_, _≤_}
+use mathlib.Core.Path.{_≡_, sym, ap, _∙_}
+use mathlib.Core.Bool.{cond}
+use Prim.Native.Nat.{suc, _-_, _<_, _≤_}
 use native.Mathlib.Numerals.{add-one}
 use native.Mathlib.Omega.{arith}
-use lib.Dec.{eqb}
-use lib.ListN.{length, getD, take, drop, set, length-set, length-append, length-map}
-use lib.Seq.{getD-take, take-length, drop-length}
+use lib.ListN.{length, take, set}
 use borrow.Author.Tests.{eq-eqb, ne-eqb}
-use Rattle.meaning.specs.Record.{Boat, boats, boatsAfter}
-use Rattle.meaning.specs.Writing.{lineAt}
-use Rattle.record.specs.Boats.{word, agree-self, firstSame, first-le, boats-more, boats-next, boats-few, boats-up}
+use Rattle.meaning.specs.Record.{boats}
+use Rattle.record.specs.Boats.{boats-more, boats-few, boats-up}
 use Rattle.record.specs.Whole.{linesOf, lines-short}
-use Rattle.request.specs.Codes.{codes, codes-length, code-earlier, code-new}
 use borrow.Author.Needs.{needs}
 use Rattle.request.proofs.load_boat.Statement.{statement}
 use Rattle.request.proofs.load_boat.Tie as tie

@@ -1,21 +1,18 @@
 -- `request::load_boats` meets its contract: after i turns the first words are the boats of the first i lines. Assumes nothing.
 use mathlib.Core.Path.{_≡_, refl, sym, ap, _∙_}
 use mathlib.Core.Bool.{Bool, true, false, cond}
-use mathlib.Core.List.{List, [], _∷_, _++_, map, append-assoc, append-nil}
-use Prim.Native.Nat.{ℕ, zero, suc, _+_, _*_, _-_, _<_, _≤_}
+use mathlib.Core.List.{List, [], _∷_, _++_, map, append-nil}
+use Prim.Native.Nat.{ℕ, suc, _+_, _-_, _<_, _≤_}
 use native.Mathlib.Numerals.{add-one}
 use native.Mathlib.Omega.{arith}
 use lib.Dec.{eqb}
-use lib.ListN.{length, getD, take, drop, set, length-set, length-append, length-map}
-use lib.Seq.{getD-take, take-length, drop-length}
-use borrow.Author.Tests.{eq-eqb, ne-eqb}
+use lib.ListN.{length, take, drop, set, length-append, length-map}
+use lib.Seq.{take-length, drop-length}
 use Rattle.meaning.specs.Record.{Boat, Line, boats, boatsAfter}
 use Rattle.meaning.specs.Writing.{lineAt}
-use Rattle.record.specs.Boats.{word, agree-self, firstSame, first-le, boats-more, boats-next, boats-few, boats-up}
-use Rattle.record.specs.Whole.{linesOf, lines-short}
-use Rattle.request.specs.Codes.{codes, codes-length, code-earlier, code-new}
+use Rattle.record.specs.Boats.{word, firstSame, boats-next, boats-up}
+use Rattle.record.specs.Whole.{linesOf}
 use Rattle.request.proofs.Fills.{store-end}
-use borrow.Author.Needs.{needs}
 use Rattle.request.proofs.load_boats.Statement.{statement}
 use Rattle.request.proofs.load_boats.Tie as tie
 

@@ -1,20 +1,19 @@
 -- `request::load_code` meets its contract: a boat's number is that of the first line with it, which is before line i or line i itself.
 -- Assumes nothing.
-use mathlib.Core.Path.{_≡_, refl, sym, ap, _∙_}
-use mathlib.Core.Bool.{true, false, cond}
-use mathlib.Core.List.{List, [], _∷_, _++_, map, append-assoc, append-nil}
-use Prim.Native.Nat.{ℕ, zero, suc, _+_, _*_, _-_, _<_, _≤_}
+use mathlib.Core.Path.{_≡_, sym, ap, _∙_}
+use mathlib.Core.Bool.{cond}
+use mathlib.Core.List.{List}
+use Prim.Native.Nat.{ℕ, suc, _-_, _<_, _≤_}
 use native.Mathlib.Numerals.{add-one}
 use native.Mathlib.Omega.{arith}
-use lib.Dec.{eqb}
-use lib.ListN.{length, getD, take, drop, set, length-set, length-append, length-map}
-use lib.Seq.{getD-take, take-length, drop-length}
+use lib.ListN.{length, getD, take, set}
+use lib.Seq.{getD-take}
 use borrow.Author.Tests.{eq-eqb, ne-eqb}
 use Rattle.meaning.specs.Record.{Line, boats}
 use Rattle.meaning.specs.Writing.{lineAt}
-use Rattle.record.specs.Boats.{word, agree-self, firstSame, first-le, boats-more, boats-next, boats-few, boats-up}
-use Rattle.record.specs.Whole.{linesOf, lines-short}
-use Rattle.request.specs.Codes.{codes, codes-length, code-earlier, code-new}
+use Rattle.record.specs.Boats.{agree-self, firstSame, first-le, boats-more, boats-few}
+use Rattle.record.specs.Whole.{linesOf}
+use Rattle.request.specs.Codes.{codes, code-earlier, code-new}
 use Rattle.request.specs.Layout.{Numbering}
 use borrow.Author.Needs.{needs}
 use Rattle.request.proofs.load_code.Statement.{statement}

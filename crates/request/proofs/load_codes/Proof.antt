@@ -1,21 +1,13 @@
 -- `request::load_codes` meets its contract: after i turns the first i words are the first i lines' boat numbers. Assumes nothing.
 use mathlib.Core.Path.{_≡_, refl, sym, ap, _∙_}
-use mathlib.Core.Bool.{true, false, cond}
-use mathlib.Core.List.{List, [], _∷_, _++_, map, append-assoc, append-nil}
-use Prim.Native.Nat.{ℕ, zero, suc, _+_, _*_, _-_, _<_, _≤_}
+use Prim.Native.Nat.{_-_, _<_, _≤_}
 use native.Mathlib.Numerals.{add-one}
 use native.Mathlib.Omega.{arith}
-use lib.Dec.{eqb}
-use lib.ListN.{length, getD, take, drop, set, length-set, length-append, length-map}
-use lib.Seq.{getD-take, take-length, drop-length}
-use borrow.Author.Tests.{eq-eqb, ne-eqb}
-use Rattle.meaning.specs.Record.{Boat, boats, boatsAfter}
-use Rattle.meaning.specs.Writing.{lineAt}
-use Rattle.record.specs.Boats.{word, agree-self, firstSame, first-le, boats-more, boats-next, boats-few, boats-up}
+use lib.ListN.{length, take}
+use Rattle.meaning.specs.Record.{boats, boatsAfter}
 use Rattle.record.specs.Whole.{linesOf, lines-short}
-use Rattle.request.specs.Codes.{codes, codes-length, code-earlier, code-new}
+use Rattle.request.specs.Codes.{codes, codes-length}
 use Rattle.request.proofs.Fills.{filled, fill-next, fill-all, take-filled}
-use borrow.Author.Needs.{needs}
 use Rattle.request.proofs.load_codes.Statement.{statement}
 use Rattle.request.proofs.load_codes.Tie as tie
 

@@ -1,14 +1,12 @@
 -- `request::load_lines` meets its contract: after i turns the first i words are those of the first i lines. Assumes nothing.
-use mathlib.Core.Path.{_≡_, refl, sym, ap, _∙_}
-use Prim.Native.Nat.{ℕ, suc, _+_, _*_, _-_, _<_, _≤_}
-use native.Mathlib.Numerals.{add-one}
+use mathlib.Core.Path.{_≡_, refl, sym, _∙_}
+use Prim.Native.Nat.{_-_, _<_, _≤_}
 use native.Mathlib.Omega.{arith}
 use mathlib.Core.List.{map}
 use lib.ListN.{length, getD, length-set, length-map}
-use Rattle.meaning.specs.Writing.{lineAt}
 use Rattle.request.specs.Layout.{lineWord}
 use Rattle.request.specs.Codes.{map-at}
-use Rattle.record.specs.Whole.{linesOf, lines-short}
+use Rattle.record.specs.Whole.{linesOf}
 use Rattle.request.proofs.Fills.{filled, fill-next, fill-all}
 use borrow.Author.Needs.{needs}
 use Rattle.request.proofs.load_lines.Statement.{statement}

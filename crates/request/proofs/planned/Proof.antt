@@ -1,6 +1,6 @@
 -- `request::planned` meets its contract: its numbers are those that it is given, and the stacks are what is left of the size.
 -- Assumes nothing.
-use mathlib.Core.Path.{_≡_, refl, sym, ap, _∙_}
+use mathlib.Core.Path.{_≡_, refl, ap, _∙_}
 use Prim.Native.Nat.{ℕ, suc, _+_, _*_, _/_, _<_, _≤_}
 use native.Mathlib.Nat.{mul-le-mul, mul-div-cancel-left}
 use native.Mathlib.Numerals.{add-one}

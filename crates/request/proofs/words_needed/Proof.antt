@@ -1,19 +1,16 @@
 -- `request::words_needed` meets its contract: questions 1 to 14 by what asking them ensures, 16 by what measuring ensures.
 -- Assumes nothing.
-use mathlib.Core.Path.{_≡_, refl, sym, ap, _∙_, subst}
-use mathlib.Core.Bool.{true, false}
+use mathlib.Core.Path.{_≡_, sym, ap, _∙_, subst}
+use mathlib.Core.Bool.{true}
 use mathlib.Core.List.{List}
 use Prim.Native.Nat.{ℕ, suc, _+_, _*_, _^_, _<_, _≤_}
 use native.Mathlib.Omega.{arith}
 use lib.Dec.{leb}
 use lib.ListN.{length}
-use borrow.Author.Tests.{leb-true}
-use Rattle.meaning.specs.Outcome.{Outcome, told, refusal, value}
+use Rattle.meaning.specs.Outcome.{told, refusal, value}
 use Rattle.meaning.specs.Record.{boats}
-use Rattle.meaning.specs.Request.{askBoth, askRequest, sizeOf, need, wordsOf}
-use Rattle.record.specs.Whole.{linesOf, lines-short}
-use Rattle.record.specs.Boats.{boats-few}
-use lib.Seq.{take-length}
+use Rattle.meaning.specs.Request.{askBoth}
+use Rattle.record.specs.Whole.{linesOf}
 use Rattle.request.specs.Reply.{bothNumber, Small}
 use Rattle.request.proofs.Asking.{Counted, both-refused, both-counted, counted-size, above, measured, words-refused, words-above, words-are}
 use borrow.Author.Needs.{needs}
