@@ -12,7 +12,9 @@ ghost use Rattle.search.specs.Loops.{turns};
 ghost use Rattle.search.specs.Table.{push};
 ghost use Rattle.search.specs.Area.{stretch, patch, found, Ready, Step};
 ghost use Rattle.search.specs.Loaded.{boatWordAt, settingIn};
-ghost use Rattle.search.specs.Moves.{visit, onward, expand};
+ghost use Rattle.search.specs.Moves.{visit, onward, expand, fromState};
+ghost use Rattle.search.specs.PhaseTwo.{lesserWord, nearestWord, gather, try};
+ghost use Rattle.search.specs.Chosen.{firstStates, nearTurn, tryTable};
 ghost use Rattle.search.specs.Spots.{front, Fit, toldShown, wordsCompared, metBy, spotIn, Sane, off, on, okay, stateIn, stackAt, stackTurn, lineTurn, nextTurn, targetIn, Aimed, Stacks, Starts, spotTurn, run, backward};
 use request::Plan;
 
@@ -671,4 +673,141 @@ pub fn distances(
     clear_stretch(work, base, size);
     let t = push_if_new(work, base, size, 1, state_at(plan, to, plan.done, 0), 0);
     search_back(work, plan, kinds, tests, levels, depths, pushes, follow, t)
+}
+
+// ---- phase two: marks and frontiers are the pair after the distances
+
+// The lesser of two words, where 0 stands for no distance.
+fn lesser(v: u32, w: u32) -> u32
+    ensures { λ r. ⌜ r ≡ lesserWord v w ⌝ }
+{
+    if v == 0 {
+        return w;
+    }
+    if w == 0 {
+        return v;
+    }
+    if v < w { v } else { w }
+}
+
+// The word of the nearest first state, after position `k`.
+fn one_first(work: &[u32], plan: Plan, begin: u64, from: usize, k: usize, v: u32) -> u32
+    requires { ⌜ Laid plan (length (now work)) ⌝ }
+    requires { ⌜ (from < plan .places) × (k ≤ plan .done) ⌝ }
+    ensures { λ r. ⌜ r ≡ nearTurn plan (stretch (plan .base) (plan .size) (now (work .entry))) begin from k v ⌝ }
+{
+    if (begin >> k) % 2 == 1 {
+        let s = state_at(plan, from, k, 0);
+        return lesser(v, word(work, plan.base + s));
+    }
+    v
+}
+
+// The word of the nearest first state: those at the place `from`, at the positions of the mask `begin`. 0 where none has a distance.
+pub fn nearest(work: &[u32], plan: Plan, begin: u64, from: usize) -> u32
+    requires { ⌜ Laid plan (length (now work)) ⌝ }
+    requires { ⌜ from < plan .places ⌝ }
+    ensures { λ r. ⌜ r ≡ nearestWord (stretch (plan .base) (plan .size) (now (work .entry))) (firstStates plan begin from) ⌝ }
+{
+    let positions = plan.done + 1;
+    let mut v = 0;
+    for k in 0..positions {
+        v = one_first(work, plan, begin, from, k, v);
+    }
+    v
+}
+
+// Line `i` from each state of the frontier, which stands in the queue from index `lo` on.
+pub fn gather_line(
+    work: &mut [u32],
+    plan: Plan,
+    kinds: &[u8; 64],
+    tests: &[u8; 64],
+    levels: &[u8; 64],
+    depths: &[u8; 64],
+    pushes: &[u8; 64],
+    follow: &[u64; 64],
+    want: u32,
+    i: usize,
+    lo: usize,
+    tail: usize,
+) -> usize
+    requires { ⌜ Ready (plan .base + plan .size) (plan .size) tail (now work) ⌝ }
+    requires { ⌜ Fit plan (columns (now kinds) (now tests) (now levels) (now depths) (now pushes) (now follow)) (now work) ⌝ }
+    requires { ⌜ (0 < want) × (i < plan .lines) × (lo ≤ tail) ⌝ }
+    ensures { λ r. ⌜ Step (plan .base + plan .size) (plan .size) (gather (fromState (settingIn (columns (now (kinds .entry)) (now (tests .entry)) (now (levels .entry)) (now (depths .entry)) (now (pushes .entry)) (now (follow .entry))) plan (front plan (now (work .entry)))) (stretch (plan .base) (plan .size) (now (work .entry)))) want i lo) tail (now (work .entry)) r (now (work .exit)) ⌝ }
+{
+    let marks = plan.base + plan.size;
+    let mut t = tail;
+    let mut j = lo;
+    while j < tail {
+        let s = waiting(work, marks, plan.size, t, j);
+        t = from_state(
+            work,
+            plan,
+            kinds,
+            tests,
+            levels,
+            depths,
+            pushes,
+            follow,
+            want,
+            i,
+            s,
+            t,
+        );
+        j += 1;
+    }
+    t
+}
+
+// The line that is chosen, and the count of the queue then.
+pub struct Choice {
+    pub line: usize,
+    pub tail: usize,
+}
+
+// The least line that leads from the frontier to states with the word `want`; the count of lines where none does.
+pub fn choose_line(
+    work: &mut [u32],
+    plan: Plan,
+    kinds: &[u8; 64],
+    tests: &[u8; 64],
+    levels: &[u8; 64],
+    depths: &[u8; 64],
+    pushes: &[u8; 64],
+    follow: &[u64; 64],
+    want: u32,
+    lo: usize,
+    tail: usize,
+) -> Choice
+    requires { ⌜ Ready (plan .base + plan .size) (plan .size) tail (now work) ⌝ }
+    requires { ⌜ Fit plan (columns (now kinds) (now tests) (now levels) (now depths) (now pushes) (now follow)) (now work) ⌝ }
+    requires { ⌜ (0 < want) × (lo ≤ tail) ⌝ }
+    ensures { λ r. ⌜ (r .line ≡ try (fromState (settingIn (columns (now (kinds .entry)) (now (tests .entry)) (now (levels .entry)) (now (depths .entry)) (now (pushes .entry)) (now (follow .entry))) plan (front plan (now (work .entry)))) (stretch (plan .base) (plan .size) (now (work .entry)))) want lo (plan .lines) 0 (found (plan .base + plan .size) (plan .size) tail (now (work .entry))) .line) × (r .line ≤ plan .lines) ⌝ }
+    ensures { λ r. ⌜ Step (plan .base + plan .size) (plan .size) (tryTable (fromState (settingIn (columns (now (kinds .entry)) (now (tests .entry)) (now (levels .entry)) (now (depths .entry)) (now (pushes .entry)) (now (follow .entry))) plan (front plan (now (work .entry)))) (stretch (plan .base) (plan .size) (now (work .entry)))) want lo (plan .lines) 0) tail (now (work .entry)) (r .tail) (now (work .exit)) ⌝ }
+{
+    let lines = plan.lines;
+    let mut i = 0;
+    while i < lines {
+        let t = gather_line(
+            work,
+            plan,
+            kinds,
+            tests,
+            levels,
+            depths,
+            pushes,
+            follow,
+            want,
+            i,
+            lo,
+            tail,
+        );
+        if t != tail {
+            return Choice { line: i, tail: t };
+        }
+        i += 1;
+    }
+    Choice { line: i, tail }
 }
