@@ -1,21 +1,22 @@
--- Phase two, step by step: the nearest first state by a turn, a line gathered by what is left of the frontier, and a line tried.
+-- Phase two, step by step: the nearest first state by a turn, a line gathered by what is left of the frontier, a line tried, and the walk written line by line.
 use mathlib.Core.Path.{_≡_, refl, sym, ap, _∙_}
 use mathlib.Core.Bool.{true, false, cond}
-use mathlib.Core.List.{List}
+use mathlib.Core.List.{List, [], _∷_, _++_, append-assoc, append-nil}
 use Prim.Native.Nat.{ℕ, zero, suc, _+_, _*_, _-_, _<_, _≤_, min}
 use native.Mathlib.Omega.{arith}
 use lib.Dec.{eqb}
-use lib.ListN.{length, getD}
+use lib.ListN.{length, getD, set, take, drop, take-append-drop}
+use lib.Seq.{take-suc-set, drop-set-lt, drop-drop}
 use borrow.Author.Tests.{eq-eqb, ne-eqb}
 use Rattle.automaton.specs.Columns.{bitOf}
 use Rattle.request.specs.declared.Plan.{Plan}
 use Rattle.search.specs.Loops.{turns}
 use Rattle.search.specs.Table.{Search}
-use Rattle.search.specs.PhaseTwo.{lesserWord, Tried, gather, try, try-next, try-here}
+use Rattle.search.specs.PhaseTwo.{lesserWord, Tried, gather, try, try-next, try-here, walk}
 use Rattle.search.specs.Product.{Setting}
 use Rattle.search.specs.Moves.{visit, onward, fromState, onward-from}
 use Rattle.search.specs.Spots.{stateIn}
-use Rattle.search.specs.Chosen.{nearTurn, tryTable}
+use Rattle.search.specs.Chosen.{nearTurn, tryTable, anything}
 
 -- ---- the nearest first state
 
@@ -88,3 +89,35 @@ tried-none E w lo i m st h = let e : m - i ≡ 0 = omega arith in rw e
 pub table-of : (E : ℕ → ℕ → ℕ → Search → Search) (w lo n l : ℕ) (st : Search) (x : Tried) → try E w lo n l st ≡ x → tryTable E w lo n l st ≡ x .table
 unfolding tryTable
 table-of E w lo n l st x e = ap (λ (y : Tried). y .table) e
+
+-- ---- the walk, written line by line
+
+pub anything-same : (x y : Search) → anything x ≡ anything y
+unfolding anything
+anything-same x y = refl
+
+-- the line x is written at j, and the walk goes on from the frontier that it leads to
+pub walk-on : (E : ℕ → ℕ → ℕ → Search → Search) (m left lo j n x : ℕ) (st st′ : Search) (out whole : List ℕ)
+    → 0 < left → j < length out
+    → x ≡ try E left lo m 0 st .line → st′ ≡ tryTable E left lo m 0 st → length (st .queue) ≡ n
+    → take j out ++ walk E m left lo st ≡ whole
+    → take (j + 1) (set out j x) ++ walk E m (left - 1) n st′ ≡ whole
+walk-on E m zero lo j n x st st′ out whole some low line table len written = absurd (omega arith)
+walk-on E m (suc k) lo j n x st st′ out whole some low line table len written =
+    let more : j + 1 ≡ suc j = omega arith in
+    let one : suc k - 1 ≡ k = omega arith in
+    let next : x ∷ walk E m k n st′ ≡ walk E m (suc k) lo st = unfold walk tryTable in rw (line, table, ← len) in
+    rw (more, one, take-suc-set out j x low, append-assoc (take j out) (x ∷ []) (walk E m k n st′)) (ap (take j out ++_) next ∙ written)
+
+-- the rest of the output stays
+pub walk-kept : (j x : ℕ) (out out₀ : List ℕ) → drop j out ≡ drop j out₀ → drop (j + 1) (set out j x) ≡ drop (j + 1) out₀
+walk-kept j x out out₀ e = drop-set-lt (j + 1) out j x (omega arith) ∙ (sym (drop-drop 1 j out) ∙ (ap (drop 1) e ∙ drop-drop 1 j out₀))
+
+pub walk-end : (E : ℕ → ℕ → ℕ → Search → Search) (m left lo j far : ℕ) (st : Search) (out out₀ whole : List ℕ)
+    → left ≡ 0 → j ≡ far → take j out ++ walk E m left lo st ≡ whole → drop j out ≡ drop j out₀
+    → out ≡ whole ++ drop far out₀
+walk-end E m left lo j far st out out₀ whole z all written kept =
+    let none : walk E m left lo st ≡ [] = unfold walk in rw z in
+    let front : take j out ≡ whole = sym (append-nil (take j out)) ∙ (ap (take j out ++_) (sym none) ∙ written) in
+    let back : drop j out ≡ drop far out₀ = kept ∙ ap (λ (n : ℕ). drop n out₀) all in
+    sym (take-append-drop j out) ∙ rw (front, back)

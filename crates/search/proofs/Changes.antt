@@ -322,3 +322,7 @@ module _ (base size : ℕ) (w : List ℕ) (room : base + size + size ≤ length 
         grows = omega arith;
         ready = s .ready;
       }
+
+  -- clearing changes no other word
+  pub cleared-under : size < 4294967296 → Under base size (λ _. blank size) 0 w (λ st. st) 0 cleared
+  cleared-under s = step-under (step-cleared (λ st. st) 0 cleared (step-none (λ st. st) (cleared-ready s) refl))

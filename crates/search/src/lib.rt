@@ -4,16 +4,17 @@ ghost use mathlib.Core.Path.{_≡_};
 ghost use mathlib.Core.Bool.{cond};
 ghost use Prim.Native.Nat.{ℕ, suc, _+_, _*_, _-_, _^_, _/_, _%_, _≤_, _<_};
 ghost use lib.Dec.{eqb};
-ghost use lib.ListN.{length, getD, set, replicate};
+ghost use mathlib.Core.List.{_++_};
+ghost use lib.ListN.{length, getD, set, replicate, drop};
 ghost use Rattle.automaton.specs.Columns.{columns, bitOf};
 ghost use Rattle.automaton.specs.Shape.{deeper};
 ghost use Rattle.request.specs.Layout.{Laid};
-ghost use Rattle.search.specs.Loops.{turns};
-ghost use Rattle.search.specs.Table.{push};
+ghost use Rattle.search.specs.Loops.{loop, turns};
+ghost use Rattle.search.specs.Table.{blank, push};
 ghost use Rattle.search.specs.Area.{stretch, patch, found, Ready, Step};
 ghost use Rattle.search.specs.Loaded.{boatWordAt, settingIn};
 ghost use Rattle.search.specs.Moves.{visit, onward, expand, fromState};
-ghost use Rattle.search.specs.PhaseTwo.{lesserWord, nearestWord, gather, try};
+ghost use Rattle.search.specs.PhaseTwo.{lesserWord, nearestWord, put, gather, try, walk};
 ghost use Rattle.search.specs.Chosen.{firstStates, nearTurn, tryTable};
 ghost use Rattle.search.specs.Spots.{front, Fit, toldShown, wordsCompared, metBy, spotIn, Sane, off, on, okay, stateIn, stackAt, stackTurn, lineTurn, nextTurn, targetIn, Aimed, Stacks, Starts, spotTurn, run, backward};
 use request::Plan;
@@ -810,4 +811,85 @@ pub fn choose_line(
         i += 1;
     }
     Choice { line: i, tail }
+}
+
+// The `far` lines chosen one after the other, from a first frontier of `tail` states, written into the front of `out`.
+pub fn walk_lines(
+    work: &mut [u32],
+    plan: Plan,
+    kinds: &[u8; 64],
+    tests: &[u8; 64],
+    levels: &[u8; 64],
+    depths: &[u8; 64],
+    pushes: &[u8; 64],
+    follow: &[u64; 64],
+    far: u32,
+    tail: usize,
+    out: &mut [u16],
+)
+    requires { ⌜ Ready (plan .base + plan .size) (plan .size) tail (now work) ⌝ }
+    requires { ⌜ Fit plan (columns (now kinds) (now tests) (now levels) (now depths) (now pushes) (now follow)) (now work) ⌝ }
+    requires { ⌜ far ≤ length (now out) ⌝ }
+    ensures { λ _. ⌜ now (out .exit) ≡ walk (fromState (settingIn (columns (now (kinds .entry)) (now (tests .entry)) (now (levels .entry)) (now (depths .entry)) (now (pushes .entry)) (now (follow .entry))) plan (front plan (now (work .entry)))) (stretch (plan .base) (plan .size) (now (work .entry)))) (plan .lines) far 0 (found (plan .base + plan .size) (plan .size) tail (now (work .entry))) ++ drop far (now (out .entry)) ⌝ }
+{
+    let mut lo = 0;
+    let mut t = tail;
+    let mut left = far;
+    let mut j = 0;
+    while 0 < left {
+        let chosen = choose_line(
+            work,
+            plan,
+            kinds,
+            tests,
+            levels,
+            depths,
+            pushes,
+            follow,
+            left,
+            lo,
+            t,
+        );
+        out[j] = chosen.line as u16;
+        lo = t;
+        t = chosen.tail;
+        j += 1;
+        left -= 1;
+    }
+}
+
+// Phase two from the word of the nearest first state, which is one more than the chain's length: the chain, written into the front of `out`.
+pub fn chain_into(
+    work: &mut [u32],
+    plan: Plan,
+    kinds: &[u8; 64],
+    tests: &[u8; 64],
+    levels: &[u8; 64],
+    depths: &[u8; 64],
+    pushes: &[u8; 64],
+    follow: &[u64; 64],
+    begin: u64,
+    from: usize,
+    nearest: u32,
+    out: &mut [u16],
+)
+    requires { ⌜ Fit plan (columns (now kinds) (now tests) (now levels) (now depths) (now pushes) (now follow)) (now work) ⌝ }
+    requires { ⌜ (from < plan .places) × (0 < nearest) × (nearest ≤ suc (length (now out))) ⌝ }
+    ensures { λ _. ⌜ now (out .exit) ≡ walk (fromState (settingIn (columns (now (kinds .entry)) (now (tests .entry)) (now (levels .entry)) (now (depths .entry)) (now (pushes .entry)) (now (follow .entry))) plan (front plan (now (work .entry)))) (stretch (plan .base) (plan .size) (now (work .entry)))) (plan .lines) (nearest - 1) 0 (loop (put (stretch (plan .base) (plan .size) (now (work .entry))) nearest) (firstStates plan begin from) (blank (plan .size))) ++ drop (nearest - 1) (now (out .entry)) ⌝ }
+{
+    clear_stretch(work, plan.base + plan.size, plan.size);
+    let tail = over_next(work, plan, depths, begin, nearest, from, 0, 0);
+    walk_lines(
+        work,
+        plan,
+        kinds,
+        tests,
+        levels,
+        depths,
+        pushes,
+        follow,
+        nearest - 1,
+        tail,
+        out,
+    )
 }
