@@ -1,12 +1,11 @@
 // The search of a loaded record by an automaton's columns, inside one lent work area.
 // Each function that changes the area promises a `Step`: what the pair of stretches holds afterwards, and that every other word is as it was.
 ghost use mathlib.Core.Path.{_≡_};
-ghost use mathlib.Core.Bool.{cond};
 ghost use Prim.Native.Nat.{ℕ, suc, _+_, _*_, _-_, _^_, _/_, _%_, _≤_, _<_};
 ghost use lib.Dec.{eqb};
 ghost use mathlib.Core.List.{_++_};
 ghost use lib.ListN.{length, getD, set, replicate, drop};
-ghost use Rattle.automaton.specs.Columns.{columns, bitOf};
+ghost use Rattle.automaton.specs.Columns.{columns};
 ghost use Rattle.automaton.specs.Shape.{deeper};
 ghost use Rattle.request.specs.Layout.{Laid};
 ghost use Rattle.search.specs.Loops.{loop, turns};
@@ -16,7 +15,7 @@ ghost use Rattle.search.specs.Loaded.{boatWordAt, settingIn};
 ghost use Rattle.search.specs.Moves.{visit, onward, expand, fromState};
 ghost use Rattle.search.specs.PhaseTwo.{lesserWord, nearestWord, put, gather, try, walk};
 ghost use Rattle.search.specs.Chosen.{firstStates, nearTurn, tryTable};
-ghost use Rattle.search.specs.Spots.{front, Fit, toldShown, wordsCompared, metBy, spotIn, Sane, off, on, okay, stateIn, stackAt, stackTurn, lineTurn, nextTurn, targetIn, Aimed, Stacks, Starts, spotTurn, run, backward};
+ghost use Rattle.search.specs.Spots.{front, Fit, toldShown, wordsCompared, metBy, spotIn, Sane, off, on, okay, stackAt, stackTurn, lineTurn, nextTurn, targetIn, Aimed, Stacks, Starts, spotTurn, run, backward};
 use request::Plan;
 
 // ---- the work area

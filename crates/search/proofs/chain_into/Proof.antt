@@ -1,20 +1,17 @@
 -- `search::chain_into` meets its contract: the first states are put into the cleared pair, and the walk goes on from there. Assumes nothing.
-use mathlib.Core.Path.{_≡_, sym, ap, _∙_, subst}
-use mathlib.Core.List.{List}
-use Prim.Native.Nat.{ℕ, _+_, _-_, _≤_, _<_}
+use mathlib.Core.Path.{sym, _∙_, subst}
+use Prim.Native.Nat.{_+_, _-_, _≤_, _<_}
 use native.Mathlib.Omega.{arith}
 use lib.ListN.{length}
 use Rattle.automaton.specs.Columns.{Columns, columns}
 use Rattle.request.specs.Layout.{Laid}
-use Rattle.search.specs.Loops.{loop, turns}
 use Rattle.search.specs.Table.{blank}
-use Rattle.search.specs.Area.{stretch, found}
+use Rattle.search.specs.Area.{stretch}
 use Rattle.search.specs.PhaseTwo.{put}
-use Rattle.search.specs.Moves.{visit}
-use Rattle.search.specs.Spots.{front, Fit, nextTurn}
-use Rattle.search.specs.Chosen.{firstStates, start-law}
+use Rattle.search.specs.Spots.{Fit}
+use Rattle.search.specs.Chosen.{start-law}
 use Rattle.search.proofs.Backs.{fit-same}
-use Rattle.search.proofs.Changes.{cleared-ready, cleared-under, step-cleared, step-under, under-front, under-stretch}
+use Rattle.search.proofs.Changes.{cleared-under, step-cleared, step-under, under-front, under-stretch}
 use borrow.Author.Needs.{needs}
 use Rattle.search.proofs.chain_into.Statement.{statement}
 use Rattle.search.proofs.chain_into.Tie as tie

@@ -1,5 +1,4 @@
 -- `search::gather_line` meets its contract, by what is left of the frontier, which the line itself only appends to. Assumes nothing.
-use mathlib.Core.Path.{_≡_, sym, ap, _∙_}
 use Prim.Native.Nat.{_+_, _-_, _≤_}
 use native.Mathlib.Omega.{arith}
 use Rattle.automaton.specs.Columns.{Columns, columns}

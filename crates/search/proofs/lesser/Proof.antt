@@ -1,7 +1,6 @@
 -- `search::lesser` meets its contract, case by case. Assumes nothing.
 use native.Mathlib.Omega.{arith}
 use Rattle.search.proofs.Ahead.{lesser-first, lesser-second, lesser-min}
-use borrow.Author.Needs.{needs}
 use Rattle.search.proofs.lesser.Statement.{statement}
 use Rattle.search.proofs.lesser.Tie as tie
 

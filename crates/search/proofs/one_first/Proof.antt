@@ -1,5 +1,5 @@
 -- `search::one_first` meets its contract: the state with the empty stack is in range, and its word stands among the distances. Assumes nothing.
-use mathlib.Core.Path.{_≡_, sym, _∙_}
+use mathlib.Core.Path.{sym, _∙_}
 use native.Mathlib.Omega.{arith}
 use Rattle.search.proofs.Bounds.{stacks-pos}
 use Rattle.search.proofs.Stretches.{stretch-get}
