@@ -2,7 +2,7 @@
 -- (`from-taken` and its other cases), backward for one expanded state (`expand-is`).
 use mathlib.Core.Path.{_≡_, refl, sym, ap, _∙_}
 use mathlib.Core.Bool.{Bool, true, false, cond, _&&_}
-use mathlib.Core.List.{List, [], _∷_}
+use mathlib.Core.List.{List, _∷_}
 use Prim.Native.Nat.{ℕ, zero, suc, _+_, _*_, _-_, _^_, _/_, _%_, _<_, _≤_}
 use native.Mathlib.Nat.{add-zero, mod-lt}
 use native.Mathlib.Decide.{ℕ-discrete}
@@ -10,22 +10,21 @@ use native.Mathlib.Omega.{arith}
 use lib.Dec.{eqb}
 use lib.ListN.{length, getD}
 use borrow.Author.Tests.{eq-eqb, ne-eqb}
-use Rattle.meaning.specs.Record.{Line}
 use Rattle.meaning.specs.Writing.{lineAt}
 use Rattle.meaning.specs.Pattern.{same, other}
 use Rattle.automaton.specs.Automaton.{never, always, against}
 use Rattle.automaton.specs.Columns.{Columns, bitOf, membersFrom, members, testIn, nodeIn}
 use Rattle.automaton.specs.Shape.{leaves}
-use Rattle.request.specs.Layout.{fromIn, toIn, kindIn}
+use Rattle.request.specs.Layout.{fromIn, toIn}
 use Rattle.request.specs.declared.Plan.{Plan}
 use Rattle.search.specs.Plain.{memb}
 use Rattle.search.specs.Digits.{pushOn, popOff}
 use Rattle.search.specs.Loops.{turns}
 use Rattle.search.specs.Table.{Search, push}
-use Rattle.search.specs.Product.{Setting, stacks, state, placeOf, posOf, stackOf, cut, passes, takes, pushed, popped, undoes}
+use Rattle.search.specs.Product.{Setting, stacks, state, placeOf, posOf, stackOf, cut, passes, pushed, popped, undoes}
 use Rattle.search.specs.Along.{goal}
 use Rattle.search.specs.Loaded.{codeAt, wordAt, lineIn, linesIn, boatWordAt, settingIn}
-use Rattle.search.specs.Moves.{overStacks, overLines, expand, visit, overNext, onward}
+use Rattle.search.specs.Moves.{overStacks, overLines, expand, overNext, onward}
 use Rattle.search.specs.Spots.{wordsCompared, metBy, spotIn, off, offBy, on, onBy, okay, boatOf, stateIn, stackAt, stackTurn, lineTurn, nextTurn, targetIn, spotTurn}
 use Rattle.search.specs.declared.Spot.{Spot}
 use Rattle.search.specs.declared.Target.{Target}

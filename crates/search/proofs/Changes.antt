@@ -1,12 +1,11 @@
 -- Laws of the search in a pair of stretches: what is read there, one push, steps one after the other, and a loop of steps by what is left of it.
 -- `step-new` and `step-old` are for `push_if_new`; every function above it uses `step-as`, `step-none`, `loop-start`, `loop-turn` and `loop-end`.
-use mathlib.Core.Path.{_≡_, refl, sym, ap, _∙_}
+use mathlib.Core.Path.{_≡_, refl, sym, ap, _∙_, subst}
 use mathlib.Core.Bool.{Bool, true, false, cond}
 use mathlib.Core.List.{List, [], _∷_, _++_}
 use Prim.Native.Nat.{ℕ, zero, suc, _+_, _-_, _≤_, _<_}
 use native.Mathlib.Nat.{not-suc-le-zero, le-of-suc-le-suc, sub-zero}
 use native.Mathlib.Omega.{arith}
-use lib.Dec.{eqb}
 use lib.ListN.{length, getD, set, take, drop, replicate, length-set, length-append, length-replicate, take-append-drop}
 use lib.Seq.{take-set-le, drop-set-lt, drop-drop, take-take}
 use borrow.Author.Tests.{eqb-true, eq-eqb, ne-eqb}
@@ -118,12 +117,12 @@ module _ (base size : ℕ) where
 
 -- ---- a loop over numbers: nothing is left, or a turn and what is left then
 
-module _ (f : ℕ → Search → Search) where
-  turns-none : (i n : ℕ) (st : Search) → n ≤ i → turns f i (n - i) st ≡ st
+module _ {A : Type 0} (f : ℕ → A → A) where
+  pub turns-none : (i n : ℕ) (st : A) → n ≤ i → turns f i (n - i) st ≡ st
   unfolding turns
   turns-none i n st h = let e : n - i ≡ 0 = omega arith in rw e
 
-  turns-next : (i n : ℕ) (st : Search) → i < n → turns f (i + 1) (n - (i + 1)) (f i st) ≡ turns f i (n - i) st
+  pub turns-next : (i n : ℕ) (st : A) → i < n → turns f (i + 1) (n - (i + 1)) (f i st) ≡ turns f i (n - i) st
   unfolding turns
   turns-next i n st h = let e : n - i ≡ suc (n - (i + 1)) = omega arith in let g : i + 1 ≡ suc i = omega arith in rw (e, g)
 
@@ -200,6 +199,10 @@ module _ {base size : ℕ} where
     -- no step is one by f, where f does nothing here
     pub step-none : Ready base size t w → f (found base size t w) ≡ found base size t w → Step base size f t w t w
     step-none r e = record { now-found = sym e; same = refl; long = refl; grows = omega arith; ready = r }
+
+  -- with the count of the queue said in another way
+  pub step-count : {f : Search → Search} {t : ℕ} {w : List ℕ} {u u′ : ℕ} {v : List ℕ} → u ≡ u′ → Step base size f t w u v → Step base size f t w u′ v
+  step-count {f} {t} {w} {v = v} e s = subst (λ (n : ℕ). Step base size f t w n v) e s
 
   pub step-then : {f g : Search → Search} {t : ℕ} {w : List ℕ} {u : ℕ} {v : List ℕ} {t′ : ℕ} {w′ : List ℕ}
       → Step base size f t w u v → Step base size g u v t′ w′
@@ -318,3 +321,7 @@ module _ (base size : ℕ) (w : List ℕ) (room : base + size + size ≤ length 
         grows = omega arith;
         ready = s .ready;
       }
+
+  -- clearing changes no other word
+  pub cleared-under : size < 4294967296 → Under base size (λ _. blank size) 0 w (λ st. st) 0 cleared
+  cleared-under s = step-under (step-cleared (λ st. st) 0 cleared (step-none (λ st. st) (cleared-ready s) refl))

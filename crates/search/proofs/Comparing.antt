@@ -2,15 +2,15 @@
 use mathlib.Core.Path.{_≡_, refl, sym, ap, _∙_}
 use mathlib.Core.Bool.{Bool, true, false, cond}
 use mathlib.Core.List.{List}
-use Prim.Native.Nat.{ℕ, zero, suc, _+_, _*_, _-_, _/_, _%_, _<_, _≤_}
+use Prim.Native.Nat.{ℕ, zero, suc, _+_, _-_, _/_, _%_, _<_, _≤_}
 use native.Mathlib.Nat.{div-add-mod'}
 use native.Mathlib.Omega.{arith}
 use lib.Dec.{eqb}
 use borrow.Author.Tests.{eqb-true, eq-eqb, ne-eqb}
 use lib.ListN.{length, getD, List·getD-eq-default}
 use lib.Seq.{length-take-le}
-use Rattle.meaning.specs.Record.{Boat, agree}
-use Rattle.meaning.specs.Language.{Compared, same-boat, other-boat, compared}
+use Rattle.meaning.specs.Record.{agree}
+use Rattle.meaning.specs.Language.{same-boat, other-boat}
 use Rattle.record.specs.Boats.{agree-same, agree-self, word}
 use Rattle.request.specs.declared.Plan.{Plan}
 use Rattle.search.specs.Loaded.{boatIn, boatWordAt}

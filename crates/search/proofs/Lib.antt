@@ -5,3 +5,4 @@ pub mod Comparing
 pub mod Bridge
 pub mod Visits
 pub mod Backs
+pub mod Ahead

@@ -1,10 +1,10 @@
 -- Laws of stretches: a stretch has the length it says and is read at its own index; a word put into one of them leaves every other as it was.
 use mathlib.Core.Path.{_≡_, refl, sym, ap, _∙_}
 use mathlib.Core.List.{List, [], _∷_, _++_}
-use Prim.Native.Nat.{ℕ, zero, suc, _+_, _-_, _≤_, _<_}
+use Prim.Native.Nat.{ℕ, _+_, _-_, _≤_, _<_}
 use native.Mathlib.Numerals.{add-one}
 use native.Mathlib.Omega.{arith}
-use lib.ListN.{length, getD, set, take, drop, length-take, length-drop, length-set, length-append, take-append-drop}
+use lib.ListN.{length, getD, set, take, drop, length-take, length-drop, length-append, take-append-drop}
 use lib.Seq.{getD-take, getD-drop, drop-set-add, take-set-lt, take-set-le, drop-set-lt, take-suc-set, drop-drop, length-take-le, drop-append-le, take-append-le, drop-at, take-at}
 use Rattle.search.specs.Area.{stretch, patch}
 

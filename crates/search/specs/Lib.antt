@@ -21,6 +21,7 @@ pub mod Along
 pub mod Loaded
 pub mod Moves
 pub mod Spots
+pub mod Chosen
 pub mod Answer
 pub mod Check
 pub mod Same

@@ -4,7 +4,7 @@
 use mathlib.Core.Path.{_≡_, refl, sym, ap, _∙_}
 use mathlib.Core.Bool.{Bool, cond, _&&_, _||_}
 use mathlib.Core.List.{List, map}
-use Prim.Native.Nat.{ℕ, zero, suc, _+_, _*_, _-_, _^_}
+use Prim.Native.Nat.{ℕ, suc, _+_, _*_, _-_, _^_}
 use lib.Dec.{eqb, eqb·suc-zero}
 use lib.ListN.{length, getD}
 use Rattle.meaning.specs.Writing.{lineAt}
@@ -13,7 +13,7 @@ use Rattle.search.specs.Plain.{memb, filt, flat, count}
 use Rattle.search.specs.Loops.{loop, turns, loop-map, loop-filt, loop-when, loop-count, loop-same, loop-for}
 use Rattle.search.specs.Table.{Search, push}
 use Rattle.search.specs.PhaseTwo.{put}
-use Rattle.search.specs.Product.{Setting, state, placeOf, posOf, stackOf, cut, takes, pushed, popped, following, succs, uncut, undoes, positions, linesInto, sources, preds}
+use Rattle.search.specs.Product.{Setting, state, placeOf, posOf, stackOf, cut, takes, pushed, popped, succs, uncut, undoes, linesInto, sources, preds}
 
 module _ (S : Setting) where
   -- ---- backward: the states before t get the word d

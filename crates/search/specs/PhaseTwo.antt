@@ -89,13 +89,13 @@ module _ (fromState : ℕ → ℕ → ℕ → Search → Search) where
   walk m zero lo st = []
   walk m (suc k) lo st = let r = try (suc k) lo m 0 st in r .line ∷ walk m k (length (st .queue)) (r .table)
 
-  try-next : (w lo n l : ℕ) (st : Search)
+  pub try-next : (w lo n l : ℕ) (st : Search)
       → eqb (length (gather w l lo st .queue)) (length (st .queue)) ≡ true
       → try w lo (suc n) l st ≡ try w lo n (suc l) (gather w l lo st)
   unfolding try
   try-next w lo n l st e = rw (e, try)
 
-  try-here : (w lo n l : ℕ) (st : Search)
+  pub try-here : (w lo n l : ℕ) (st : Search)
       → eqb (length (gather w l lo st .queue)) (length (st .queue)) ≡ false
       → try w lo (suc n) l st ≡ record { line = l; table = gather w l lo st }
   unfolding try

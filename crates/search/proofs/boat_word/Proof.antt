@@ -1,8 +1,7 @@
 -- `search::boat_word` meets its contract: past the words before the search the boats' stretch has none. Assumes nothing.
-use mathlib.Core.Path.{_≡_, sym, _∙_}
-use Prim.Native.Nat.{suc, _+_, _-_}
+use mathlib.Core.Path.{_∙_}
+use Prim.Native.Nat.{_-_}
 use native.Mathlib.Omega.{arith}
-use Rattle.search.proofs.Bounds.{front-get}
 use Rattle.search.proofs.Comparing.{boat-none, boat-inside, boat-outside}
 use borrow.Author.Needs.{needs}
 use Rattle.search.proofs.boat_word.Statement.{statement}

@@ -1,11 +1,9 @@
 -- `search::distances` meets its contract: a pair that is cleared holds nothing found, the goal is pushed, and the run goes on from there. Assumes nothing.
-use mathlib.Core.Path.{_≡_, sym, ap, _∙_}
-use Prim.Native.Nat.{_+_, _*_, _≤_}
+use mathlib.Core.Path.{_∙_}
+use Prim.Native.Nat.{_+_, _≤_}
 use native.Mathlib.Omega.{arith}
 use lib.ListN.{length}
 use Rattle.automaton.specs.Columns.{Columns, columns}
-use Rattle.search.specs.Area.{Step}
-use Rattle.search.specs.Table.{blank, push}
 use Rattle.search.specs.Spots.{front, Fit}
 use Rattle.search.proofs.Bounds.{stacks-pos}
 use Rattle.search.proofs.Bridge.{goal-is}

@@ -1,5 +1,5 @@
 -- `search::meets` meets its contract, case by case of what the comparison told. Assumes nothing.
-use mathlib.Core.Path.{_≡_, sym, ap, _∙_}
+use mathlib.Core.Path.{sym, ap, _∙_}
 use Rattle.search.specs.Spots.{toldShown, metBy}
 use Rattle.search.proofs.Comparing.{met-same, met-other}
 use borrow.Author.Needs.{needs}

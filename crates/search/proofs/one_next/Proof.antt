@@ -1,6 +1,6 @@
 -- `search::one_next` meets its contract: the state after is in range, since a cut stack is below its power. Assumes nothing.
-use mathlib.Core.Path.{_≡_, ap, _∙_}
-use Prim.Native.Nat.{_^_, _%_}
+use mathlib.Core.Path.{ap, _∙_}
+use Prim.Native.Nat.{_^_}
 use native.Mathlib.Nat.{mod-lt}
 use native.Mathlib.Omega.{arith}
 use Rattle.search.proofs.Bounds.{power-pos, power-fits, power-small}

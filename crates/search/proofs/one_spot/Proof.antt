@@ -1,5 +1,5 @@
 -- `search::one_spot` meets its contract: the stacks tried are those that the position can leave, and each is one of the stacks. Assumes nothing.
-use mathlib.Core.Path.{_≡_, ap, _∙_}
+use mathlib.Core.Path.{ap, _∙_}
 use Prim.Native.Nat.{ℕ, _-_, _^_, _≤_}
 use native.Mathlib.Omega.{arith}
 use lib.Dec.{eqb}

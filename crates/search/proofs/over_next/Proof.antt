@@ -1,8 +1,7 @@
 -- `search::over_next` meets its contract, by what is left of its turns. The distances stand before the pair and stay. Assumes nothing.
-use mathlib.Core.Path.{_≡_, sym, subst}
+use mathlib.Core.Path.{sym, subst}
 use Prim.Native.Nat.{_+_, _-_, _≤_}
 use native.Mathlib.Omega.{arith}
-use lib.ListN.{length}
 use Rattle.request.specs.Layout.{Laid}
 use Rattle.search.specs.Loops.{turns}
 use Rattle.search.specs.Area.{stretch, Under}

@@ -1,6 +1,6 @@
 -- `search::passes` meets its contract: with no test, or by the comparison of the boats that the two words say. Assumes nothing.
-use mathlib.Core.Path.{_≡_, ap, _∙_}
-use Prim.Native.Nat.{_/_, _%_}
+use mathlib.Core.Path.{ap, _∙_}
+use Prim.Native.Nat.{_/_}
 use native.Mathlib.Nat.{mod-lt}
 use native.Mathlib.Omega.{arith}
 use Rattle.search.specs.Spots.{metBy, wordsCompared}

@@ -1,5 +1,4 @@
 -- `search::push_if_new` meets its contract. A state with no word leaves room in the queue, which has as many states as words are not 0. Assumes nothing.
-use Prim.Native.Nat.{_<_}
 use native.Mathlib.Omega.{arith}
 use Rattle.search.proofs.Changes.{room-left, step-new, step-old}
 use borrow.Author.Needs.{needs}

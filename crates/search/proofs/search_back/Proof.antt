@@ -1,6 +1,5 @@
 -- `search::search_back` meets its contract: the invariant is that the run from `head` on, in what is found now, is the whole run.
 -- A state that waits is a state, and no distance is above the count of the queue. Assumes nothing.
-use mathlib.Core.Path.{_≡_, sym, ap, _∙_}
 use Prim.Native.Nat.{_-_, _≤_}
 use native.Mathlib.Nat.{sub-zero}
 use native.Mathlib.Omega.{arith}

@@ -1,5 +1,4 @@
 -- `search::spot_at` meets its contract, number by number. Assumes nothing.
-use mathlib.Core.Path.{_≡_}
 use Rattle.search.specs.Spots.{spotIn}
 use borrow.Author.Needs.{needs}
 use Rattle.search.proofs.spot_at.Statement.{statement}

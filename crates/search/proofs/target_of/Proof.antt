@@ -1,5 +1,4 @@
 -- `search::target_of` meets its contract, number by number. Assumes nothing.
-use mathlib.Core.Path.{_≡_}
 use Prim.Native.Nat.{_+_, _/_, _%_, _≤_}
 use native.Mathlib.Nat.{mod-lt, one-le-pow}
 use native.Mathlib.Omega.{arith}

@@ -1,6 +1,5 @@
 -- `search::visit_state` meets its contract: a push, or nothing, as the word wanted says. Assumes nothing.
-use mathlib.Core.Path.{_≡_, sym, _∙_}
-use native.Mathlib.Omega.{arith}
+use mathlib.Core.Path.{sym, _∙_}
 use Rattle.search.proofs.Stretches.{stretch-get}
 use Rattle.search.proofs.Changes.{step-as, step-none}
 use Rattle.search.proofs.Visits.{visit-all, visit-taken, visit-passed}
