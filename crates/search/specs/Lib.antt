@@ -8,7 +8,6 @@ pub mod Loops
 pub mod Queue
 pub mod Counted
 pub mod Table
-pub mod Area
 pub mod Grows
 pub mod PhaseOne
 pub mod PhaseTwo
@@ -20,8 +19,6 @@ pub mod Steps
 pub mod Along
 pub mod Loaded
 pub mod Moves
-pub mod Spots
-pub mod Chosen
 pub mod Answer
 pub mod Check
 pub mod Same

@@ -1,0 +1,3 @@
+pub mod Area
+pub mod Spots
+pub mod Chosen

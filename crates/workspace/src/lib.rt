@@ -1,0 +1,894 @@
+// The search of a loaded record by an automaton's columns, inside one lent work area.
+// Each function that changes the area promises a `Step`: what the pair of stretches holds afterwards, and that every other word is as it was.
+ghost use mathlib.Core.Path.{_≡_};
+ghost use Prim.Native.Nat.{ℕ, suc, _+_, _*_, _-_, _^_, _/_, _%_, _≤_, _<_};
+ghost use lib.Dec.{eqb};
+ghost use mathlib.Core.List.{_++_};
+ghost use lib.ListN.{length, getD, set, replicate, drop};
+ghost use Rattle.automaton.specs.Columns.{columns};
+ghost use Rattle.automaton.specs.Shape.{deeper};
+ghost use Rattle.request.specs.Layout.{Laid};
+ghost use Rattle.search.specs.Loops.{loop, turns};
+ghost use Rattle.search.specs.Table.{blank, push};
+ghost use Rattle.workspace.specs.Area.{stretch, patch, found, Ready, Step};
+ghost use Rattle.search.specs.Loaded.{boatWordAt, settingIn};
+ghost use Rattle.search.specs.Moves.{visit, onward, expand, fromState};
+ghost use Rattle.search.specs.PhaseTwo.{lesserWord, nearestWord, put, gather, try, walk};
+ghost use Rattle.workspace.specs.Chosen.{firstStates, nearTurn, tryTable};
+ghost use Rattle.workspace.specs.Spots.{front, Fit, toldShown, wordsCompared, metBy, spotIn, Sane, off, on, okay, stackAt, stackTurn, lineTurn, nextTurn, targetIn, Aimed, Stacks, Starts, spotTurn, run, backward};
+use request::Plan;
+
+// ---- the work area
+
+// Word `i` of a part.
+fn put(part: &mut [u32], i: usize, v: u32)
+    requires { ⌜ i < length (now part) ⌝ }
+    ensures { λ _. ⌜ now (part .exit) ≡ set (now (part .entry)) i v ⌝ }
+{
+    part[i] = v;
+}
+
+// Word `i` of the stretch of `size` words from word `base` on.
+pub fn write(work: &mut [u32], base: usize, size: usize, i: usize, v: u32)
+    requires { ⌜ (base + size ≤ length (now work)) × (i < size) ⌝ }
+    ensures { λ _. ⌜ now (work .exit) ≡ set (now (work .entry)) (base + i) v ⌝ }
+{
+    put(&mut work[base..base + size], i, v);
+}
+
+// All words of `part` become 0.
+fn zero(part: &mut [u32])
+    ensures { λ _. ⌜ now (part .exit) ≡ replicate (length (now (part .entry))) 0 ⌝ }
+{
+    let mut i = 0;
+    while i < part.len() {
+        part[i] = 0;
+        i += 1;
+    }
+}
+
+// All words of the stretch of `size` words from word `base` on become 0.
+pub fn clear_stretch(work: &mut [u32], base: usize, size: usize)
+    requires { ⌜ base + size ≤ length (now work) ⌝ }
+    ensures { λ _. ⌜ now (work .exit) ≡ patch base size (replicate size 0) (now (work .entry)) ⌝ }
+{
+    zero(&mut work[base..base + size]);
+}
+
+// Word `i` of the area.
+pub fn word(work: &[u32], i: usize) -> u32
+    requires { ⌜ i < length (now work) ⌝ }
+    ensures { λ r. ⌜ r ≡ getD (now (work .entry)) i 0 ⌝ }
+{
+    work[i]
+}
+
+// The state `s` gets the word `d` and comes into the queue, unless it has a word. Returns how many are in the queue then.
+pub fn push_if_new(
+    work: &mut [u32],
+    base: usize,
+    size: usize,
+    d: u32,
+    s: usize,
+    tail: usize,
+) -> usize
+    requires { ⌜ Ready base size tail (now work) ⌝ }
+    requires { ⌜ (s < size) × (0 < d) × (d ≤ suc tail) ⌝ }
+    ensures { λ r. ⌜ Step base size (push d s) tail (now (work .entry)) r (now (work .exit)) ⌝ }
+{
+    let i = base + s;
+    if work[i] == 0 {
+        write(work, base, size, s, d);
+        write(work, base + size, size, tail, s as u32);
+        tail + 1
+    } else {
+        tail
+    }
+}
+
+// The state at place `i` of the queue.
+pub fn waiting(work: &[u32], base: usize, size: usize, tail: usize, i: usize) -> usize
+    requires { ⌜ Ready base size tail (now work) ⌝ }
+    requires { ⌜ i < tail ⌝ }
+    ensures { λ r. ⌜ (r ≡ getD (found base size tail (now (work .entry)) .queue) i 0) × (r < size) ⌝ }
+{
+    let k = base + size + i;
+    work[k] as usize
+}
+
+// The word of the state `s`.
+pub fn dist_at(work: &[u32], base: usize, size: usize, tail: usize, s: usize) -> u32
+    requires { ⌜ Ready base size tail (now work) ⌝ }
+    requires { ⌜ s < size ⌝ }
+    ensures { λ r. ⌜ (r ≡ getD (found base size tail (now (work .entry)) .dist) s 0) × (r ≤ tail) ⌝ }
+{
+    let k = base + s;
+    work[k]
+}
+
+// ---- boats
+
+// What comparing two boats tells.
+pub enum Told {
+    SameBoat,
+    OtherBoat,
+}
+
+// The boats that two words say, compared. Whoever compares boats does it here.
+pub fn compared(a: u32, b: u32) -> Told
+    ensures { λ r. ⌜ toldShown r ≡ wordsCompared a b ⌝ }
+{
+    if a == b {
+        Told::SameBoat
+    } else {
+        Told::OtherBoat
+    }
+}
+
+// Does the test, 2 for same and 3 for other, take what the comparison told? No other test takes anything here.
+pub fn meets(test: u8, told: Told) -> bool
+    ensures { λ r. ⌜ r ≡ metBy test (toldShown told) ⌝ }
+{
+    match told {
+        Told::SameBoat => test == 2,
+        Told::OtherBoat => test == 3,
+    }
+}
+
+// The word of a boat by its number: 0 where the number or the boats' stretch has none.
+pub fn boat_word(work: &[u32], plan: Plan, number: usize) -> u32
+    requires { ⌜ Laid plan (length (now work)) ⌝ }
+    requires { ⌜ number < 4294967296 ⌝ }
+    ensures { λ r. ⌜ r ≡ boatWordAt plan (front plan (now (work .entry))) number ⌝ }
+{
+    if number == 0 {
+        return 0;
+    }
+    let k = plan.first + (number - 1);
+    if k < plan.base {
+        return word(work, k);
+    }
+    0
+}
+
+// ---- a position by its numbers
+
+// Its kind and test, 1 where it pushes, radix^level of the level that the test reads, and radix^depth.
+pub struct Spot {
+    pub kind: usize,
+    pub test: u8,
+    pub push: u8,
+    pub level: usize,
+    pub weight: usize,
+}
+
+fn wide(x: u8) -> usize
+    ensures { λ r. ⌜ (r ≡ x) × (r < 256) ⌝ }
+{
+    x as usize
+}
+
+// radix^e
+pub fn power(radix: usize, e: usize) -> usize
+    requires { ⌜ (0 < radix) × (radix ^ e ≤ 1048576) ⌝ }
+    ensures { λ r. ⌜ r ≡ radix ^ e ⌝ }
+{
+    let mut p = 1;
+    let mut i = 0;
+    while i < e {
+        p = p * radix;
+        i += 1;
+    }
+    p
+}
+
+// Position `c`.
+pub fn spot_at(
+    kinds: &[u8; 64],
+    tests: &[u8; 64],
+    levels: &[u8; 64],
+    depths: &[u8; 64],
+    pushes: &[u8; 64],
+    follow: &[u64; 64],
+    radix: usize,
+    c: usize,
+) -> Spot
+    requires { ⌜ (c < 64) × (0 < radix) × (radix ^ getD (now levels) c 0 ≤ 1048576) × (radix ^ getD (now depths) c 0 ≤ 1048576) ⌝ }
+    ensures { λ r. ⌜ r ≡ spotIn (columns (now (kinds .entry)) (now (tests .entry)) (now (levels .entry)) (now (depths .entry)) (now (pushes .entry)) (now (follow .entry))) radix c ⌝ }
+{
+    let level = power(radix, wide(levels[c]));
+    let weight = power(radix, wide(depths[c]));
+    Spot {
+        kind: wide(kinds[c]),
+        test: tests[c],
+        push: pushes[c],
+        level,
+        weight,
+    }
+}
+
+// The stack before the position, of the stack after it.
+pub fn take_off(spot: Spot, v: usize) -> usize
+    requires { ⌜ 0 < spot .weight ⌝ }
+    ensures { λ r. ⌜ r ≡ off spot v ⌝ }
+{
+    if spot.push == 1 { v % spot.weight } else { v }
+}
+
+// The stack after the position, of the stack before it and the line's boat number.
+pub fn put_on(spot: Spot, u: usize, code: u32) -> usize
+    requires { ⌜ (spot .weight ≤ 1048576) × (u < 4294967296) ⌝ }
+    ensures { λ r. ⌜ r ≡ on spot u code ⌝ }
+{
+    if spot.push == 1 {
+        code as usize * spot.weight + u
+    } else {
+        u
+    }
+}
+
+// The test of the boat with the word `boat` against the stack before the position.
+pub fn passes(work: &[u32], plan: Plan, spot: Spot, boat: u32, v: usize) -> bool
+    requires { ⌜ Laid plan (length (now work)) ⌝ }
+    requires { ⌜ 0 < spot .level ⌝ }
+    ensures { λ r. ⌜ r ≡ okay plan (front plan (now (work .entry))) spot boat v ⌝ }
+{
+    if spot.test == 1 {
+        return true;
+    }
+    let kept = boat_word(work, plan, v / spot.level % plan.radix);
+    meets(spot.test, compared(boat, kept))
+}
+
+// The state at a place and a position with a stack.
+pub fn state_at(plan: Plan, place: usize, position: usize, stack: usize) -> usize
+    requires { ⌜ (plan .size ≡ plan .places * (plan .done + 1) * plan .stacks) × (plan .size ≤ 1048576) × (plan .done ≤ 63) ⌝ }
+    requires { ⌜ (place < plan .places) × (position ≤ plan .done) × (stack < plan .stacks) ⌝ }
+    ensures { λ r. ⌜ (r ≡ (place * (plan .done + 1) + position) * plan .stacks + stack) × (r < plan .size) ⌝ }
+{
+    (place * (plan.done + 1) + position) * plan.stacks + stack
+}
+
+// Is the state `s` at the place `q`? Asked without a division, since most lines start elsewhere.
+pub fn stands_at(plan: Plan, s: usize, q: usize) -> bool
+    requires { ⌜ (0 < plan .stacks) × ((plan .done + 1) * plan .stacks ≤ 1048576) × (plan .done ≤ 63) × (q < 4294967296) ⌝ }
+    ensures { λ r. ⌜ r ≡ eqb q (s / plan .stacks / (plan .done + 1)) ⌝ }
+{
+    let block = (plan.done + 1) * plan.stacks;
+    let low = q * block;
+    if s < low {
+        return false;
+    }
+    s - low < block
+}
+
+// ---- forward, by one line from one state: marks and frontier are the pair after the distances
+
+// The state `t` is visited: it comes into the frontier if its distance's word is `want`; 0 wants every state.
+pub fn visit_state(work: &mut [u32], plan: Plan, want: u32, t: usize, tail: usize) -> usize
+    requires { ⌜ Ready (plan .base + plan .size) (plan .size) tail (now work) ⌝ }
+    requires { ⌜ t < plan .size ⌝ }
+    ensures { λ r. ⌜ Step (plan .base + plan .size) (plan .size) (visit (stretch (plan .base) (plan .size) (now (work .entry))) want t) tail (now (work .entry)) r (now (work .exit)) ⌝ }
+{
+    let marks = plan.base + plan.size;
+    if want == 0 {
+        return push_if_new(work, marks, plan.size, 1, t, tail);
+    }
+    if word(work, plan.base + t) == want {
+        return push_if_new(work, marks, plan.size, 1, t, tail);
+    }
+    tail
+}
+
+// The position `k`, if it may come after, at the place `to` with the stack `v` cut to its depth.
+pub fn one_next(
+    work: &mut [u32],
+    plan: Plan,
+    depths: &[u8; 64],
+    mask: u64,
+    want: u32,
+    to: usize,
+    v: usize,
+    k: usize,
+    tail: usize,
+) -> usize
+    requires { ⌜ Ready (plan .base + plan .size) (plan .size) tail (now work) ⌝ }
+    requires { ⌜ Laid plan (length (now work)) ⌝ }
+    requires { ⌜ (to < plan .places) × (k ≤ plan .done) × (getD (now depths) k 0 ≤ plan .keeps) ⌝ }
+    ensures { λ r. ⌜ Step (plan .base + plan .size) (plan .size) (nextTurn plan (now (depths .entry)) mask (visit (stretch (plan .base) (plan .size) (now (work .entry))) want) to v k) tail (now (work .entry)) r (now (work .exit)) ⌝ }
+{
+    if (mask >> k) % 2 == 1 {
+        let weight = power(plan.radix, wide(depths[k]));
+        let t = state_at(plan, to, k, v % weight);
+        return visit_state(work, plan, want, t, tail);
+    }
+    tail
+}
+
+// Each position that may come after.
+pub fn over_next(
+    work: &mut [u32],
+    plan: Plan,
+    depths: &[u8; 64],
+    mask: u64,
+    want: u32,
+    to: usize,
+    v: usize,
+    tail: usize,
+) -> usize
+    requires { ⌜ Ready (plan .base + plan .size) (plan .size) tail (now work) ⌝ }
+    requires { ⌜ Laid plan (length (now work)) ⌝ }
+    requires { ⌜ (to < plan .places) × ((k : ℕ) → k ≤ plan .done → getD (now depths) k 0 ≤ plan .keeps) ⌝ }
+    ensures { λ r. ⌜ Step (plan .base + plan .size) (plan .size) (turns (nextTurn plan (now (depths .entry)) mask (visit (stretch (plan .base) (plan .size) (now (work .entry))) want) to v) 0 (plan .done + 1)) tail (now (work .entry)) r (now (work .exit)) ⌝ }
+{
+    let positions = plan.done + 1;
+    let mut t = tail;
+    for k in 0..positions {
+        t = one_next(work, plan, depths, mask, want, to, v, k, t);
+    }
+    t
+}
+
+// Line `i` from the state `s`: each state to which it leads is visited.
+pub fn from_state(
+    work: &mut [u32],
+    plan: Plan,
+    kinds: &[u8; 64],
+    tests: &[u8; 64],
+    levels: &[u8; 64],
+    depths: &[u8; 64],
+    pushes: &[u8; 64],
+    follow: &[u64; 64],
+    want: u32,
+    i: usize,
+    s: usize,
+    tail: usize,
+) -> usize
+    requires { ⌜ Ready (plan .base + plan .size) (plan .size) tail (now work) ⌝ }
+    requires { ⌜ Fit plan (columns (now kinds) (now tests) (now levels) (now depths) (now pushes) (now follow)) (now work) ⌝ }
+    requires { ⌜ (i < plan .lines) × (s < plan .size) ⌝ }
+    ensures { λ r. ⌜ Step (plan .base + plan .size) (plan .size) (onward (settingIn (columns (now (kinds .entry)) (now (tests .entry)) (now (levels .entry)) (now (depths .entry)) (now (pushes .entry)) (now (follow .entry))) plan (front plan (now (work .entry)))) (visit (stretch (plan .base) (plan .size) (now (work .entry))) want) i s) tail (now (work .entry)) r (now (work .exit)) ⌝ }
+{
+    let line = word(work, plan.words + i) as usize;
+    if stands_at(plan, s, line / 16384) {
+        let at = s / plan.stacks % (plan.done + 1);
+        let spot = spot_at(kinds, tests, levels, depths, pushes, follow, plan.radix, at);
+        if line % 16 == spot.kind {
+            let v = s % plan.stacks;
+            let code = word(work, plan.codes + i);
+            let boat = boat_word(work, plan, code as usize);
+            if passes(work, plan, spot, boat, v) {
+                let u = put_on(spot, v, code);
+                return over_next(
+                    work,
+                    plan,
+                    depths,
+                    follow[at],
+                    want,
+                    line / 16 % 1024,
+                    u,
+                    tail,
+                );
+            }
+        }
+    }
+    tail
+}
+
+// ---- backward
+
+// A state that is expanded: its place, its position, the position's depth, radix^depth, and its stack cut to that depth.
+pub struct Target {
+    pub place: usize,
+    pub position: usize,
+    pub depth: usize,
+    pub weight: usize,
+    pub stack: usize,
+}
+
+// The state `t` by its numbers.
+pub fn target_of(depths: &[u8; 64], plan: Plan, t: usize) -> Target
+    requires { ⌜ (0 < plan .stacks) × (0 < plan .radix) × (plan .done ≤ 63) × ((k : ℕ) → k ≤ plan .done → plan .radix ^ getD (now depths) k 0 ≤ 1048576) ⌝ }
+    ensures { λ r. ⌜ r ≡ targetIn (now (depths .entry)) plan t ⌝ }
+{
+    let position = t / plan.stacks % (plan.done + 1);
+    let depth = wide(depths[position]);
+    let weight = power(plan.radix, depth);
+    Target {
+        place: t / plan.stacks / (plan.done + 1),
+        position,
+        depth,
+        weight,
+        stack: t % plan.stacks % weight,
+    }
+}
+
+// One stack `v` after the position: it is undone for the line's boat, and the state before is pushed.
+pub fn one_stack(
+    work: &mut [u32],
+    plan: Plan,
+    spot: Spot,
+    d: u32,
+    home: usize,
+    code: u32,
+    boat: u32,
+    v: usize,
+    tail: usize,
+) -> usize
+    requires { ⌜ Ready (plan .base) (plan .size) tail (now work) ⌝ }
+    requires { ⌜ Laid plan (length (now work)) ⌝ }
+    requires { ⌜ Sane spot ⌝ }
+    requires { ⌜ (0 < d) × (d ≤ suc tail) × (home + v < plan .size) ⌝ }
+    ensures { λ r. ⌜ Step (plan .base) (plan .size) (stackAt plan (front plan (now (work .entry))) spot d home code boat v) tail (now (work .entry)) r (now (work .exit)) ⌝ }
+{
+    let u = take_off(spot, v);
+    if put_on(spot, u, code) == v {
+        if passes(work, plan, spot, boat, u) {
+            return push_if_new(work, plan.base, plan.size, d, home + u, tail);
+        }
+    }
+    tail
+}
+
+// Each stack x * weight + w, of `count`.
+pub fn over_stacks(
+    work: &mut [u32],
+    plan: Plan,
+    spot: Spot,
+    d: u32,
+    home: usize,
+    code: u32,
+    boat: u32,
+    weight: usize,
+    w: usize,
+    count: usize,
+    tail: usize,
+) -> usize
+    requires { ⌜ Ready (plan .base) (plan .size) tail (now work) ⌝ }
+    requires { ⌜ Laid plan (length (now work)) ⌝ }
+    requires { ⌜ Sane spot ⌝ }
+    requires { ⌜ (0 < d) × (d ≤ suc tail) × ((x : ℕ) → x < count → home + (x * weight + w) < plan .size) ⌝ }
+    ensures { λ r. ⌜ Step (plan .base) (plan .size) (turns (stackTurn plan (front plan (now (work .entry))) spot d home code boat weight w) 0 count) tail (now (work .entry)) r (now (work .exit)) ⌝ }
+{
+    let mut t = tail;
+    for x in 0..count {
+        t = one_stack(work, plan, spot, d, home, code, boat, x * weight + w, t);
+    }
+    t
+}
+
+// Line `i`, if it leads to the target's place and is of the position's kind: gone back over to the position `c`.
+pub fn one_line(
+    work: &mut [u32],
+    plan: Plan,
+    spot: Spot,
+    target: Target,
+    d: u32,
+    c: usize,
+    count: usize,
+    i: usize,
+    tail: usize,
+) -> usize
+    requires { ⌜ Ready (plan .base) (plan .size) tail (now work) ⌝ }
+    requires { ⌜ Laid plan (length (now work)) × Starts plan (front plan (now work)) ⌝ }
+    requires { ⌜ Sane spot ⌝ }
+    requires { ⌜ (0 < d) × (d ≤ suc tail) × (c ≤ plan .done) × (i < plan .lines) × Stacks count (target .weight) (target .stack) (plan .stacks) ⌝ }
+    ensures { λ r. ⌜ Step (plan .base) (plan .size) (lineTurn plan (front plan (now (work .entry))) spot target d c count i) tail (now (work .entry)) r (now (work .exit)) ⌝ }
+{
+    let line = word(work, plan.words + i) as usize;
+    if line / 16 % 1024 == target.place {
+        if line % 16 == spot.kind {
+            let code = word(work, plan.codes + i);
+            let boat = boat_word(work, plan, code as usize);
+            let home = state_at(plan, line / 16384, c, 0);
+            return over_stacks(
+                work,
+                plan,
+                spot,
+                d,
+                home,
+                code,
+                boat,
+                target.weight,
+                target.stack,
+                count,
+                tail,
+            );
+        }
+    }
+    tail
+}
+
+// Each line.
+pub fn over_lines(
+    work: &mut [u32],
+    plan: Plan,
+    spot: Spot,
+    target: Target,
+    d: u32,
+    c: usize,
+    count: usize,
+    tail: usize,
+) -> usize
+    requires { ⌜ Ready (plan .base) (plan .size) tail (now work) ⌝ }
+    requires { ⌜ Laid plan (length (now work)) × Starts plan (front plan (now work)) ⌝ }
+    requires { ⌜ Sane spot ⌝ }
+    requires { ⌜ (0 < d) × (d ≤ suc tail) × (c ≤ plan .done) × Stacks count (target .weight) (target .stack) (plan .stacks) ⌝ }
+    ensures { λ r. ⌜ Step (plan .base) (plan .size) (turns (lineTurn plan (front plan (now (work .entry))) spot target d c count) 0 (plan .lines)) tail (now (work .entry)) r (now (work .exit)) ⌝ }
+{
+    let lines = plan.lines;
+    let mut t = tail;
+    for i in 0..lines {
+        t = one_line(work, plan, spot, target, d, c, count, i, t);
+    }
+    t
+}
+
+// The stack's depth after a position.
+fn leaves_of(depth: u8, push: u8) -> usize
+    ensures { λ r. ⌜ r ≡ deeper (eqb push 1) depth ⌝ }
+{
+    if push == 1 {
+        wide(depth) + 1
+    } else {
+        wide(depth)
+    }
+}
+
+// How many stacks of depth `deep` there are over one of depth `e`: radix^(deep - e), and 1 where `e` is not below.
+fn stacks_over(radix: usize, deep: usize, e: usize) -> usize
+    requires { ⌜ (0 < radix) × (radix ^ (deep - e) ≤ 1048576) ⌝ }
+    ensures { λ r. ⌜ r ≡ radix ^ (deep - e) ⌝ }
+{
+    if e < deep { power(radix, deep - e) } else { 1 }
+}
+
+// The position `c`, if the target's may come after it: each line, for each stack that it can leave.
+pub fn one_spot(
+    work: &mut [u32],
+    plan: Plan,
+    kinds: &[u8; 64],
+    tests: &[u8; 64],
+    levels: &[u8; 64],
+    depths: &[u8; 64],
+    pushes: &[u8; 64],
+    follow: &[u64; 64],
+    target: Target,
+    d: u32,
+    c: usize,
+    tail: usize,
+) -> usize
+    requires { ⌜ Ready (plan .base) (plan .size) tail (now work) ⌝ }
+    requires { ⌜ Fit plan (columns (now kinds) (now tests) (now levels) (now depths) (now pushes) (now follow)) (now work) ⌝ }
+    requires { ⌜ Aimed plan target ⌝ }
+    requires { ⌜ (0 < d) × (d ≤ suc tail) × (c < plan .done) ⌝ }
+    ensures { λ r. ⌜ Step (plan .base) (plan .size) (spotTurn (columns (now (kinds .entry)) (now (tests .entry)) (now (levels .entry)) (now (depths .entry)) (now (pushes .entry)) (now (follow .entry))) plan (front plan (now (work .entry))) target d c) tail (now (work .entry)) r (now (work .exit)) ⌝ }
+{
+    if (follow[c] >> target.position) % 2 == 1 {
+        let spot = spot_at(kinds, tests, levels, depths, pushes, follow, plan.radix, c);
+        let count = stacks_over(plan.radix, leaves_of(depths[c], pushes[c]), target.depth);
+        return over_lines(work, plan, spot, target, d, c, count, tail);
+    }
+    tail
+}
+
+// The state `t` is expanded: each state before it that has no word gets the word `d`.
+pub fn expand_state(
+    work: &mut [u32],
+    plan: Plan,
+    kinds: &[u8; 64],
+    tests: &[u8; 64],
+    levels: &[u8; 64],
+    depths: &[u8; 64],
+    pushes: &[u8; 64],
+    follow: &[u64; 64],
+    d: u32,
+    t: usize,
+    tail: usize,
+) -> usize
+    requires { ⌜ Ready (plan .base) (plan .size) tail (now work) ⌝ }
+    requires { ⌜ Fit plan (columns (now kinds) (now tests) (now levels) (now depths) (now pushes) (now follow)) (now work) ⌝ }
+    requires { ⌜ (0 < d) × (d ≤ suc tail) ⌝ }
+    ensures { λ r. ⌜ Step (plan .base) (plan .size) (expand (settingIn (columns (now (kinds .entry)) (now (tests .entry)) (now (levels .entry)) (now (depths .entry)) (now (pushes .entry)) (now (follow .entry))) plan (front plan (now (work .entry)))) d t) tail (now (work .entry)) r (now (work .exit)) ⌝ }
+{
+    let target = target_of(depths, plan, t);
+    let done = plan.done;
+    let mut u = tail;
+    for c in 0..done {
+        u = one_spot(
+            work,
+            plan,
+            kinds,
+            tests,
+            levels,
+            depths,
+            pushes,
+            follow,
+            target,
+            d,
+            c,
+            u,
+        );
+    }
+    u
+}
+
+// Phase one from a queue with `tail` states in it: states are expanded until none waits.
+pub fn search_back(
+    work: &mut [u32],
+    plan: Plan,
+    kinds: &[u8; 64],
+    tests: &[u8; 64],
+    levels: &[u8; 64],
+    depths: &[u8; 64],
+    pushes: &[u8; 64],
+    follow: &[u64; 64],
+    tail: usize,
+) -> usize
+    requires { ⌜ Ready (plan .base) (plan .size) tail (now work) ⌝ }
+    requires { ⌜ Fit plan (columns (now kinds) (now tests) (now levels) (now depths) (now pushes) (now follow)) (now work) ⌝ }
+    ensures { λ r. ⌜ Step (plan .base) (plan .size) (run (expand (settingIn (columns (now (kinds .entry)) (now (tests .entry)) (now (levels .entry)) (now (depths .entry)) (now (pushes .entry)) (now (follow .entry))) plan (front plan (now (work .entry))))) (plan .size) 0) tail (now (work .entry)) r (now (work .exit)) ⌝ }
+{
+    let mut t = tail;
+    let mut head = 0;
+    while head < t {
+        let s = waiting(work, plan.base, plan.size, t, head);
+        let d = dist_at(work, plan.base, plan.size, t, s) + 1;
+        t = expand_state(
+            work,
+            plan,
+            kinds,
+            tests,
+            levels,
+            depths,
+            pushes,
+            follow,
+            d,
+            s,
+            t,
+        );
+        head += 1;
+    }
+    t
+}
+
+// Phase one: the distance of every state to the end position at the place `to`. Returns how many states have one.
+pub fn distances(
+    work: &mut [u32],
+    plan: Plan,
+    kinds: &[u8; 64],
+    tests: &[u8; 64],
+    levels: &[u8; 64],
+    depths: &[u8; 64],
+    pushes: &[u8; 64],
+    follow: &[u64; 64],
+    to: usize,
+) -> usize
+    requires { ⌜ Fit plan (columns (now kinds) (now tests) (now levels) (now depths) (now pushes) (now follow)) (now work) ⌝ }
+    requires { ⌜ to < plan .places ⌝ }
+    ensures { λ r. ⌜ Step (plan .base) (plan .size) (backward (settingIn (columns (now (kinds .entry)) (now (tests .entry)) (now (levels .entry)) (now (depths .entry)) (now (pushes .entry)) (now (follow .entry))) plan (front plan (now (work .entry)))) (plan .size) to) 0 (now (work .entry)) r (now (work .exit)) ⌝ }
+{
+    let base = plan.base;
+    let size = plan.size;
+    clear_stretch(work, base, size);
+    let t = push_if_new(work, base, size, 1, state_at(plan, to, plan.done, 0), 0);
+    search_back(work, plan, kinds, tests, levels, depths, pushes, follow, t)
+}
+
+// ---- phase two: marks and frontiers are the pair after the distances
+
+// The lesser of two words, where 0 stands for no distance.
+fn lesser(v: u32, w: u32) -> u32
+    ensures { λ r. ⌜ r ≡ lesserWord v w ⌝ }
+{
+    if v == 0 {
+        return w;
+    }
+    if w == 0 {
+        return v;
+    }
+    if v < w { v } else { w }
+}
+
+// The word of the nearest first state, after position `k`.
+fn one_first(work: &[u32], plan: Plan, begin: u64, from: usize, k: usize, v: u32) -> u32
+    requires { ⌜ Laid plan (length (now work)) ⌝ }
+    requires { ⌜ (from < plan .places) × (k ≤ plan .done) ⌝ }
+    ensures { λ r. ⌜ r ≡ nearTurn plan (stretch (plan .base) (plan .size) (now (work .entry))) begin from k v ⌝ }
+{
+    if (begin >> k) % 2 == 1 {
+        let s = state_at(plan, from, k, 0);
+        return lesser(v, word(work, plan.base + s));
+    }
+    v
+}
+
+// The word of the nearest first state: those at the place `from`, at the positions of the mask `begin`. 0 where none has a distance.
+pub fn nearest(work: &[u32], plan: Plan, begin: u64, from: usize) -> u32
+    requires { ⌜ Laid plan (length (now work)) ⌝ }
+    requires { ⌜ from < plan .places ⌝ }
+    ensures { λ r. ⌜ r ≡ nearestWord (stretch (plan .base) (plan .size) (now (work .entry))) (firstStates plan begin from) ⌝ }
+{
+    let positions = plan.done + 1;
+    let mut v = 0;
+    for k in 0..positions {
+        v = one_first(work, plan, begin, from, k, v);
+    }
+    v
+}
+
+// Line `i` from each state of the frontier, which stands in the queue from index `lo` on.
+pub fn gather_line(
+    work: &mut [u32],
+    plan: Plan,
+    kinds: &[u8; 64],
+    tests: &[u8; 64],
+    levels: &[u8; 64],
+    depths: &[u8; 64],
+    pushes: &[u8; 64],
+    follow: &[u64; 64],
+    want: u32,
+    i: usize,
+    lo: usize,
+    tail: usize,
+) -> usize
+    requires { ⌜ Ready (plan .base + plan .size) (plan .size) tail (now work) ⌝ }
+    requires { ⌜ Fit plan (columns (now kinds) (now tests) (now levels) (now depths) (now pushes) (now follow)) (now work) ⌝ }
+    requires { ⌜ (0 < want) × (i < plan .lines) × (lo ≤ tail) ⌝ }
+    ensures { λ r. ⌜ Step (plan .base + plan .size) (plan .size) (gather (fromState (settingIn (columns (now (kinds .entry)) (now (tests .entry)) (now (levels .entry)) (now (depths .entry)) (now (pushes .entry)) (now (follow .entry))) plan (front plan (now (work .entry)))) (stretch (plan .base) (plan .size) (now (work .entry)))) want i lo) tail (now (work .entry)) r (now (work .exit)) ⌝ }
+{
+    let marks = plan.base + plan.size;
+    let mut t = tail;
+    let mut j = lo;
+    while j < tail {
+        let s = waiting(work, marks, plan.size, t, j);
+        t = from_state(
+            work,
+            plan,
+            kinds,
+            tests,
+            levels,
+            depths,
+            pushes,
+            follow,
+            want,
+            i,
+            s,
+            t,
+        );
+        j += 1;
+    }
+    t
+}
+
+// The line that is chosen, and the count of the queue then.
+pub struct Choice {
+    pub line: usize,
+    pub tail: usize,
+}
+
+// The least line that leads from the frontier to states with the word `want`; the count of lines where none does.
+pub fn choose_line(
+    work: &mut [u32],
+    plan: Plan,
+    kinds: &[u8; 64],
+    tests: &[u8; 64],
+    levels: &[u8; 64],
+    depths: &[u8; 64],
+    pushes: &[u8; 64],
+    follow: &[u64; 64],
+    want: u32,
+    lo: usize,
+    tail: usize,
+) -> Choice
+    requires { ⌜ Ready (plan .base + plan .size) (plan .size) tail (now work) ⌝ }
+    requires { ⌜ Fit plan (columns (now kinds) (now tests) (now levels) (now depths) (now pushes) (now follow)) (now work) ⌝ }
+    requires { ⌜ (0 < want) × (lo ≤ tail) ⌝ }
+    ensures { λ r. ⌜ (r .line ≡ try (fromState (settingIn (columns (now (kinds .entry)) (now (tests .entry)) (now (levels .entry)) (now (depths .entry)) (now (pushes .entry)) (now (follow .entry))) plan (front plan (now (work .entry)))) (stretch (plan .base) (plan .size) (now (work .entry)))) want lo (plan .lines) 0 (found (plan .base + plan .size) (plan .size) tail (now (work .entry))) .line) × (r .line ≤ plan .lines) ⌝ }
+    ensures { λ r. ⌜ Step (plan .base + plan .size) (plan .size) (tryTable (fromState (settingIn (columns (now (kinds .entry)) (now (tests .entry)) (now (levels .entry)) (now (depths .entry)) (now (pushes .entry)) (now (follow .entry))) plan (front plan (now (work .entry)))) (stretch (plan .base) (plan .size) (now (work .entry)))) want lo (plan .lines) 0) tail (now (work .entry)) (r .tail) (now (work .exit)) ⌝ }
+{
+    let lines = plan.lines;
+    let mut i = 0;
+    while i < lines {
+        let t = gather_line(
+            work,
+            plan,
+            kinds,
+            tests,
+            levels,
+            depths,
+            pushes,
+            follow,
+            want,
+            i,
+            lo,
+            tail,
+        );
+        if t != tail {
+            return Choice { line: i, tail: t };
+        }
+        i += 1;
+    }
+    Choice { line: i, tail }
+}
+
+// The `far` lines chosen one after the other, from a first frontier of `tail` states, written into the front of `out`.
+pub fn walk_lines(
+    work: &mut [u32],
+    plan: Plan,
+    kinds: &[u8; 64],
+    tests: &[u8; 64],
+    levels: &[u8; 64],
+    depths: &[u8; 64],
+    pushes: &[u8; 64],
+    follow: &[u64; 64],
+    far: u32,
+    tail: usize,
+    out: &mut [u16],
+)
+    requires { ⌜ Ready (plan .base + plan .size) (plan .size) tail (now work) ⌝ }
+    requires { ⌜ Fit plan (columns (now kinds) (now tests) (now levels) (now depths) (now pushes) (now follow)) (now work) ⌝ }
+    requires { ⌜ far ≤ length (now out) ⌝ }
+    ensures { λ _. ⌜ now (out .exit) ≡ walk (fromState (settingIn (columns (now (kinds .entry)) (now (tests .entry)) (now (levels .entry)) (now (depths .entry)) (now (pushes .entry)) (now (follow .entry))) plan (front plan (now (work .entry)))) (stretch (plan .base) (plan .size) (now (work .entry)))) (plan .lines) far 0 (found (plan .base + plan .size) (plan .size) tail (now (work .entry))) ++ drop far (now (out .entry)) ⌝ }
+{
+    let mut lo = 0;
+    let mut t = tail;
+    let mut left = far;
+    let mut j = 0;
+    while 0 < left {
+        let chosen = choose_line(
+            work,
+            plan,
+            kinds,
+            tests,
+            levels,
+            depths,
+            pushes,
+            follow,
+            left,
+            lo,
+            t,
+        );
+        out[j] = chosen.line as u16;
+        lo = t;
+        t = chosen.tail;
+        j += 1;
+        left -= 1;
+    }
+}
+
+// Phase two from the word of the nearest first state, which is one more than the chain's length: the chain, written into the front of `out`.
+pub fn chain_into(
+    work: &mut [u32],
+    plan: Plan,
+    kinds: &[u8; 64],
+    tests: &[u8; 64],
+    levels: &[u8; 64],
+    depths: &[u8; 64],
+    pushes: &[u8; 64],
+    follow: &[u64; 64],
+    begin: u64,
+    from: usize,
+    nearest: u32,
+    out: &mut [u16],
+)
+    requires { ⌜ Fit plan (columns (now kinds) (now tests) (now levels) (now depths) (now pushes) (now follow)) (now work) ⌝ }
+    requires { ⌜ (from < plan .places) × (0 < nearest) × (nearest ≤ suc (length (now out))) ⌝ }
+    ensures { λ _. ⌜ now (out .exit) ≡ walk (fromState (settingIn (columns (now (kinds .entry)) (now (tests .entry)) (now (levels .entry)) (now (depths .entry)) (now (pushes .entry)) (now (follow .entry))) plan (front plan (now (work .entry)))) (stretch (plan .base) (plan .size) (now (work .entry)))) (plan .lines) (nearest - 1) 0 (loop (put (stretch (plan .base) (plan .size) (now (work .entry))) nearest) (firstStates plan begin from) (blank (plan .size))) ++ drop (nearest - 1) (now (out .entry)) ⌝ }
+{
+    clear_stretch(work, plan.base + plan.size, plan.size);
+    let tail = over_next(work, plan, depths, begin, nearest, from, 0, 0);
+    walk_lines(
+        work,
+        plan,
+        kinds,
+        tests,
+        levels,
+        depths,
+        pushes,
+        follow,
+        nearest - 1,
+        tail,
+        out,
+    )
+}
