@@ -232,7 +232,7 @@ fn first_task(c: Step, task: Task, q: Begin) -> Task
     }
 }
 
-// The second.
+// The second pattern of an either or then: what stands around it is the same.
 fn second_task(task: Task, p: Begin) -> Task
     ensures { λ r. ⌜ Second task p r ⌝ }
 {
