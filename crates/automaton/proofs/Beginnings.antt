@@ -1,7 +1,7 @@
 -- What a command begins with, from what the patterns after it begin with. Assumes nothing.
-use mathlib.Core.Path.{_≡_, refl, sym, _∙_, ap, subst}
+use mathlib.Core.Path.{_≡_, sym, _∙_, subst}
 use mathlib.Core.Bool.{Bool, true, false, cond, _&&_, _||_}
-use mathlib.Core.List.{List, [], _∷_, _++_}
+use mathlib.Core.List.{List, [], _∷_}
 use mathlib.Core.Logic.{_⊎_, inl, inr}
 use Prim.Native.Nat.{ℕ, suc, _+_, _*_, _<_, _^_, _%_}
 use native.Mathlib.Nat.{mod-eq-of-lt, one-mul}
@@ -13,7 +13,7 @@ use lib.Pow.{pow-lt}
 use borrow.Author.Tests.{eq-eqb, ne-eqb}
 use Rattle.meaning.specs.Pattern.{Pattern, nothing, line, test, same, other, either, then, repeat, keep, commands, leaf, around, joined, Part}
 use Rattle.automaton.specs.Automaton.{heads, nullable, enter}
-use Rattle.automaton.specs.Masks.{Marks, marks-none, marks-one, marks-append, marks-when}
+use Rattle.automaton.specs.Masks.{Marks, marks-none, marks-append, marks-when}
 use Rattle.automaton.specs.declared.Begin.{Begin}
 use Rattle.automaton.specs.Compiling.{OnePattern, Begins}
 

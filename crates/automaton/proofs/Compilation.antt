@@ -1,23 +1,22 @@
 -- A pattern's automaton is written: its first command's entry, and what the calls for the patterns after it write. One law for each
 -- way through `compile_at`, and `whole-compiled` for the whole pattern and its end. Assumes nothing.
-use mathlib.Core.Path.{_≡_, refl, sym, _∙_, ap, subst}
-use mathlib.Core.List.{List, [], _∷_, _++_}
-use Prim.Native.Nat.{ℕ, zero, suc, _+_, _<_, _≤_}
+use mathlib.Core.Path.{_≡_, sym, _∙_, ap, subst}
+use mathlib.Core.List.{List, [], _∷_}
+use Prim.Native.Nat.{ℕ, suc, _+_, _<_, _≤_}
 use native.Mathlib.Numerals.{add-one}
 use native.Mathlib.Omega.{arith}
-use lib.ListN.{length}
 use Rattle.meaning.specs.Outcome.{passed}
 use Rattle.meaning.specs.Pattern.{Pattern, commands, Part, depthIn, readPattern, noneGiven}
 use Rattle.pattern.specs.Passed.{inside-small}
-use Rattle.automaton.specs.Automaton.{Node, silent, heads, compile, nodes, nodeAt}
+use Rattle.automaton.specs.Automaton.{Node, silent, compile, nodes, nodeAt}
 use Rattle.automaton.specs.Placed.{compile-length}
 use Rattle.automaton.specs.Columns.{Columns, nodeIn, Compiled}
 use Rattle.automaton.specs.Masks.{Marks}
 use Rattle.automaton.specs.declared.Step.{Step}
 use Rattle.automaton.specs.declared.Begin.{Begin}
 use Rattle.automaton.specs.declared.Task.{Task}
-use Rattle.automaton.specs.Compiling.{Passes, PartAt, ReadsIn, StepAt, OnePattern, leafOf, aroundOf, Begins, BeginsAt, AroundSaid, Entered, Ready, Fits, afterIn, afterFirst, scopeIn, Inner, First, Second, Row, rowOf, rowAt, Small, Says, Put, Written, CompiledAt, firstNode, CompiledFrom, SmallUpTo}
-use Rattle.automaton.proofs.Parts.{partOf, led, none-after, OneAfter, one-after, TwoAfter, two-after, second-part, second-reads, within, whole-read}
+use Rattle.automaton.specs.Compiling.{Passes, PartAt, ReadsIn, StepAt, OnePattern, leafOf, aroundOf, Begins, BeginsAt, Entered, Ready, Fits, afterFirst, Inner, First, Second, Row, rowAt, Says, Put, Written, CompiledAt, firstNode, CompiledFrom, SmallUpTo}
+use Rattle.automaton.proofs.Parts.{led, none-after, one-after, two-after, second-part, within, whole-read}
 use Rattle.automaton.proofs.Beginnings.{begins-suc}
 use Rattle.automaton.proofs.Entries.{compile-leaf, compile-around, compile-joined}
 use Rattle.automaton.proofs.Standing.{written-none, written-then, written-both, whole-says}

@@ -4,18 +4,17 @@ use mathlib.Core.Bool.{Bool, true, false, cond}
 use mathlib.Core.List.{List, [], _∷_, _++_}
 use mathlib.Core.Logic.{_⊎_, inl, inr}
 use mathlib.Core.Option.{Option, none, some}
-use Prim.Native.Nat.{ℕ, zero, suc, _+_, _-_, _<_, _≤_}
+use Prim.Native.Nat.{ℕ, suc, _+_, _-_, _≤_}
 use native.Mathlib.Omega.{arith}
 use lib.Dec.{eqb}
 use lib.ListN.{length}
-use borrow.Author.Tests.{eq-eqb, ne-eqb}
-use Rattle.meaning.specs.Pattern.{Rule, Pattern, nothing, line, test, same, other, either, then, repeat, keep, commands, leaf, around, joined}
-use Rattle.automaton.specs.Automaton.{Node, Test, never, always, against, silent, taking, heads, enter, levelOf, testOf, compile}
-use Rattle.automaton.specs.Columns.{testIn, Alike}
+use borrow.Author.Tests.{ne-eqb}
+use Rattle.meaning.specs.Pattern.{Rule, Pattern, nothing, line, test, same, other, either, then, commands, leaf, around, joined}
+use Rattle.automaton.specs.Automaton.{Node, Test, always, against, silent, taking, heads, enter, levelOf, testOf, compile}
+use Rattle.automaton.specs.Columns.{testIn}
 use Rattle.automaton.specs.Masks.{Marks, marks-none}
 use Rattle.automaton.specs.Scope.{Below, level-below}
-use Rattle.automaton.specs.declared.Task.{Task}
-use Rattle.automaton.specs.Compiling.{OnePattern, Fits, mark, scopeIn, afterIn, afterFirst, Row, said, Small, Says, firstNode, ruleCode}
+use Rattle.automaton.specs.Compiling.{OnePattern, mark, scopeIn, afterIn, afterFirst, Row, Says, firstNode, ruleCode}
 
 -- ---- a pattern's nodes, by its command
 

@@ -4,22 +4,21 @@ use mathlib.Core.Path.{_≡_, refl, sym, _∙_, ap, subst, subst₂}
 use mathlib.Core.Bool.{Bool, true, false, cond, not, _&&_, _||_}
 use mathlib.Core.List.{List}
 use mathlib.Core.Option.{Option, none, some}
-use mathlib.Core.Logic.{_⊎_, inl, inr}
 use Prim.Native.Nat.{ℕ, zero, suc, _+_, _-_, _<_, _≤_}
 use native.Mathlib.Omega.{arith}
 use lib.Dec.{ltb, leb, eqb}
 use lib.ListN.{length}
-use borrow.Author.Tests.{leb-true, eqb-true}
-use Rattle.meaning.specs.Outcome.{Outcome, passed, andThen, ask}
+use borrow.Author.Tests.{leb-true}
+use Rattle.meaning.specs.Outcome.{passed, andThen, ask}
 use Rattle.meaning.specs.Record.{byte, kindAllowed}
-use Rattle.meaning.specs.Pattern.{Shape, Pattern, commands, Command, shapeOf, operand, commandAt, keptIn, depthIn, Part, part, whole, readAt, readPattern, noneGiven}
+use Rattle.meaning.specs.Pattern.{Shape, Pattern, commands, Command, shapeOf, operand, commandAt, keptIn, depthIn, Part, part, whole, readPattern, noneGiven}
 use Rattle.pattern.specs.Reading.{patternAt}
 use Rattle.pattern.specs.Passed.{passed-same, ask-passed, and-then-passed, Passed, command-passed, one-pattern, slot-below, next-later, next-inside}
 use Rattle.pattern.specs.Bound.{Within, read-within, pattern-step}
 use Rattle.automaton.specs.declared.Step.{Step}
 use Rattle.automaton.specs.declared.Begin.{Begin}
 use Rattle.automaton.specs.declared.Task.{Task}
-use Rattle.automaton.specs.Compiling.{PartAt, ReadsIn, Reads, Commands, commandOf, StepAt, OnePattern, leafOf, aroundOf, joinedOf, Begins, BeginsAt, Ready, Allowed}
+use Rattle.automaton.specs.Compiling.{PartAt, ReadsIn, Reads, Commands, commandOf, StepAt, OnePattern, leafOf, aroundOf, joinedOf, BeginsAt, Ready, Allowed}
 
 abbrev pub partOf : Pattern → ℕ → Part
 partOf p n = record { tree = p; next = n }

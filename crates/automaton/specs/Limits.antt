@@ -1,19 +1,19 @@
 -- What code that reads compiled columns may rely on, from `Compiled` and the shape of every pattern's automaton.
 -- Claimed: `compiled-depth`, `compiled-level`, `compiled-follow`, `compiled-start`. Bounds that `Compiled` leaves open (kinds, pushes,
 -- levels of commands without a test) are the second promise of `compile`. Assumes nothing.
-use mathlib.Core.Path.{_≡_, refl, sym, ap, subst, subst₂}
+use mathlib.Core.Path.{_≡_, sym, subst₂}
 use mathlib.Core.Bool.{Bool, true, false}
-use mathlib.Core.List.{List, []}
-use Prim.Native.Nat.{ℕ, suc, _+_, _≤_, _<_}
+use mathlib.Core.List.{[]}
+use Prim.Native.Nat.{ℕ, _≤_, _<_}
 use native.Mathlib.Nat.{zero-add, le-of-eq}
 use native.Mathlib.Omega.{arith}
 use lib.Dec.{eqb}
-use lib.ListN.{length, getD}
+use lib.ListN.{getD}
 use Rattle.meaning.specs.Pattern.{Pattern, commands, keeps}
 use Rattle.automaton.specs.Listed.{_∈_}
 use Rattle.automaton.specs.Automaton.{Node, nodes, nodeAt}
 use Rattle.automaton.specs.Shape.{Shape, Reads, deeper, leaves, shape, start-within}
-use Rattle.automaton.specs.Columns.{Columns, testIn, members, nodeIn, Alike, Compiled}
+use Rattle.automaton.specs.Columns.{Columns, testIn, members, nodeIn, Compiled}
 
 depth-leaves : (n : Node) → n .depth ≤ leaves n
 depth-leaves n = go (n .push)

@@ -232,7 +232,7 @@ fn first_task(c: Step, task: Task, q: Begin) -> Task
     }
 }
 
-// The second.
+// The second pattern of an either or then: what stands around it is the same.
 fn second_task(task: Task, p: Begin) -> Task
     ensures { λ r. ⌜ Second task p r ⌝ }
 {
@@ -343,7 +343,7 @@ fn around_entry(c: Step, task: Task, p: Begin) -> Entry
     silent_entry()
 }
 
-// One entry of a column of bytes, and of the column of masks.
+// One entry of a column of bytes, and of the column of masks; a column that is lent as a slice tells its length.
 fn set_byte(column: &mut [u8], i: usize, x: u8)
     requires { ⌜ i < length (now column) ⌝ }
     ensures { λ _. ⌜ now (column .exit) ≡ set (now (column .entry)) i x ⌝ }

@@ -9,9 +9,7 @@ use borrow.Author.Needs.{needs}
 use borrow.Fn.Kinds.{In}
 use borrow.Fn.PlainCycle.{Measures, is, falls, and}
 use Rattle.meaning.specs.Pattern.{depthIn}
-use Rattle.automaton.specs.declared.Step.{Step}
-use Rattle.automaton.specs.declared.Begin.{Begin}
-use Rattle.automaton.specs.Compiling.{Reads, StepAt, Begins, BeginsAt}
+use Rattle.automaton.specs.Compiling.{Reads, Begins}
 use Rattle.automaton.proofs.Parts.{commands-there, led, none-after, one-after, two-after, next-place, inner-reads, second-part, second-reads, second-place}
 use Rattle.automaton.proofs.Beginnings.{begins-part}
 use Rattle.automaton.proofs.begin_at.Reads as begin-at

@@ -1,10 +1,8 @@
 -- `automaton::compile` meets its contract: what `compile_at` writes from position 0 on are the nodes of the whole pattern, and the entry
 -- after them is the end's, which is silent; runs begin with what is entered where the end comes after. Assumes nothing.
-use mathlib.Core.Path.{_≡_, refl}
-use mathlib.Core.List.{List}
+use mathlib.Core.Path.{refl}
 use native.Mathlib.Omega.{arith}
 use borrow.Author.Needs.{needs}
-use Rattle.automaton.specs.Masks.{Marks}
 use Rattle.automaton.proofs.Tasks.{no-levels}
 use Rattle.automaton.proofs.Compilation.{whole-reads, end-low, whole-compiled}
 use Rattle.automaton.proofs.compile.Statement.{statement}
@@ -28,7 +26,7 @@ put-requires : tie.Need-put-requires
 put-requires c κs =
     let compiled = c .before .before .before .before .before .before .before in
     let begin = compiled .before .before .before .before .before .before .before .before in
-    end-low (begin .before .before .pre) (begin .begin-at .ensures)
+    omega (arith, end-low (begin .before .before .pre) (begin .begin-at .ensures))
 
 entered-requires : tie.Need-entered-requires
 entered-requires c κs = search needs

@@ -1,7 +1,6 @@
 -- `automaton::leaf_entry` meets its contract: the command's byte says which node it is, and the task the level of a test's slot.
 -- Assumes nothing.
 use mathlib.Core.Path.{_≡_, refl, sym, ap, _∙_}
-use mathlib.Core.List.{List}
 use Prim.Native.Nat.{ℕ, _-_, _≤_}
 use native.Mathlib.Omega.{arith}
 use lib.ListN.{getD}

@@ -1,6 +1,6 @@
 -- `automaton::step_at` meets its contract: the command passed its questions, so its byte has a row in the table and its operands
 -- are there. Assumes nothing.
-use mathlib.Core.Path.{_≡_, refl, sym, ap, _∙_}
+use mathlib.Core.Path.{_≡_, sym, ap, _∙_}
 use mathlib.Core.List.{List}
 use mathlib.Core.Option.{some}
 use Prim.Native.Nat.{ℕ, _+_, _≤_}
@@ -9,7 +9,6 @@ use borrow.Author.Needs.{needs}
 use Rattle.meaning.specs.Record.{byte}
 use Rattle.meaning.specs.Pattern.{Shape, shapeOf}
 use Rattle.pattern.specs.Reading.{shapeShown}
-use Rattle.automaton.specs.Compiling.{Commands, commandOf}
 use Rattle.automaton.proofs.Parts.{none-some, there, operands-there, step-is}
 use Rattle.automaton.proofs.step_at.Statement.{statement}
 use Rattle.automaton.proofs.step_at.Tie as tie
