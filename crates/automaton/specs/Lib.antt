@@ -1,6 +1,8 @@
 pub mod Listed
 pub mod Automaton
 pub mod Columns
+pub mod Masks
+pub mod Compiling
 pub mod Runs
 pub mod Scope
 pub mod Placed
@@ -8,5 +10,6 @@ pub mod Sound
 pub mod Complete
 pub mod Words
 pub mod Shape
+pub mod Limits
 pub mod Readings
 pub mod Rows

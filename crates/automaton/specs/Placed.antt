@@ -77,7 +77,7 @@ module _ {node : ℕ → Node} {done : ℕ} where
 
 -- ---- a compiled pattern is placed
 
-compile-length : (p : Pattern) (b : ℕ) (scope K : List ℕ) → length (compile p b scope K) ≡ commands p
+pub compile-length : (p : Pattern) (b : ℕ) (scope K : List ℕ) → length (compile p b scope K) ≡ commands p
 compile-length nothing b scope K = refl
 compile-length (line k) b scope K = refl
 compile-length (test r k s) b scope K = refl

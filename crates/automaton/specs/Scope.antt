@@ -22,7 +22,7 @@ under-cond here true n o = refl
 under-cond here false n o = refl
 
 -- one more keep inside: it has its slot, other slots are as before
-level-inside : (t : ℕ) (scope : List ℕ) (s : ℕ) → levelOf t (scope ++ (s ∷ [])) ≡ cond (eqb t s) (some (length scope)) (levelOf t scope)
+pub level-inside : (t : ℕ) (scope : List ℕ) (s : ℕ) → levelOf t (scope ++ (s ∷ [])) ≡ cond (eqb t s) (some (length scope)) (levelOf t scope)
 level-inside t [] s = refl
 level-inside t (x ∷ scope) s =
     ap (under (eqb t x)) (level-inside t scope s) ∙ under-cond (eqb t x) (eqb t s) (length scope) (levelOf t scope)

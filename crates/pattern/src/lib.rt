@@ -75,7 +75,7 @@ pub enum Command {
 }
 
 // Operand i of the command at a place; 0 where the command has none.
-fn operand_at(src: &[u8], at: usize, operands: usize, i: usize) -> u8
+pub fn operand_at(src: &[u8], at: usize, operands: usize, i: usize) -> u8
     requires { ⌜ at + 1 + operands ≤ length (now src) ⌝ }
     ensures { λ r. ⌜ r ≡ operand (now (src .entry)) at operands i ⌝ }
 {
