@@ -71,7 +71,7 @@ memb-from mask j (suc n) k h l = elim (ℕ-discrete k j) [
     here e true = memb-same k j rest e
     here e false = memb-before mask (suc j) n k (omega arith)
 
-member : (mask k : ℕ) → k < 64 → memb k (members mask) ≡ eqb (bitOf mask k) 1
+pub member : (mask k : ℕ) → k < 64 → memb k (members mask) ≡ eqb (bitOf mask k) 1
 unfolding members
 member mask k h = memb-from mask 0 64 k (omega arith) (omega arith)
 

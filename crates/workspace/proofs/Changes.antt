@@ -45,7 +45,7 @@ none-near zero i = omega arith
 none-near (suc n) zero = omega arith
 none-near (suc n) (suc i) = none-near n i
 
-blank-good : (n : ℕ) → Good n (blank n)
+pub blank-good : (n : ℕ) → Good n (blank n)
 unfolding blank
 blank-good n =
     record { sized = length-replicate n 0; counted = sym (marked-none n); within = λ i h. absurd (not-suc-le-zero h); near = λ i. omega (arith, none-near n i) }

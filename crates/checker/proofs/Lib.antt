@@ -1,0 +1,5 @@
+pub mod Sets
+pub mod Steps
+pub mod Moving
+pub mod Posing
+pub mod Replies

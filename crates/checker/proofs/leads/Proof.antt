@@ -1,0 +1,101 @@
+-- `checker::leads` meets its contract: the mask's positions are the first set, the chain moves it, and the end's mark says whether it
+-- came there. Assumes nothing.
+use mathlib.Core.Path.{_≡_, sym, ap, _∙_, subst}
+use mathlib.Core.Bool.{Bool, true, false}
+use mathlib.Core.List.{List}
+use Prim.Native.Nat.{ℕ, _+_, _*_, _<_, _≤_}
+use native.Mathlib.Omega.{arith}
+use lib.ListN.{length, getD}
+use Rattle.automaton.specs.Columns.{Columns, columns, members}
+use Rattle.search.specs.Plain.{memb}
+use Rattle.search.specs.Product.{succs}
+use Rattle.search.specs.Along.{goal, starting}
+use Rattle.search.specs.Check.{moved}
+use Rattle.workspace.specs.Area.{found}
+use Rattle.search.specs.Loaded.{settingIn}
+use Rattle.workspace.specs.Spots.{front}
+use Rattle.search.specs.Front.{goal-in}
+use Rattle.workspace.proofs.Bounds.{stacks-pos}
+use Rattle.checker.specs.Walk.{marks, walked}
+use Rattle.checker.proofs.Steps.{fit-same}
+use Rattle.checker.proofs.Moving.{begun, verdict}
+use borrow.Author.Needs.{needs}
+use Rattle.checker.proofs.leads.Statement.{statement}
+use Rattle.checker.proofs.leads.Tie as tie
+
+abbrev cols : tie.Start → Columns
+cols c = columns (c .args .kinds .now) (c .args .tests .now) (c .args .levels .now) (c .args .depths .now) (c .args .pushes .now) (c .args .follow .now)
+
+-- whether the chain leads to the end
+abbrev answer : tie.Start → Bool
+answer c =
+    let S = settingIn (cols c) (c .args .plan) (front (c .args .plan) (c .args .work .now)) in
+    memb (goal S (c .args .to)) (moved (succs S) (starting S (c .args .from) (members (c .args .begin))) (c .args .chain .now))
+
+over-next-requires : tie.Need-over-next-requires
+over-next-requires c κs =
+    let a = c .before .before .before in
+    (a .pre .1 .0 .ready, (a .pre .0 .laid, (a .pre .1 .1 .0, a .pre .0 .depths-low)))
+
+run-chain-requires : tie.Need-run-chain-requires
+run-chain-requires c κs =
+    let a = c .before .before .before .before .before .before .before in
+    let b = begun (a .args .plan) (cols a) (a .args .work .now) (a .pre .0) (a .args .begin) (a .args .from) (a .pre .1 .1 .0) (a .pre .1 .0) _ _ (c .before .before .before .over-next .ensures) in
+    (fit-same (a .pre .0) (b .front) (b .long), (b .alive, a .pre .1 .1 .2))
+
+state-at-requires : tie.Need-state-at-requires
+state-at-requires c κs =
+    let a = c .before .before .before .before .before .before .before .before .before .before in
+    let l = a .pre .0 .laid in
+    ((l .size-is, l .small, l .few-commands), (a .pre .1 .1 .1, omega arith, stacks-pos l))
+
+add-dist-at : tie.Need-add-dist-at
+add-dist-at c =
+    let a = c .before .before .before .before .before .before .before .before .before .before .before .before .before in
+    omega (arith, a .pre .0 .laid .room)
+
+dist-at-requires : tie.Need-dist-at-requires
+dist-at-requires c κs = (c .before .before .before .before .before .run-chain .ensures .alive .ready, c .before .before .state-at .ensures .1)
+
+-- ---- the reply
+
+-- what the end's word says
+abbrev start : tie.After-dist-at → tie.Start
+start c = c .before .before .before .before .before .before .before .before .before .before .before .before .before .before
+
+said : (c : tie.After-dist-at) → (c .dist-at .result ≡ 0 → false ≡ answer (start c)) × ((c .dist-at .result ≡ 0 → ⊥) → true ≡ answer (start c))
+said c =
+    let a = start c in
+    let p = a .args .plan in
+    let b = begun p (cols a) (a .args .work .now) (a .pre .0) (a .args .begin) (a .args .from) (a .pre .1 .1 .0) (a .pre .1 .0) _ _ (c .before .before .before .before .before .before .before .before .before .before .over-next .ensures) in
+    let r = rw (b .front) at (c .before .before .before .before .before .before .run-chain .ensures) in
+    let end = c .before .before .before .state-at .ensures .0 ∙ goal-in (cols a) p (length (a .args .work .now)) (a .pre .0 .laid) (front p (a .args .work .now)) (a .args .to) in
+    let v = verdict p (cols a) (a .args .work .now) (a .pre .0) (a .args .begin) (a .args .from) (a .pre .1 .1 .0) (a .pre .1 .0) (a .args .chain .now) (a .pre .1 .1 .2) (a .args .to) (a .pre .1 .1 .1) _ (r .now-found ∙ ap (walked _ (p .size) (a .args .chain .now)) (b .now-found)) in
+    let word = rw end at (c .dist-at .ensures .0) in
+    (λ z. sym (v .0 (sym word ∙ z)), λ n. sym (v .1 (λ z. n (word ∙ z))))
+
+same-length : tie.Need-same-length
+same-length c = search needs
+
+returns : tie.Need-returns
+returns c = said (c .before) .0 (c .if1 .taken)
+
+same-length-2 : tie.Need-same-length-2
+same-length-2 c = search needs
+
+returns-2 : tie.Need-returns-2
+returns-2 c = said (c .before) .1 (c .if1 .left)
+
+pub leads-spec : {M : Type 1} → statement M
+leads-spec =
+    tie.close
+    (tie.spec
+    over-next-requires
+    run-chain-requires
+    state-at-requires
+    add-dist-at
+    dist-at-requires
+    same-length
+    returns
+    same-length-2
+    returns-2)

@@ -1,0 +1,37 @@
+-- What the checker says: `checkOf`, the definition that its promise cites, and demand 2 in the words of document 01.
+use mathlib.Core.Path.{_≡_}
+use mathlib.Core.Bool.{Bool, true, false}
+use mathlib.Core.List.{List}
+use Prim.Native.Nat.{ℕ}
+use lib.ListN.{length}
+use Rattle.meaning.specs.Outcome.{Outcome, passed, ask, andThen, Reply, value, refusal}
+use Rattle.meaning.specs.Record.{Line, Day, readRecord}
+use Rattle.meaning.specs.Pattern.{Pattern, readPattern, noneGiven}
+use Rattle.meaning.specs.Chain.{Accepted}
+use Rattle.meaning.specs.Request.{askRequest}
+use Rattle.search.specs.Check.{exist, check}
+use Rattle.checker.specs.declared.CheckReply.{CheckReply}
+use Rattle.checker.specs.declared.CheckReply.the-variants as Check
+
+-- a reply's value, or its number and second number
+abbrev pub checkReply : CheckReply → Reply Bool
+checkReply Check.Yes = value true
+checkReply Check.No = value false
+checkReply (Check.Refused number second) = refusal number second
+
+-- questions 1 to 17, then 18 for every number of the chain, then whether the chain is accepted
+unfoldable pub checkOf : List ℕ → List ℕ → ℕ → ℕ → List ℕ → ℕ → Outcome Bool
+checkOf rec pat from to chain words =
+    andThen (askRequest rec pat from to words) (λ q.
+    ask (exist (length (q .day .lines)) chain) 18
+    (passed (check (q .day .lines) (q .pattern) from to chain)))
+
+-- yes: the chain leads from the first place to the second and its word is in the pattern's language; no: that is not so
+abbrev pub Says : List Line → Pattern → ℕ → ℕ → List ℕ → Reply Bool → Type 0
+Says lines p a b c (value true) = Accepted lines p a b c
+Says lines p a b c (value false) = Accepted lines p a b c → ⊥
+Says lines p a b c (refusal number second) = Unit {0}
+
+-- of the record and the pattern that the bytes are
+abbrev pub Demand2 : List ℕ → List ℕ → ℕ → ℕ → List ℕ → Reply Bool → Type 0
+Demand2 rec pat a b c r = (day : Day) (p : Pattern) → readRecord rec ≡ passed day → readPattern noneGiven pat ≡ passed p → Says (day .lines) p a b c r

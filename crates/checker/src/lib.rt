@@ -1,0 +1,240 @@
+// Is a chain accepted? The set of states that the chain can be in is moved along it, line by line, inside one lent work area.
+// Marks and frontier hold the set; the list before them holds the states of the line before, so that a line's work goes by the states alive.
+ghost use mathlib.Core.Path.{_≡_};
+ghost use mathlib.Core.Bool.{true};
+ghost use mathlib.Core.List.{_++_};
+ghost use Prim.Native.Nat.{ℕ, _+_, _*_, _-_, _≤_, _<_};
+ghost use lib.ListN.{length, getD, replicate};
+ghost use Rattle.meaning.specs.Outcome.{told};
+ghost use Rattle.meaning.specs.Request.{askRequest, workAfter};
+ghost use Rattle.automaton.specs.Columns.{columns, members};
+ghost use Rattle.request.specs.Layout.{Laid};
+ghost use Rattle.search.specs.Loops.{turns};
+ghost use Rattle.search.specs.Plain.{memb};
+ghost use Rattle.workspace.specs.Area.{Ready, Step};
+ghost use Rattle.search.specs.Product.{succs};
+ghost use Rattle.search.specs.Along.{goal, starting};
+ghost use Rattle.search.specs.Loaded.{settingIn};
+ghost use Rattle.workspace.specs.Spots.{front, Fit};
+ghost use Rattle.search.specs.Check.{exist, moved};
+ghost use Rattle.checker.specs.Walk.{stepped, walked, marks, Alive, Advanced, frontierAt, asideOf, Aside, Listed, listTurn, Fresh, SomePosed, RightFor};
+ghost use Rattle.checker.specs.Reply.{checkReply, checkOf, Demand2};
+use request::Plan;
+use request::Request;
+
+// Document 01's reply: yes, no, or a refused question's number and second number.
+pub enum CheckReply {
+    Yes,
+    No,
+    Refused(u8, usize),
+}
+
+// Question 18: is each number of the chain that of a line?
+fn lines_exist(chain: &[u16], lines: usize) -> bool
+    ensures { λ r. ⌜ r ≡ exist lines (now (chain .entry)) ⌝ }
+{
+    let mut i: usize = 0;
+    while i < chain.len() {
+        if lines <= chain[i] as usize {
+            return false;
+        }
+        i += 1;
+    }
+    true
+}
+
+// ---- one line of the chain
+
+// State i of the frontier comes into the list and loses its mark.
+fn set_aside(work: &mut [u32], plan: Plan, i: usize)
+    requires { ⌜ Laid plan (length (now work)) ⌝ }
+    requires { ⌜ (i < plan .size) × (frontierAt plan (now work) i < plan .size) ⌝ }
+    ensures { λ _. ⌜ now (work .exit) ≡ asideOf plan i (now (work .entry)) ⌝ }
+{
+    let s = workspace::word(work, plan.base + plan.size + plan.size + i);
+    workspace::write(work, plan.base, plan.size, i, s);
+    workspace::write(work, plan.base + plan.size, plan.size, s as usize, 0);
+}
+
+// All states of the frontier come into the list, and nothing is marked.
+fn settle(work: &mut [u32], plan: Plan, tail: usize)
+    requires { ⌜ Laid plan (length (now work)) ⌝ }
+    requires { ⌜ Ready (marks plan) (plan .size) tail (now work) ⌝ }
+    ensures { λ _. ⌜ Aside plan tail (now (work .entry)) (now (work .exit)) ⌝ }
+{
+    for i in 0..tail {
+        set_aside(work, plan, i);
+    }
+}
+
+// The states to which the line leads from those of the list become the frontier. Returns how many they are.
+fn gather(
+    work: &mut [u32],
+    plan: Plan,
+    kinds: &[u8; 64],
+    tests: &[u8; 64],
+    levels: &[u8; 64],
+    depths: &[u8; 64],
+    pushes: &[u8; 64],
+    follow: &[u64; 64],
+    line: usize,
+    count: usize,
+) -> usize
+    requires { ⌜ Ready (marks plan) (plan .size) 0 (now work) ⌝ }
+    requires { ⌜ Fit plan (columns (now kinds) (now tests) (now levels) (now depths) (now pushes) (now follow)) (now work) ⌝ }
+    requires { ⌜ (line < plan .lines) × (count ≤ plan .size) × Listed plan count (now work) ⌝ }
+    ensures { λ r. ⌜ Step (marks plan) (plan .size) (turns (listTurn (settingIn (columns (now (kinds .entry)) (now (tests .entry)) (now (levels .entry)) (now (depths .entry)) (now (pushes .entry)) (now (follow .entry))) plan (front plan (now (work .entry)))) plan (now (work .entry)) line) 0 count) 0 (now (work .entry)) r (now (work .exit)) ⌝ }
+{
+    let mut t = 0;
+    for j in 0..count {
+        let s = workspace::word(work, plan.base + j) as usize;
+        t = workspace::from_state(work, plan, kinds, tests, levels, depths, pushes, follow, 0, line, s, t);
+    }
+    t
+}
+
+// One more line of the chain: the set becomes that of the states to which the line leads.
+fn next_line(
+    work: &mut [u32],
+    plan: Plan,
+    kinds: &[u8; 64],
+    tests: &[u8; 64],
+    levels: &[u8; 64],
+    depths: &[u8; 64],
+    pushes: &[u8; 64],
+    follow: &[u64; 64],
+    line: usize,
+    tail: usize,
+) -> usize
+    requires { ⌜ Fit plan (columns (now kinds) (now tests) (now levels) (now depths) (now pushes) (now follow)) (now work) ⌝ }
+    requires { ⌜ Alive plan tail (now work) ⌝ }
+    requires { ⌜ line < plan .lines ⌝ }
+    ensures { λ r. ⌜ Advanced plan (stepped (succs (settingIn (columns (now (kinds .entry)) (now (tests .entry)) (now (levels .entry)) (now (depths .entry)) (now (pushes .entry)) (now (follow .entry))) plan (front plan (now (work .entry))))) (plan .size) line) tail (now (work .entry)) r (now (work .exit)) ⌝ }
+{
+    settle(work, plan, tail);
+    gather(work, plan, kinds, tests, levels, depths, pushes, follow, line, tail)
+}
+
+// ---- the chain
+
+// The set moved along the whole chain. Returns how many states are in it then.
+fn run_chain(
+    work: &mut [u32],
+    plan: Plan,
+    kinds: &[u8; 64],
+    tests: &[u8; 64],
+    levels: &[u8; 64],
+    depths: &[u8; 64],
+    pushes: &[u8; 64],
+    follow: &[u64; 64],
+    chain: &[u16],
+    tail: usize,
+) -> usize
+    requires { ⌜ Fit plan (columns (now kinds) (now tests) (now levels) (now depths) (now pushes) (now follow)) (now work) ⌝ }
+    requires { ⌜ Alive plan tail (now work) ⌝ }
+    requires { ⌜ exist (plan .lines) (now chain) ≡ true ⌝ }
+    ensures { λ r. ⌜ Advanced plan (walked (succs (settingIn (columns (now (kinds .entry)) (now (tests .entry)) (now (levels .entry)) (now (depths .entry)) (now (pushes .entry)) (now (follow .entry))) plan (front plan (now (work .entry))))) (plan .size) (now (chain .entry))) tail (now (work .entry)) r (now (work .exit)) ⌝ }
+{
+    let mut t = tail;
+    let mut i: usize = 0;
+    while i < chain.len() {
+        let line = chain[i] as usize;
+        t = next_line(work, plan, kinds, tests, levels, depths, pushes, follow, line, t);
+        i += 1;
+    }
+    t
+}
+
+// Does the chain lead from the positions of the mask at the place `from` to the end at the place `to`?
+fn leads(
+    work: &mut [u32],
+    plan: Plan,
+    kinds: &[u8; 64],
+    tests: &[u8; 64],
+    levels: &[u8; 64],
+    depths: &[u8; 64],
+    pushes: &[u8; 64],
+    follow: &[u64; 64],
+    begin: u64,
+    from: usize,
+    to: usize,
+    chain: &[u16],
+) -> bool
+    requires { ⌜ Fit plan (columns (now kinds) (now tests) (now levels) (now depths) (now pushes) (now follow)) (now work) ⌝ }
+    requires { ⌜ Fresh plan begin (now work) ⌝ }
+    requires { ⌜ (from < plan .places) × (to < plan .places) × (exist (plan .lines) (now chain) ≡ true) ⌝ }
+    ensures { λ r. ⌜ r ≡ memb (goal (settingIn (columns (now (kinds .entry)) (now (tests .entry)) (now (levels .entry)) (now (depths .entry)) (now (pushes .entry)) (now (follow .entry))) plan (front plan (now (work .entry)))) to) (moved (succs (settingIn (columns (now (kinds .entry)) (now (tests .entry)) (now (levels .entry)) (now (depths .entry)) (now (pushes .entry)) (now (follow .entry))) plan (front plan (now (work .entry))))) (starting (settingIn (columns (now (kinds .entry)) (now (tests .entry)) (now (levels .entry)) (now (depths .entry)) (now (pushes .entry)) (now (follow .entry))) plan (front plan (now (work .entry)))) from (members begin)) (now (chain .entry))) ⌝ }
+{
+    let starts = workspace::over_next(work, plan, depths, begin, 0, from, 0, 0);
+    let tail = run_chain(work, plan, kinds, tests, levels, depths, pushes, follow, chain, starts);
+    let end = workspace::state_at(plan, to, plan.done, 0);
+    if workspace::dist_at(work, plan.base + plan.size, plan.size, tail, end) == 0 {
+        return false;
+    }
+    true
+}
+
+// ---- a request
+
+// Is the chain accepted, in an area into which the record is loaded? The pattern's automaton stands in this function's frame.
+fn accepted(
+    pattern: &[u8],
+    plan: Plan,
+    from: usize,
+    to: usize,
+    chain: &[u16],
+    work: &mut [u32],
+) -> bool
+    requires { ⌜ SomePosed (now pattern) plan from to (now chain) (now work) ⌝ }
+    ensures { λ r. ⌜ RightFor (now (pattern .entry)) plan from to (now (chain .entry)) (now (work .entry)) r ⌝ }
+{
+    let mut kinds: [u8; 64] = [0; 64];
+    let mut tests: [u8; 64] = [0; 64];
+    let mut levels: [u8; 64] = [0; 64];
+    let mut depths: [u8; 64] = [0; 64];
+    let mut pushes: [u8; 64] = [0; 64];
+    let mut follow: [u64; 64] = [0; 64];
+    let begin = automaton::compile(
+        pattern,
+        &mut kinds,
+        &mut tests,
+        &mut levels,
+        &mut depths,
+        &mut pushes,
+        &mut follow,
+    );
+    leads(
+        work, plan, &kinds, &tests, &levels, &depths, &pushes, &follow, begin, from, to, chain,
+    )
+}
+
+// Questions 1 to 18, then yes or no: does the chain lead from the first place to the second, and is its word in the pattern's
+// language? The area stays untouched where a question up to 17 is answered no, and is all zeros after every other reply.
+pub fn check_chain(
+    day: &[u8],
+    pattern: &[u8],
+    from: u16,
+    to: u16,
+    chain: &[u16],
+    work: &mut [u32],
+) -> CheckReply
+    ensures reply { λ r. ⌜ checkReply r ≡ told (checkOf (now (day .entry)) (now (pattern .entry)) from to (now (chain .entry)) (length (now (work .entry)))) ⌝ }
+    ensures workspace { λ _. ⌜ now (work .exit) ≡ workAfter (askRequest (now (day .entry)) (now (pattern .entry)) from to (length (now (work .entry)))) (now (work .entry)) ⌝ }
+    ensures membership { λ r. ⌜ Demand2 (now (day .entry)) (now (pattern .entry)) from to (now (chain .entry)) (checkReply r) ⌝ }
+{
+    let asked = request::ask_request(day, pattern, from, to, work.len());
+    let Request::Asked(plan) = asked else {
+        return CheckReply::Refused(asked.number(), 0);
+    };
+    if !lines_exist(chain, plan.lines) {
+        request::clear(work);
+        return CheckReply::Refused(18, 0);
+    }
+    request::load(day, plan, work);
+    let yes = accepted(pattern, plan, from as usize, to as usize, chain, work);
+    request::clear(work);
+    if yes {
+        return CheckReply::Yes;
+    }
+    CheckReply::No
+}
