@@ -99,7 +99,7 @@ says-silent {x} k t l d p f = record {
 }
 
 module _ {x : Row} {kind : ℕ} {n : Test} (scope : List ℕ) {K : List ℕ} (k : x .kind ≡ kind) (low : kind ≤ 15) (t : testIn (x .test) (x .level) ≡ n)
-    (l : x .level ≤ 3) (d : x .depth ≡ length scope) (shallow : x .depth ≤ 3) (m : Marks (x .follow) K) where
+    (l : x .level ≤ x .depth) (d : x .depth ≡ length scope) (shallow : x .depth ≤ 3) (m : Marks (x .follow) K) where
   pub says-taking : (push : Bool) → x .push ≡ cond push 1 0 → Says x (taking kind n push scope K)
   says-taking push p = record {
     alike = record { kind = k; test = t; push = ap (λ y. eqb y 1) p ∙ pushed push; depth = d; follow = m .has };

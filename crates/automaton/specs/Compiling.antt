@@ -188,7 +188,7 @@ said x = record { kind = x .kind; test = testIn (x .test) (x .level); push = eqb
 -- the bounds of its numbers
 pub record Small (x : Row) : Type 0 where
   pub kind : x .kind ≤ 15
-  pub level : x .level ≤ 3
+  pub level : x .level ≤ x .depth
   pub depth : x .depth ≤ 3
   pub push : x .push ≤ 1
 
@@ -221,7 +221,7 @@ ruleCode code = cond (eqb code 0x22) 2 3
 
 -- the entry of a command that takes a letter and pushes nothing, with its test's code and level
 abbrev pub TakingSaid : Step → Task → ℕ → ℕ → Entry → Type 0
-TakingSaid c t test level r = (scope K : List ℕ) (n : Test) → Fits t scope K → testIn test level ≡ n → level ≤ 3 → Says (rowOf r) (taking (c .kind) n false scope K)
+TakingSaid c t test level r = (scope K : List ℕ) (n : Test) → Fits t scope K → testIn test level ≡ n → level ≤ t .depth → Says (rowOf r) (taking (c .kind) n false scope K)
 
 -- the entry of a command without patterns, and of one around the pattern that p begins
 abbrev pub LeafSaid : Step → Task → Entry → Type 0

@@ -4,19 +4,17 @@ use mathlib.Core.Path.{_≡_, refl, sym, ap, _∙_, subst}
 use mathlib.Core.Bool.{Bool, true, false, and-eq-true-iff}
 use mathlib.Core.List.{List, [], _∷_, _++_}
 use mathlib.Core.Logic.{⊎-elim}
-use Prim.Native.Nat.{ℕ, zero, suc, _+_, _*_, _-_, _<_, _≤_}
+use Prim.Native.Nat.{ℕ, suc, _+_, _-_, _<_, _≤_}
 use native.Mathlib.Numerals.{add-one}
 use native.Mathlib.Omega.{arith}
 use lib.Dec.{ltb}
 use lib.ListN.{length, getD, set, take, drop, replicate, length-set, length-drop}
 use lib.Seq.{take-set-le, drop-set-lt, getD-drop, getD-take, take-suc, take-take, drop-cons, drop-length}
 use borrow.Author.Tests.{ltb-true}
-use Rattle.automaton.specs.Listed.{_∈_}
 use Rattle.automaton.specs.Columns.{Columns, members}
-use Rattle.request.specs.Layout.{Laid}
 use Rattle.request.specs.declared.Plan.{Plan}
 use Rattle.search.specs.Plain.{flat, memb}
-use Rattle.search.specs.Sets.{memb-in, in-memb}
+use Rattle.search.specs.Sets.{in-memb}
 use Rattle.search.specs.Check.{exist, moved, moved-members}
 use Rattle.search.specs.Along.{goal, starting}
 use Rattle.search.specs.Loops.{loop, turns, loop-append, loop-flat, loop-same}
@@ -26,7 +24,7 @@ use Rattle.search.specs.Product.{Setting, succs}
 use Rattle.search.specs.Loaded.{settingIn}
 use Rattle.search.specs.Moves.{visit, onward, push-law}
 use Rattle.workspace.specs.Spots.{front, Fit, nextTurn}
-use Rattle.workspace.proofs.Stretches.{stretch-none, stretch-get, stretch-length, stretch-set, stretch-below, stretch-above, stretch-push}
+use Rattle.workspace.proofs.Stretches.{stretch-none, stretch-get, stretch-set, stretch-below, stretch-above, stretch-push}
 use Rattle.workspace.proofs.Changes.{blank-good, under-front, ready-state, ready-long}
 use Rattle.checker.specs.Walk.{seeded, stepped, walked, marks, Alive, Advanced, frontierAt, frontier, asideOf, wiped, Aside, Listed, listTurn, Fresh}
 use Rattle.checker.proofs.Sets.{seeded-wiped, step-low, walked-marks, memb-not}

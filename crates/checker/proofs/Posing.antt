@@ -1,9 +1,9 @@
 -- A request loaded into the area is one to walk by: its tables fit (`posed-fit`), nothing is marked (`posed-fresh`), and moving along the
 -- chain by what they say is `check` (`posed-check`).
-use mathlib.Core.Path.{_≡_, refl, sym, ap, _∙_, subst}
+use mathlib.Core.Path.{_≡_, sym, ap, _∙_}
 use mathlib.Core.Bool.{true, _&&_}
-use mathlib.Core.List.{List, [], _++_, map}
-use Prim.Native.Nat.{ℕ, suc, _+_, _*_, _-_, _<_, _≤_}
+use mathlib.Core.List.{List, _++_, map}
+use Prim.Native.Nat.{ℕ, _+_, _-_, _<_, _≤_}
 use native.Mathlib.Omega.{arith}
 use lib.ListN.{length, getD, take, drop, replicate, length-append, length-map, length-replicate, getD-replicate}
 use lib.Seq.{take-at, take-take, getD-append-add, ext-getD}
@@ -11,19 +11,19 @@ use Rattle.meaning.specs.Record.{Line}
 use Rattle.meaning.specs.Writing.{lineAt}
 use Rattle.meaning.specs.Pattern.{Pattern, commands, keeps}
 use Rattle.meaning.specs.Request.{Asked}
-use Rattle.automaton.specs.Listed.{_∈_}
 use Rattle.automaton.specs.Columns.{Columns, members, Compiled}
 use Rattle.automaton.specs.Compiling.{Small, rowAt}
 use Rattle.automaton.specs.Limits.{compiled-depth, compiled-start}
 use Rattle.request.specs.Codes.{codes, codes-length}
 use Rattle.request.specs.Layout.{Laid, lineWord, fromIn, toIn, boatWords, loadedOf}
+use Rattle.request.specs.Reply as Request
 use Rattle.request.specs.declared.Plan.{Plan}
 use Rattle.search.specs.Plain.{memb}
 use Rattle.search.specs.Table.{blank}
 use Rattle.workspace.specs.Area.{stretch, found, Ready}
 use Rattle.search.specs.Product.{Setting, succs}
 use Rattle.search.specs.Along.{goal, starting}
-use Rattle.search.specs.Loaded.{wordAt, lineIn, settingIn}
+use Rattle.search.specs.Loaded.{wordAt, settingIn}
 use Rattle.workspace.specs.Spots.{front, Fit}
 use Rattle.search.specs.Answer.{setting}
 use Rattle.search.specs.Check.{exist, moved, check}
@@ -38,7 +38,7 @@ module _ (g : List ℕ) (n b : ℕ) (w : List ℕ) (is : w ≡ g ++ replicate n 
   words-front : take b w ≡ g
   words-front = ap (take b) is ∙ take-at g (replicate n 0) b long
 
-  words-long : length w ≡ b + n
+  pub words-long : length w ≡ b + n
   words-long = ap length is ∙ (length-append g (replicate n 0) ∙ (λ i. long i + length-replicate {A = ℕ} n 0 i))
 
   words-after : (i : ℕ) → i < n → getD w (b + i) 0 ≡ 0
@@ -52,6 +52,26 @@ module _ (g : List ℕ) (n b : ℕ) (w : List ℕ) (is : w ≡ g ++ replicate n 
       let less : i < k = omega (arith, l, sized) in
       let sum : b + m + i ≡ b + (m + i) = omega arith in
       stretch-get (b + m) k w i less ∙ (ap (λ j. getD w j 0) sum ∙ (words-after (m + i) (omega arith) ∙ sym (getD-replicate k i 0 0 less))))
+
+-- the tables fill the words before `base`
+pub tables-long : {q : Asked} {plan : Plan} {area : ℕ} → Request.Planned q plan → Laid plan area → length (loadedOf (plan .keeps) (q .day .lines)) ≡ plan .base
+tables-long {q} {plan} p l =
+    let lines = q .day .lines in
+    let b = boatWords (plan .keeps) lines in
+    let same : length b ≡ plan .boats = ap (λ k. length (boatWords k lines)) (p .keeps-are) ∙ sym (p .boats-are) in
+    omega (
+      arith,
+      length-append b (codes lines ++ map lineWord lines),
+      length-append (codes lines) (map lineWord lines),
+      codes-length lines,
+      length-map lines lineWord,
+      same,
+      p .lines-are,
+      p .first-is,
+      l .codes-at,
+      l .words-at,
+      l .base-at,
+    )
 
 module _ {q : Asked} {pat : List ℕ} {plan : Plan} {from to : ℕ} {chain w : List ℕ} (posed : Posed q pat plan from to chain w) where
   abbrev lines : List Line
@@ -70,29 +90,9 @@ module _ {q : Asked} {pat : List ℕ} {plan : Plan} {from to : ℕ} {chain w : L
     boats-are = p .boats-are;
   }
 
-  tables-long : length (loadedOf (plan .keeps) lines) ≡ plan .base
-  tables-long =
-      let p = posed .planned in
-      let l = posed .laid in
-      let b = boatWords (plan .keeps) lines in
-      let same : length b ≡ plan .boats = ap (λ k. length (boatWords k lines)) (p .keeps-are) ∙ sym (p .boats-are) in
-      omega (
-        arith,
-        length-append b (codes lines ++ map lineWord lines),
-        length-append (codes lines) (map lineWord lines),
-        codes-length lines,
-        length-map lines lineWord,
-        same,
-        p .lines-are,
-        p .first-is,
-        l .codes-at,
-        l .words-at,
-        l .base-at,
-      )
-
   tables-are : tables plan (front plan w) ≡ loadedOf (keeps tree) lines
   tables-are =
-      let whole : take (plan .base) w ≡ loadedOf (plan .keeps) lines = words-front (loadedOf (plan .keeps) lines) (length w - plan .base) (plan .base) w (posed .loaded) tables-long in
+      let whole : take (plan .base) w ≡ loadedOf (plan .keeps) lines = words-front (loadedOf (plan .keeps) lines) (length w - plan .base) (plan .base) w (posed .loaded) (tables-long (posed .planned) (posed .laid)) in
       ap (λ n. drop n (take (plan .base) (front plan w))) (posed .planned .first-is)
       ∙ (take-take (plan .base) (plan .base) w (omega arith) ∙ (whole ∙ ap (λ k. loadedOf k lines) (posed .planned .keeps-are)))
 
@@ -100,7 +100,7 @@ module _ {q : Asked} {pat : List ℕ} {plan : Plan} {from to : ℕ} {chain w : L
   unfolding found blank
   none-marked =
       let zeros : stretch (marks plan) (plan .size) w ≡ replicate (plan .size) 0 =
-      words-blank (loadedOf (plan .keeps) lines) (length w - plan .base) (plan .base) w (posed .loaded) tables-long (plan .size) (plan .size) (omega (arith, posed .laid .room)) in
+      words-blank (loadedOf (plan .keeps) lines) (length w - plan .base) (plan .base) w (posed .loaded) (tables-long (posed .planned) (posed .laid)) (plan .size) (plan .size) (omega (arith, posed .laid .room)) in
       rw (zeros, stretch-none (marks plan + plan .size) w)
 
   posed-ready : Ready (marks plan) (plan .size) 0 w

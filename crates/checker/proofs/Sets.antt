@@ -1,22 +1,22 @@
 -- Sets of states in a table, without the area: what is marked of a list of states (`seeded-mark`), that wiping its queue leaves
 -- nothing marked (`seeded-wiped`), and that a table walked along a chain marks exactly the states to which the chain moves (`walked-marks`).
 use mathlib.Core.Path.{_≡_, refl, sym, ap, _∙_, subst}
-use mathlib.Core.Bool.{Bool, true, false, _&&_, and-eq-true-iff}
+use mathlib.Core.Bool.{Bool, true, false, and-eq-true-iff}
 use mathlib.Core.List.{List, [], _∷_, List·Memᴰ·cases-cons, Memᴰ·map, Memᴰ·of-map}
 use mathlib.Core.Logic.{_↔_, _⊎_, inl, inr, ⊎-elim}
 use mathlib.Core.Option.{Option, none, some}
-use Prim.Native.Nat.{ℕ, zero, suc, _+_, _<_, _≤_}
+use Prim.Native.Nat.{ℕ, zero, suc, _<_}
 use native.Mathlib.Omega.{arith}
 use lib.Dec.{ltb}
 use lib.ListN.{length, getD, set, replicate, length-set, length-replicate, getD-replicate}
 use lib.Seq.{getD-set-same, ext-getD}
 use borrow.Author.Tests.{ltb-true}
 use Rattle.automaton.specs.Listed.{_∈_, none-in}
-use Rattle.search.specs.Plain.{Entry, stateOf, look, news, memb, nub, flat}
-use Rattle.search.specs.Sets.{memb-in, in-memb, nub-in, flat-in}
+use Rattle.search.specs.Plain.{stateOf, look, news, memb, nub, flat}
+use Rattle.search.specs.Sets.{memb-in, nub-in, flat-in}
 use Rattle.search.specs.Entries.{under, look-some, look-none}
 use Rattle.search.specs.Loops.{loop}
-use Rattle.search.specs.Table.{Search, blank, push, mark, Holds, blank-holds, loop-holds}
+use Rattle.search.specs.Table.{Search, blank, mark, Holds, blank-holds, loop-holds}
 use Rattle.search.specs.Check.{exist, moved, moved-members}
 use Rattle.checker.specs.Walk.{seeded, stepped, walked, wiped}
 

@@ -1,10 +1,10 @@
 -- Steps by the columns and the loaded tables: they lead to states below the size (`succs-low`), the positions of the start's mask are
 -- seeded (`begin-seeded`), and the tables fit whatever is written after them (`fit-same`).
-use mathlib.Core.Path.{_≡_, refl, sym, ap, _∙_, subst}
-use mathlib.Core.Bool.{Bool, true, false, cond, _&&_}
+use mathlib.Core.Path.{_≡_, sym, ap, _∙_, subst}
+use mathlib.Core.Bool.{Bool, cond, _&&_}
 use mathlib.Core.List.{List, map, Memᴰ·map, Memᴰ·of-map}
 use mathlib.Core.Logic.{_↔_}
-use Prim.Native.Nat.{ℕ, zero, suc, _+_, _*_, _^_, _%_, _<_, _≤_}
+use Prim.Native.Nat.{ℕ, suc, _+_, _^_, _%_, _<_, _≤_}
 use native.Mathlib.Nat.{mod-lt, mod-eq-of-lt, lt-of-lt-of-le}
 use native.Mathlib.Omega.{arith}
 use lib.Dec.{eqb}
@@ -13,15 +13,15 @@ use Rattle.meaning.specs.Record.{Line}
 use Rattle.meaning.specs.Writing.{lineAt}
 use Rattle.automaton.specs.Listed.{_∈_, when-sound}
 use Rattle.automaton.specs.Columns.{Columns, bitOf, members, nodeIn}
-use Rattle.request.specs.Layout.{Laid, toIn}
+use Rattle.request.specs.Layout.{Laid}
 use Rattle.request.specs.declared.Plan.{Plan}
 use Rattle.search.specs.Plain.{memb, filt, count}
 use Rattle.search.specs.Sets.{memb-in, in-memb, filt-in, count-in}
-use Rattle.search.specs.Loops.{loop, turns, loop-map, loop-filt, loop-count, turns-same}
+use Rattle.search.specs.Loops.{turns, loop-map, loop-filt, loop-count, turns-same}
 use Rattle.search.specs.Table.{Search, blank, push}
 use Rattle.search.specs.Product.{Setting, state, placeOf, stackOf, posOf, cut, takes, pushed, following, succs}
 use Rattle.search.specs.Along.{goal, starting}
-use Rattle.search.specs.Loaded.{wordAt, lineIn, linesIn, settingIn}
+use Rattle.search.specs.Loaded.{settingIn}
 use Rattle.search.specs.Moves.{visit, visit-any}
 use Rattle.workspace.specs.Spots.{front, Fit, nextTurn}
 use Rattle.search.specs.Front.{line-at, stateIn, state-in}

@@ -8,9 +8,8 @@ use lib.Dec.{ltb, leb}
 use lib.ListN.{length, getD}
 use borrow.Author.Tests.{ltb-true}
 use Rattle.meaning.specs.Outcome.{Outcome, refused, passed, ask, andThen, told}
-use Rattle.meaning.specs.Record.{Line, Day, readRecord}
+use Rattle.meaning.specs.Record.{Day, readRecord}
 use Rattle.meaning.specs.Pattern.{Pattern, readPattern, noneGiven}
-use Rattle.meaning.specs.Chain.{Accepted}
 use Rattle.meaning.specs.Request.{Asked, sizeOf, need, askBoth, askRequest}
 use Rattle.record.specs.Outcomes.{passed-inj, and-true, ask-passed, andThen-passed}
 use Rattle.record.specs.Fit.{record-fits}

@@ -1,3 +1,4 @@
 pub mod Reply
 pub mod Walk
 pub mod Demand
+pub mod Rows

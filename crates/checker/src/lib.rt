@@ -2,9 +2,8 @@
 // Marks and frontier hold the set; the list before them holds the states of the line before, so that a line's work goes by the states alive.
 ghost use mathlib.Core.Path.{_≡_};
 ghost use mathlib.Core.Bool.{true};
-ghost use mathlib.Core.List.{_++_};
-ghost use Prim.Native.Nat.{ℕ, _+_, _*_, _-_, _≤_, _<_};
-ghost use lib.ListN.{length, getD, replicate};
+ghost use Prim.Native.Nat.{_+_, _-_, _≤_, _<_};
+ghost use lib.ListN.{length};
 ghost use Rattle.meaning.specs.Outcome.{told};
 ghost use Rattle.meaning.specs.Request.{askRequest, workAfter};
 ghost use Rattle.automaton.specs.Columns.{columns, members};
@@ -88,7 +87,20 @@ fn gather(
     let mut t = 0;
     for j in 0..count {
         let s = workspace::word(work, plan.base + j) as usize;
-        t = workspace::from_state(work, plan, kinds, tests, levels, depths, pushes, follow, 0, line, s, t);
+        t = workspace::from_state(
+            work,
+            plan,
+            kinds,
+            tests,
+            levels,
+            depths,
+            pushes,
+            follow,
+            0,
+            line,
+            s,
+            t,
+        );
     }
     t
 }
@@ -112,7 +124,18 @@ fn next_line(
     ensures { λ r. ⌜ Advanced plan (stepped (succs (settingIn (columns (now (kinds .entry)) (now (tests .entry)) (now (levels .entry)) (now (depths .entry)) (now (pushes .entry)) (now (follow .entry))) plan (front plan (now (work .entry))))) (plan .size) line) tail (now (work .entry)) r (now (work .exit)) ⌝ }
 {
     settle(work, plan, tail);
-    gather(work, plan, kinds, tests, levels, depths, pushes, follow, line, tail)
+    gather(
+        work,
+        plan,
+        kinds,
+        tests,
+        levels,
+        depths,
+        pushes,
+        follow,
+        line,
+        tail,
+    )
 }
 
 // ---- the chain
@@ -136,11 +159,22 @@ fn run_chain(
     ensures { λ r. ⌜ Advanced plan (walked (succs (settingIn (columns (now (kinds .entry)) (now (tests .entry)) (now (levels .entry)) (now (depths .entry)) (now (pushes .entry)) (now (follow .entry))) plan (front plan (now (work .entry))))) (plan .size) (now (chain .entry))) tail (now (work .entry)) r (now (work .exit)) ⌝ }
 {
     let mut t = tail;
-    let mut i: usize = 0;
-    while i < chain.len() {
-        let line = chain[i] as usize;
-        t = next_line(work, plan, kinds, tests, levels, depths, pushes, follow, line, t);
-        i += 1;
+    let mut k: usize = 0;
+    while k < chain.len() {
+        let line = chain[k] as usize;
+        t = next_line(
+            work,
+            plan,
+            kinds,
+            tests,
+            levels,
+            depths,
+            pushes,
+            follow,
+            line,
+            t,
+        );
+        k += 1;
     }
     t
 }
@@ -166,7 +200,18 @@ fn leads(
     ensures { λ r. ⌜ r ≡ memb (goal (settingIn (columns (now (kinds .entry)) (now (tests .entry)) (now (levels .entry)) (now (depths .entry)) (now (pushes .entry)) (now (follow .entry))) plan (front plan (now (work .entry)))) to) (moved (succs (settingIn (columns (now (kinds .entry)) (now (tests .entry)) (now (levels .entry)) (now (depths .entry)) (now (pushes .entry)) (now (follow .entry))) plan (front plan (now (work .entry))))) (starting (settingIn (columns (now (kinds .entry)) (now (tests .entry)) (now (levels .entry)) (now (depths .entry)) (now (pushes .entry)) (now (follow .entry))) plan (front plan (now (work .entry)))) from (members begin)) (now (chain .entry))) ⌝ }
 {
     let starts = workspace::over_next(work, plan, depths, begin, 0, from, 0, 0);
-    let tail = run_chain(work, plan, kinds, tests, levels, depths, pushes, follow, chain, starts);
+    let tail = run_chain(
+        work,
+        plan,
+        kinds,
+        tests,
+        levels,
+        depths,
+        pushes,
+        follow,
+        chain,
+        starts,
+    );
     let end = workspace::state_at(plan, to, plan.done, 0);
     if workspace::dist_at(work, plan.base + plan.size, plan.size, tail, end) == 0 {
         return false;
@@ -204,7 +249,18 @@ fn accepted(
         &mut follow,
     );
     leads(
-        work, plan, &kinds, &tests, &levels, &depths, &pushes, &follow, begin, from, to, chain,
+        work,
+        plan,
+        &kinds,
+        &tests,
+        &levels,
+        &depths,
+        &pushes,
+        &follow,
+        begin,
+        from,
+        to,
+        chain,
     )
 }
 

@@ -64,7 +64,7 @@ returns-4 c scope K f =
     let slot = a .c .slot in
     let level = getD (a .t2 .levels) slot 0 in
     let is : level ≡ mark (levelOf slot scope) = f .levels-are slot (start .pre .slot) in
-    let low : level - 1 ≤ 3 = omega (arith, is, level-fits slot scope, f .depth-is, start .pre .depth) in
+    let low : level - 1 ≤ a .t2 .depth = omega (arith, is, level-fits slot scope, f .depth-is) in
     let code : testIn (c .before .rule-of .result) (level - 1) ≡ testOf (ruleOf (a .c .code)) (levelOf slot scope) =
     ap (λ (x : ℕ). testIn x (level - 1)) (c .before .rule-of .ensures)
     ∙ (ap (λ (x : ℕ). testIn (ruleCode (a .c .code)) (x - 1)) is ∙ level-some (a .c .code) (levelOf slot scope) (λ e. c .before .before .if3 .left (is ∙ e))) in

@@ -1,26 +1,38 @@
+-- `checker::accepted` meets its contract: the pattern is compiled, and the chain walked by its automaton and the loaded tables. Assumes nothing.
+use mathlib.Core.Path.{sym, _∙_, subst}
+use Prim.Native.Nat.{_<_}
+use Rattle.checker.proofs.Posing.{posed-fit, posed-fresh, posed-lines, posed-check}
 use borrow.Author.Needs.{needs}
 use Rattle.checker.proofs.accepted.Statement.{statement}
 use Rattle.checker.proofs.accepted.Tie as tie
-use Rattle.checker.proofs.accepted.Reads as reads
-use Rattle.checker.proofs.accepted.Lts as lts
-use Rattle.automaton.proofs.compile.Reads as compile-reads
-use Rattle.checker.proofs.leads.Reads as leads-reads
 
--- src/lib.rt:197:9
 compile-requires : tie.Need-compile-requires
-compile-requires c κs = search needs
+compile-requires c κs =
+    let a = c .before .before .before .before .before .before .before .before .before in
+    record { tree = a .pre .0 .pattern; is = a .pre .1 .reads }
 
--- src/lib.rt:206:5
 leads-requires : tie.Need-leads-requires
-leads-requires c κs = ?
+leads-requires c κs =
+    let a = c .before .before .before .before .before .before .before .before .before .before .before .before .before .before .before .before .before in
+    let q = a .pre .0 in
+    let posed = a .pre .1 in
+    let made = c .before .before .before .before .before .before .before .compile .ensures in
+    let compiled = made .0 (q .pattern) (posed .reads) in
+    let places = sym (posed .planned .places-are) in (
+      posed-fit posed compiled (made .1 (q .pattern) (posed .reads)),
+      (
+        posed-fresh posed compiled (made .1 (q .pattern) (posed .reads)),
+        (subst (a .args .from <_) places (posed .from-low), subst (a .args .to <_) places (posed .to-low), posed-lines posed compiled (made .1 (q .pattern) (posed .reads))),
+      ),
+    )
 
--- src/lib.rt:180:1
 same-length : tie.Need-same-length
 same-length c = search needs
 
--- src/lib.rt:180:1
 returns : tie.Need-returns
-returns c = ?
+returns c q posed =
+    let made = c .before .before .before .before .before .before .before .before .before .before .compile .ensures in
+    c .before .before .leads .ensures ∙ posed-check posed (made .0 (q .pattern) (posed .reads)) (made .1 (q .pattern) (posed .reads))
 
 pub accepted-spec : {M : Type 1} → statement M
 accepted-spec = tie.close (tie.spec compile-requires leads-requires same-length returns)

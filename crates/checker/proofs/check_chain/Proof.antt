@@ -1,78 +1,184 @@
+-- `checker::check_chain` meets its contract: questions 1 to 17 by what asking them ensures, 18 by its test, and yes or no by what
+-- `accepted` ensures of the loaded area; demand 2 holds of the definition, and so of the reply. Assumes nothing.
+use mathlib.Core.Path.{_≡_, refl, sym, ap, _∙_, subst}
+use mathlib.Core.Bool.{Bool, true, false, not, false≢true}
+use mathlib.Core.List.{List, _++_}
+use Prim.Native.Nat.{ℕ, _+_, _-_, _<_}
+use native.Mathlib.Omega.{arith}
+use lib.ListN.{length, getD, replicate, length-replicate}
+use Rattle.meaning.specs.Outcome.{Reply, refusal, value, told}
+use Rattle.meaning.specs.Request.{askRequest, workAfter}
+use Rattle.record.specs.Fit.{record-fits}
+use Rattle.record.specs.Whole.{linesIn, linesOf}
+use Rattle.request.specs.Layout.{Laid, loadedOf}
+use Rattle.request.specs.Reply.{requestNumber}
+use Rattle.request.specs.declared.Plan.{Plan}
+use Rattle.search.specs.Check.{exist}
+use Rattle.checker.specs.Reply.{checkOf, Demand2}
+use Rattle.checker.specs.Demand.{Parts, asked-parts, check-demand}
+use Rattle.checker.specs.Walk.{Posed}
+use Rattle.checker.proofs.Posing.{words-long, tables-long}
+use Rattle.checker.proofs.Replies.{Told, answers-refused, answers-asked, told-loading, check-refused, check-missing, check-said}
 use borrow.Author.Needs.{needs}
 use Rattle.checker.proofs.check_chain.Statement.{statement}
 use Rattle.checker.proofs.check_chain.Tie as tie
-use Rattle.checker.proofs.check_chain.Reads as reads
-use Rattle.checker.proofs.check_chain.Lts as lts
-use Rattle.checker.proofs.accepted.Reads as accepted-reads
-use Rattle.checker.proofs.lines_exist.Reads as lines-exist-reads
-use Rattle.request.proofs.Request.number.Reads as number-reads
-use Rattle.request.proofs.ask_request.Reads as ask-request-reads
-use Rattle.request.proofs.clear.Reads as clear-reads
-use Rattle.request.proofs.load.Reads as load-reads
 
--- src/lib.rt:225:9
+-- ---- a reply as the definition has it
+
+-- all three promises follow where the reply is the definition's and the area is as it says
+abbrev Reply-is : tie.Start → Reply Bool → Type 0
+Reply-is a r = r ≡ told (checkOf (a .args .day .now) (a .args .pattern .now) (a .args .from) (a .args .to) (a .args .chain .now) (length (a .args .work .now)))
+
+abbrev Demanded : tie.Start → Reply Bool → Type 0
+Demanded a r = Demand2 (a .args .day .now) (a .args .pattern .now) (a .args .from) (a .args .to) (a .args .chain .now) r
+
+demanded : (a : tie.Start) → ((i : ℕ) → getD (a .args .day .now) i 0 < 256) → (r : Reply Bool) → Reply-is a r → Demanded a r
+demanded a low r is = subst (Demanded a) (sym is) (check-demand (a .args .day .now) (a .args .pattern .now) (a .args .from) (a .args .to) (a .args .chain .now) low (length (a .args .work .now)))
+
 ask-request-requires : tie.Need-ask-request-requires
 ask-request-requires c κs = search needs
 
--- src/lib.rt:226:24
 enum-known-asked : tie.Need-enum-known-asked
 enum-known-asked c = search needs
 
--- src/lib.rt:227:36
 enum-told : tie.Need-enum-told
 enum-told c = search needs
 
--- src/lib.rt:227:36
 number-requires : tie.Need-number-requires
 number-requires c κs = search needs
 
--- src/lib.rt:227:9
 returns : tie.Need-returns
-returns c = ?
+returns c =
+    let a = c .before .before .before .before .before .before .before .before in
+    let x = a .args in
+    let t = c .before .enum-told .given .1 in
+    let e = answers-refused (askRequest (x .day .now) (x .pattern .now) (x .from) (x .to) (length (x .work .now))) (length (x .work .now)) _ _ (c .before .before .before .ask-request .ensures) t in
+    let is : Reply-is a (refusal (c .number .result) 0) =
+    ap (λ (n : ℕ). refusal n 0) (c .number .ensures ∙ ap requestNumber t)
+    ∙ sym (ap told (check-refused (x .day .now) (x .pattern .now) (x .from) (x .to) (x .chain .now) (length (x .work .now)) _ e)) in
+    let bytes = c .before .before .before .before .before .before .before .shared-slice-known in
+    (is, (sym (ap (λ o. workAfter o (x .work .now)) e), demanded a (λ i. omega (arith, bytes .given i)) _ is))
 
--- src/lib.rt:229:9
+-- ---- where questions 1 to 17 are passed
+
+not-true : (b : Bool) → not b ≡ true → b ≡ false
+not-true true h = absurd (false≢true h)
+not-true false h = refl
+
+not-false : (b : Bool) → not b ≡ false → b ≡ true
+not-false true h = refl
+not-false false h = absurd (false≢true (sym h))
+
+abbrev start : tie.After-known-told → tie.Start
+start c = c .before .before .before .before .before .before .before .before
+
+abbrev plan : tie.After-known-told → Plan
+plan c = c .before .asked .given .0 .0
+
+passed-on : (c : tie.After-known-told) → Told (askRequest (start c .args .day .now) (start c .args .pattern .now) (start c .args .from) (start c .args .to) (length (start c .args .work .now))) (length (start c .args .work .now)) (plan c)
+passed-on c =
+    let x = start c .args in
+    answers-asked (askRequest (x .day .now) (x .pattern .now) (x .from) (x .to) (length (x .work .now))) (length (x .work .now)) _ _ (c .before .before .before .ask-request .ensures) (c .before .asked .given .1)
+
+parts : (c : tie.After-known-told) → Parts (start c .args .day .now) (start c .args .pattern .now) (start c .args .from) (start c .args .to) (passed-on c .asked)
+parts c = let x = start c .args in asked-parts (x .day .now) (x .pattern .now) (x .from) (x .to) (length (x .work .now)) (passed-on c .asked) (passed-on c .is)
+
+low : (c : tie.After-known-told) (i : ℕ) → getD (start c .args .day .now) i 0 < 256
+low c i = omega (arith, c .before .before .before .before .before .before .before .shared-slice-known .given i)
+
+-- the numbers are those of lines of what passed
+exist-as : (c : tie.After-known-told) → exist (length (passed-on c .asked .day .lines)) (start c .args .chain .now) ≡ exist (plan c .lines) (start c .args .chain .now)
+exist-as c = ap (λ m. exist m (start c .args .chain .now)) (sym (passed-on c .planned .lines-are))
+
 lines-exist-requires : tie.Need-lines-exist-requires
 lines-exist-requires c κs = search needs
 
--- src/lib.rt:230:9
 clear-requires : tie.Need-clear-requires
 clear-requires c κs = search needs
 
--- src/lib.rt:231:9
 same-length : tie.Need-same-length
 same-length c = search needs
 
--- src/lib.rt:231:9
 returns-2 : tie.Need-returns-2
-returns-2 c = ?
+returns-2 c =
+    let k = c .before .before .before .before .before .before in
+    let a = start k in
+    let x = a .args in
+    let t = passed-on k in
+    let missing = not-true _ (c .before .before .before .before .if1 .taken) in
+    let no = exist-as k ∙ (sym (c .before .before .before .before .before .lines-exist .ensures) ∙ missing) in
+    let is : Reply-is a (refusal 18 0) = sym (ap told (check-missing (x .day .now) (x .pattern .now) (x .from) (x .to) (x .chain .now) (length (x .work .now)) (t .asked) (t .is) no)) in
+    (is, (c .before .before .clear .ensures ∙ sym (ap (λ o. workAfter o (x .work .now)) (t .is)), demanded a (low k) _ is))
 
--- src/lib.rt:233:5
 load-requires : tie.Need-load-requires
-load-requires c κs = ?
+load-requires c κs = let k = c .before .before .before in told-loading (passed-on k) (parts k)
 
--- src/lib.rt:234:9
+-- ---- where the record is loaded
+
+-- words w that are loaded from the record are those of the request
+posed : (k : tie.After-known-told) → exist (plan k .lines) (start k .args .chain .now) ≡ true → (w : List ℕ)
+    → w ≡ loadedOf (plan k .keeps) (linesOf (start k .args .day .now)) ++ replicate (length (start k .args .work .now) - plan k .base) 0
+    → Posed (passed-on k .asked) (start k .args .pattern .now) (plan k) (start k .args .from) (start k .args .to) (start k .args .chain .now) w
+posed k all w is =
+    let t = passed-on k in
+    let p = parts k in
+    let area = length (start k .args .work .now) in
+    let loaded = is ∙ ap (λ ls. loadedOf (plan k .keeps) ls ++ replicate (area - plan k .base) 0) (ap linesIn (p .day-read)) in
+    let sum = words-long (loadedOf (plan k .keeps) (t .asked .day .lines)) (area - plan k .base) (plan k .base) w loaded (tables-long (t .planned) (t .laid)) in
+    let long : length w ≡ area = omega (arith, sum, t .laid .room) in
+    record {
+      reads = p .pattern-read;
+      planned = t .planned;
+      laid = subst (Laid (plan k)) (sym long) (t .laid);
+      fit = record-fits (start k .args .day .now) (t .asked .day) (p .day-read) (low k);
+      from-low = p .from-low;
+      to-low = p .to-low;
+      lines = exist-as k ∙ all;
+      loaded = loaded ∙ ap (λ n. loadedOf (plan k .keeps) (t .asked .day .lines) ++ replicate (n - plan k .base) 0) (sym long);
+    }
+
 accepted-requires : tie.Need-accepted-requires
-accepted-requires c κs = ?
+accepted-requires c κs =
+    let k = c .before .before .before .before .before .before .before in
+    (passed-on k .asked, posed k (sym (c .before .before .before .before .before .before .lines-exist .ensures) ∙ not-false _ (c .before .before .before .before .before .if1 .left)) _ (c .before .before .before .load .ensures))
 
--- src/lib.rt:235:5
 clear-requires-2 : tie.Need-clear-requires-2
 clear-requires-2 c κs = search needs
 
--- src/lib.rt:237:9
 same-length-2 : tie.Need-same-length-2
 same-length-2 c = search needs
 
--- src/lib.rt:237:9
-returns-3 : tie.Need-returns-3
-returns-3 c = ?
+-- words that are all zeros, as many as there were
+zeros : (n m : ℕ) (v : List ℕ) → v ≡ replicate n 0 → length v ≡ m → v ≡ replicate m 0
+zeros n m v e l = e ∙ ap (λ k. replicate k 0) (sym (length-replicate {A = ℕ} n 0) ∙ (sym (ap length e) ∙ l))
 
--- src/lib.rt:213:1
+-- the reply is what `accepted` said
+answered : (c : tie.After-slice-known5) (b : Bool) → c .before .before .before .before .before .before .accepted .result ≡ b
+    → Reply-is (start (c .before .before .before .before .before .before .before .before .before .before .before .before .before .before)) (value b)
+answered c b e =
+    let k = c .before .before .before .before .before .before .before .before .before .before .before .before .before .before in
+    let x = start k .args in
+    let t = passed-on k in
+    let all = sym (c .before .before .before .before .before .before .before .before .before .before .before .before .before .lines-exist .ensures) ∙ not-false _ (c .before .before .before .before .before .before .before .before .before .before .before .before .if1 .left) in
+    let right = c .before .before .before .before .before .before .accepted .ensures (t .asked) (posed k all _ (c .before .before .before .before .before .before .before .before .before .before .load .ensures)) in
+    sym (ap told (check-said (x .day .now) (x .pattern .now) (x .from) (x .to) (x .chain .now) (length (x .work .now)) (t .asked) (t .is) (exist-as k ∙ all) b (sym e ∙ right)))
+
+returns-3 : tie.Need-returns-3
+returns-3 c =
+    let k = c .before .before .before .before .before .before .before .before .before .before .before .before .before .before .before in
+    let is = answered (c .before) true (c .if2 .taken) in
+    let area = zeros (length (c .before .before .before .before .before .before .before .accepted .last .1 .1 .1 .1 .1 .0)) _ _ (c .before .before .before .clear2 .ensures) (same-length-2 c) in
+    (is, (area ∙ sym (ap (λ o. workAfter o (start k .args .work .now)) (passed-on k .is)), demanded (start k) (low k) _ is))
+
 same-length-3 : tie.Need-same-length-3
 same-length-3 c = search needs
 
--- src/lib.rt:213:1
 returns-4 : tie.Need-returns-4
-returns-4 c = ?
+returns-4 c =
+    let k = c .before .before .before .before .before .before .before .before .before .before .before .before .before .before .before in
+    let is = answered (c .before) false (c .if2 .left) in
+    let area = zeros (length (c .before .before .before .before .before .before .before .accepted .last .1 .1 .1 .1 .1 .0)) _ _ (c .before .before .before .clear2 .ensures) (same-length-3 c) in
+    (is, (area ∙ sym (ap (λ o. workAfter o (start k .args .work .now)) (passed-on k .is)), demanded (start k) (low k) _ is))
 
 pub check-chain-spec : {M : Type 1} → statement M
 check-chain-spec =

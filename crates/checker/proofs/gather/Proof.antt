@@ -1,13 +1,11 @@
 -- `checker::gather` meets its contract, by what is left of its turns: list and tables stand before the pair and stay. Assumes nothing.
-use mathlib.Core.Path.{_≡_, sym, ap, _∙_, subst}
-use mathlib.Core.List.{List}
-use Prim.Native.Nat.{ℕ, _+_, _-_, _<_, _≤_}
+use mathlib.Core.Path.{_≡_, sym, _∙_, subst}
+use Prim.Native.Nat.{_+_, _-_, _<_, _≤_}
 use native.Mathlib.Omega.{arith}
-use lib.ListN.{length, getD, take}
-use lib.Seq.{getD-take}
-use Rattle.automaton.specs.Columns.{Columns, columns}
+use lib.ListN.{length, getD}
+use Rattle.automaton.specs.Columns.{columns}
 use Rattle.search.specs.Loops.{turns}
-use Rattle.workspace.specs.Area.{stretch, Under}
+use Rattle.workspace.specs.Area.{Under}
 use Rattle.search.specs.Loaded.{settingIn}
 use Rattle.workspace.specs.Spots.{front}
 use Rattle.workspace.proofs.Changes.{loop-start, loop-turn, loop-end, under-stretch, under-front}

@@ -1,22 +1,19 @@
 -- `checker::leads` meets its contract: the mask's positions are the first set, the chain moves it, and the end's mark says whether it
 -- came there. Assumes nothing.
-use mathlib.Core.Path.{_≡_, sym, ap, _∙_, subst}
+use mathlib.Core.Path.{_≡_, sym, ap, _∙_}
 use mathlib.Core.Bool.{Bool, true, false}
-use mathlib.Core.List.{List}
-use Prim.Native.Nat.{ℕ, _+_, _*_, _<_, _≤_}
 use native.Mathlib.Omega.{arith}
-use lib.ListN.{length, getD}
+use lib.ListN.{length}
 use Rattle.automaton.specs.Columns.{Columns, columns, members}
 use Rattle.search.specs.Plain.{memb}
 use Rattle.search.specs.Product.{succs}
 use Rattle.search.specs.Along.{goal, starting}
 use Rattle.search.specs.Check.{moved}
-use Rattle.workspace.specs.Area.{found}
 use Rattle.search.specs.Loaded.{settingIn}
 use Rattle.workspace.specs.Spots.{front}
 use Rattle.search.specs.Front.{goal-in}
 use Rattle.workspace.proofs.Bounds.{stacks-pos}
-use Rattle.checker.specs.Walk.{marks, walked}
+use Rattle.checker.specs.Walk.{walked}
 use Rattle.checker.proofs.Steps.{fit-same}
 use Rattle.checker.proofs.Moving.{begun, verdict}
 use borrow.Author.Needs.{needs}

@@ -1,8 +1,8 @@
 -- `checker::lines_exist` meets its contract: the numbers passed are those of lines, so the rest decides. Assumes nothing.
 use mathlib.Core.Path.{_≡_, refl, sym, ap, _∙_}
-use mathlib.Core.Bool.{true, false, _&&_}
-use mathlib.Core.List.{List, [], _∷_}
-use Prim.Native.Nat.{ℕ, suc, _+_, _-_, _<_, _≤_}
+use mathlib.Core.Bool.{true, _&&_}
+use mathlib.Core.List.{List}
+use Prim.Native.Nat.{ℕ, _+_, _-_, _<_, _≤_}
 use native.Mathlib.Numerals.{add-one}
 use native.Mathlib.Omega.{arith}
 use lib.Dec.{ltb}
@@ -58,11 +58,10 @@ loop-less c = search needs
 loop-again : tie.Need-loop-again Inv-loop μ-loop
 loop-again c =
     let a = c .before .before .before .before .args in
-    let i = c .before .before .before .loop .i in
-    (
+    let i = c .before .before .before .loop .i in (
       omega (arith, c .before .before .loop-test .taken),
       sym (exist-next (a .lines) (a .chain .now) i (c .before .before .loop-test .taken) ∙ ap (_&& exist (a .lines) (drop (i + 1) (a .chain .now))) (lt-ltb _ _ (c .if1 .left)))
-      ∙ c .before .before .before .loop .inv .1,
+          ∙ c .before .before .before .loop .inv .1,
     )
 
 returns-2 : tie.Need-returns-2 Inv-loop μ-loop

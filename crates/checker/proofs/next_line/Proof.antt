@@ -1,8 +1,5 @@
 -- `checker::next_line` meets its contract: the states that waited are set aside, nothing is marked then, and what is gathered is their step.
 -- Assumes nothing.
-use mathlib.Core.Path.{_≡_}
-use native.Mathlib.Omega.{arith}
-use Rattle.workspace.proofs.Changes.{ready-long}
 use Rattle.checker.proofs.Steps.{fit-same}
 use Rattle.checker.proofs.Moving.{aside-ready, aside-listed, advanced}
 use borrow.Author.Needs.{needs}

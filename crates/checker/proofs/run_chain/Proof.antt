@@ -1,6 +1,5 @@
 -- `checker::run_chain` meets its contract, by what is left of the chain; every number of it is that of a line. Assumes nothing.
-use mathlib.Core.Path.{_≡_, sym, _∙_}
-use Prim.Native.Nat.{ℕ, _+_, _-_, _≤_}
+use Prim.Native.Nat.{_-_, _≤_}
 use native.Mathlib.Omega.{arith}
 use lib.ListN.{length}
 use Rattle.automaton.specs.Columns.{columns}
@@ -14,10 +13,10 @@ use Rattle.checker.proofs.run_chain.Statement.{statement}
 use Rattle.checker.proofs.run_chain.Tie as tie
 
 abbrev Inv-loop : tie.InvT-loop
-Inv-loop work₀ plan kinds tests levels depths pushes follow chain tail t₀ i₀ work t i = (i ≤ length chain) × Left plan (succs (settingIn (columns kinds tests levels depths pushes follow) plan (front plan work₀))) chain tail work₀ i t work
+Inv-loop work₀ plan kinds tests levels depths pushes follow chain tail t₀ k₀ work t k = (k ≤ length chain) × Left plan (succs (settingIn (columns kinds tests levels depths pushes follow) plan (front plan work₀))) chain tail work₀ k t work
 
 abbrev μ-loop : tie.MeasureT-loop
-μ-loop work₀ plan kinds tests levels depths pushes follow chain tail t₀ i₀ work t i = length chain - i
+μ-loop work₀ plan kinds tests levels depths pushes follow chain tail t₀ k₀ work t k = length chain - k
 
 loop-holds : tie.Need-loop-holds Inv-loop μ-loop
 loop-holds c = let a = c .before .before in (omega arith, left-all _ _ (a .pre .1 .0) (a .pre .1 .1))
@@ -29,7 +28,7 @@ shared-slice-read-line : tie.Need-shared-slice-read-line Inv-loop μ-loop
 shared-slice-read-line c = search needs
 
 cast-line : tie.Need-cast-line Inv-loop μ-loop
-cast-line c = omega (arith, c .shared-slice-known2 .given (c .before .before .loop .i))
+cast-line c = omega (arith, c .shared-slice-known2 .given (c .before .before .loop .k))
 
 next-line-requires : tie.Need-next-line-requires Inv-loop μ-loop
 next-line-requires c κs =
@@ -38,8 +37,8 @@ next-line-requires c κs =
     let left = l .loop .inv .1 in
     (fit-same (a .pre .0) (left .front) (left .long), (left .alive, left-line _ _ _ left (c .before .before .loop-test .taken)))
 
-add-i : tie.Need-add-i Inv-loop μ-loop
-add-i c = search needs
+add-k : tie.Need-add-k Inv-loop μ-loop
+add-k c = search needs
 
 loop-less : tie.Need-loop-less Inv-loop μ-loop
 loop-less c = search needs
@@ -69,7 +68,7 @@ run-chain-spec =
     shared-slice-read-line
     cast-line
     next-line-requires
-    add-i
+    add-k
     loop-less
     loop-again
     same-length

@@ -1,8 +1,8 @@
 -- `checker::set_aside` meets its contract: two words are written, the state into the list and 0 at its mark. Assumes nothing.
-use mathlib.Core.Path.{_≡_, sym, ap, subst}
+use mathlib.Core.Path.{ap}
 use Prim.Native.Nat.{_+_, _≤_}
 use native.Mathlib.Omega.{arith}
-use lib.ListN.{length, set, length-set}
+use lib.ListN.{length, length-set}
 use Rattle.checker.specs.Walk.{asideOf}
 use borrow.Author.Needs.{needs}
 use Rattle.checker.proofs.set_aside.Statement.{statement}

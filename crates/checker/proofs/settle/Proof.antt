@@ -1,8 +1,7 @@
 -- `checker::settle` meets its contract, one state after the other: the frontier itself is not written. Assumes nothing.
-use mathlib.Core.Path.{_≡_, sym, ap, subst}
-use Prim.Native.Nat.{_+_, _-_, _<_, _≤_}
+use mathlib.Core.Path.{_≡_, sym, subst}
+use Prim.Native.Nat.{_-_, _<_, _≤_}
 use native.Mathlib.Omega.{arith}
-use lib.ListN.{length}
 use Rattle.request.specs.Layout.{Laid}
 use Rattle.workspace.proofs.Changes.{ready-state}
 use Rattle.checker.specs.Walk.{Aside}
