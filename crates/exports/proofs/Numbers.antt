@@ -1,5 +1,6 @@
 -- Replies as numbers: a refusal's second number is 0, and lengths and words fit 32 bits. Assumes nothing.
 use mathlib.Core.Path.{_≡_, refl, sym, ap}
+use mathlib.Core.Bool.{Bool}
 use mathlib.Core.List.{List}
 use Prim.Native.Nat.{ℕ, _*_, _<_}
 use native.Mathlib.Omega.{arith}
@@ -10,7 +11,7 @@ use Rattle.meaning.specs.Record.{Line}
 use Rattle.meaning.specs.Writing.{beginOf, addOf}
 use Rattle.record.specs.Added.{begun, adds}
 use Rattle.record.specs.Whole.{whole-of}
-use Rattle.exports.specs.Number.{numberOf, Fits32}
+use Rattle.exports.specs.Number.{numberOf, Fits32, checkNumber}
 
 pub refusal-number : (o : Outcome ℕ) (number second : ℕ) → refusal number second ≡ told o → number * 4294967296 ≡ numberOf (told o)
 refusal-number (refused q) number second h = let e : number ≡ q = cc in omega (arith, e)
@@ -43,3 +44,9 @@ line-refused (passed l) number second h = absurd (let z : _≡_ {A = ℕ} 0 1 = 
 pub line-passed : (o : Outcome Line) (l : Line) → value l ≡ told o → o ≡ passed l
 line-passed (refused q) l h = absurd (let z : _≡_ {A = ℕ} 0 1 = cc in omega arith)
 line-passed (passed m) l h = let e : l ≡ m = cc in ap passed (sym e)
+
+-- ---- yes and no
+
+pub check-refused : (o : Outcome Bool) (number second : ℕ) → refusal number second ≡ told o → number * 4294967296 ≡ checkNumber (told o)
+check-refused (refused q) number second h = let e : number ≡ q = cc in omega (arith, e)
+check-refused (passed b) number second h = absurd (let z : _≡_ {A = ℕ} 0 1 = cc in omega arith)

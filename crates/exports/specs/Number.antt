@@ -1,5 +1,5 @@
 -- A reply as one number of 64 bits, n · 2^32 + value: what the functions for C and Rust return.
-use mathlib.Core.Bool.{cond}
+use mathlib.Core.Bool.{Bool, true, false, cond}
 use mathlib.Core.List.{List, [], _∷_, _++_}
 use Prim.Native.Nat.{ℕ, _+_, _*_, _<_}
 use lib.Dec.{leb}
@@ -31,3 +31,10 @@ readNumber (passed l) room = cond (leb 5 room) 5 0
 abbrev pub readAfter : Outcome Line → List ℕ → List ℕ
 readAfter (refused number) fields = fields
 readAfter (passed l) fields = cond (leb 5 (length fields)) (fieldsOf l ++ drop 5 fields) fields
+
+-- ---- yes and no
+
+abbrev pub checkNumber : Reply Bool → ℕ
+checkNumber (value true) = 1
+checkNumber (value false) = 0
+checkNumber (refusal number second) = number * 4294967296 + second

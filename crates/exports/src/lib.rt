@@ -6,10 +6,12 @@ ghost use Prim.Native.Nat.{_*_, _≤_};
 ghost use lib.ListN.{length, drop};
 ghost use Rattle.meaning.specs.Outcome.{told};
 ghost use Rattle.meaning.specs.Writing.{beginOf, beginAfter, addOf, addAfter, readOf};
-ghost use Rattle.meaning.specs.Request.{wordsOf};
+ghost use Rattle.meaning.specs.Request.{wordsOf, askRequest, workAfter};
+ghost use Rattle.checker.specs.Reply.{checkOf};
 ghost use Rattle.record.specs.Reply.{lineShown, writeReply};
 ghost use Rattle.request.specs.Reply.{wordsReply};
-ghost use Rattle.exports.specs.Number.{numberOf, Fits32, fieldsOf, readNumber, readAfter};
+ghost use Rattle.exports.specs.Number.{numberOf, Fits32, fieldsOf, readNumber, readAfter, checkNumber};
+use checker::CheckReply;
 use record::Line;
 use record::LineReply;
 use record::WriteReply;
@@ -107,5 +109,25 @@ pub extern "C" fn chains_words(rec: &[u8], pat: &[u8]) -> u64
     match request::words_needed(rec, pat) {
         WordsReply::Words(n) => n as u64,
         WordsReply::Refused(q, _) => q as u64 * 4294967296,
+    }
+}
+
+// Checks a chain; value: 1 for yes, 0 for no.
+#[no_mangle]
+pub extern "C" fn chains_check(
+    rec: &[u8],
+    pat: &[u8],
+    from: u16,
+    to: u16,
+    chain: &[u16],
+    work: &mut [u32],
+) -> u64
+    ensures reply { λ r. ⌜ r ≡ checkNumber (told (checkOf (now (rec .entry)) (now (pat .entry)) from to (now (chain .entry)) (length (now (work .entry))))) ⌝ }
+    ensures workspace { λ _. ⌜ now (work .exit) ≡ workAfter (askRequest (now (rec .entry)) (now (pat .entry)) from to (length (now (work .entry)))) (now (work .entry)) ⌝ }
+{
+    match checker::check_chain(rec, pat, from, to, chain, work) {
+        CheckReply::Yes => 1,
+        CheckReply::No => 0,
+        CheckReply::Refused(q, _) => q as u64 * 4294967296,
     }
 }
