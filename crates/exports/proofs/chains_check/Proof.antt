@@ -30,7 +30,7 @@ same-length : tie.Need-same-length
 same-length c = search needs
 
 returns : tie.Need-returns
-returns c = 
+returns c =
     let b = c .before .before .before .before .check-chain in
     (ap checkNumber (ap checkReply (sym (c .enum-told .given .1)) ∙ b .ensures .0), b .ensures .1 .0)
 
@@ -38,7 +38,7 @@ same-length-2 : tie.Need-same-length-2
 same-length-2 c = search needs
 
 returns-2 : tie.Need-returns-2
-returns-2 c = 
+returns-2 c =
     let b = c .before .before .before .before .check-chain in
     (ap checkNumber (ap checkReply (sym (c .enum-told2 .given .1)) ∙ b .ensures .0), b .ensures .1 .0)
 
@@ -46,7 +46,7 @@ same-length-3 : tie.Need-same-length-3
 same-length-3 c = search needs
 
 returns-3 : tie.Need-returns-3
-returns-3 c = 
+returns-3 c =
     let b = c .before .before .before .before .before .check-chain in
     let a = c .before .before .before .before .before .before .before .before .before .before .before .args in
     let reply = ap checkReply (sym (c .before .q .given .1)) ∙ b .ensures .0 in
