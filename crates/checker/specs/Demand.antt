@@ -5,7 +5,7 @@ use mathlib.Core.Bool.{Bool, true, false, _&&_, false≢true}
 use mathlib.Core.List.{List}
 use Prim.Native.Nat.{ℕ, _<_}
 use lib.Dec.{ltb, leb}
-use lib.ListN.{length, getD}
+use lib.ListN.{getD}
 use borrow.Author.Tests.{ltb-true}
 use Rattle.meaning.specs.Outcome.{Outcome, refused, passed, ask, andThen, told}
 use Rattle.meaning.specs.Record.{Day, readRecord}
@@ -13,8 +13,8 @@ use Rattle.meaning.specs.Pattern.{Pattern, readPattern, noneGiven}
 use Rattle.meaning.specs.Request.{Asked, sizeOf, need, askBoth, askRequest}
 use Rattle.record.specs.Outcomes.{passed-inj, and-true, ask-passed, andThen-passed}
 use Rattle.record.specs.Fit.{record-fits}
-use Rattle.search.specs.Check.{exist, check, check-says}
-use Rattle.checker.specs.Reply.{checkOf, Says, Demand2}
+use Rattle.search.specs.Check.{check, check-says}
+use Rattle.checker.specs.Reply.{linesExist, checkOf, Says, Demand2}
 
 -- ---- a request that passes
 
@@ -49,21 +49,24 @@ module _ (rec pat : List ℕ) (from to : ℕ) (chain : List ℕ) (low : (i : ℕ
   says-what day p e a true h = check-says (day .lines) (day .places) p (record-fits rec day e low .within) from to a chain .0 h
   says-what day p e a false h = λ k. false≢true (sym h ∙ check-says (day .lines) (day .places) p (record-fits rec day e low .within) from to a chain .1 k)
 
+  -- a refusal says nothing of the chain
+  says-asked : (day : Day) (p : Pattern) (t : Bool) (number : ℕ) (o : Outcome Bool) → Says (day .lines) p from to chain (told o) → Says (day .lines) p from to chain (told (ask t number o))
+  says-asked day p true number o h = h
+  says-asked day p false number o h = tt
+
+  says-passed : (day : Day) (p : Pattern) (f : Asked → Outcome Bool) (o : Outcome Asked) → ((q : Asked) → o ≡ passed q → Says (day .lines) p from to chain (told (f q)))
+      → Says (day .lines) p from to chain (told (andThen o f))
+  says-passed day p f (refused number) h = tt
+  says-passed day p f (passed q) h = h q refl
+
   pub check-demand : (words : ℕ) → Demand2 rec pat from to chain (told (checkOf rec pat from to chain words))
   unfolding checkOf
-  check-demand words day p e f = go (askRequest rec pat from to words) refl
-    where
-      go : (o : Outcome Asked) → askRequest rec pat from to words ≡ o
-          → Says (day .lines) p from to chain (told (andThen o (λ q. ask (exist (length (q .day .lines)) chain) 18 (passed (check (q .day .lines) (q .pattern) from to chain)))))
-      go (refused number) h = tt
-      go (passed q) h = asked (exist (length (q .day .lines)) chain)
-        where
-          asked : (t : Bool) → Says (day .lines) p from to chain (told (ask t 18 (passed (check (q .day .lines) (q .pattern) from to chain))))
-          asked false = tt
-          asked true =
-              let x = asked-parts rec pat from to words q h in
-              let d : q .day ≡ day = passed-inj (sym (x .day-read) ∙ e) in
-              let r : q .pattern ≡ p = passed-inj (sym (x .pattern-read) ∙ f) in
-              subst (λ (y : Bool). Says (day .lines) p from to chain (told (passed y)))
-              (sym (λ i. check (d i .lines) (r i) from to chain))
-              (says-what day p e (subst (λ (z : Day). from < z .places) d (x .from-low)) (check (day .lines) p from to chain) refl)
+  check-demand words day p e f =
+      says-passed day p (λ q. ask (linesExist q chain) 18 (passed (check (q .day .lines) (q .pattern) from to chain))) (askRequest rec pat from to words) (λ q h.
+      let x = asked-parts rec pat from to words q h in
+      let d : q .day ≡ day = passed-inj (sym (x .day-read) ∙ e) in
+      let r : q .pattern ≡ p = passed-inj (sym (x .pattern-read) ∙ f) in
+      says-asked day p (linesExist q chain) 18 (passed (check (q .day .lines) (q .pattern) from to chain))
+      (subst (λ (y : Bool). Says (day .lines) p from to chain (told (passed y)))
+      (sym (λ i. check (d i .lines) (r i) from to chain))
+      (says-what day p e (subst (λ (z : Day). from < z .places) d (x .from-low)) (check (day .lines) p from to chain) refl)))

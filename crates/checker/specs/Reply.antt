@@ -8,7 +8,7 @@ use Rattle.meaning.specs.Outcome.{Outcome, passed, ask, andThen, Reply, value, 
 use Rattle.meaning.specs.Record.{Line, Day, readRecord}
 use Rattle.meaning.specs.Pattern.{Pattern, readPattern, noneGiven}
 use Rattle.meaning.specs.Chain.{Accepted}
-use Rattle.meaning.specs.Request.{askRequest}
+use Rattle.meaning.specs.Request.{Asked, askRequest}
 use Rattle.search.specs.Check.{exist, check}
 use Rattle.checker.specs.declared.CheckReply.{CheckReply}
 use Rattle.checker.specs.declared.CheckReply.the-variants as Check
@@ -19,11 +19,15 @@ checkReply Check.Yes = value true
 checkReply Check.No = value false
 checkReply (Check.Refused number second) = refusal number second
 
+-- question 18: is each number that of a line of the record?
+abbrev pub linesExist : Asked → List ℕ → Bool
+linesExist q chain = exist (length (q .day .lines)) chain
+
 -- questions 1 to 17, then 18 for every number of the chain, then whether the chain is accepted
 unfoldable pub checkOf : List ℕ → List ℕ → ℕ → ℕ → List ℕ → ℕ → Outcome Bool
 checkOf rec pat from to chain words =
     andThen (askRequest rec pat from to words) (λ q.
-    ask (exist (length (q .day .lines)) chain) 18
+    ask (linesExist q chain) 18
     (passed (check (q .day .lines) (q .pattern) from to chain)))
 
 -- yes: the chain leads from the first place to the second and its word is in the pattern's language; no: that is not so

@@ -32,7 +32,7 @@ answer c =
 over-next-requires : tie.Need-over-next-requires
 over-next-requires c κs =
     let a = c .before .before .before in
-    (a .pre .1 .0 .ready, (a .pre .0 .laid, (a .pre .1 .1 .0, a .pre .0 .depths-low)))
+    (a .pre .1 .0 .ready, (a .pre .0 .laid, (omega (arith, a .pre .1 .1 .0, a .pre .1 .1 .1), a .pre .0 .depths-low)))
 
 run-chain-requires : tie.Need-run-chain-requires
 run-chain-requires c κs =
@@ -44,7 +44,7 @@ state-at-requires : tie.Need-state-at-requires
 state-at-requires c κs =
     let a = c .before .before .before .before .before .before .before .before .before .before in
     let l = a .pre .0 .laid in
-    ((l .size-is, l .small, l .few-commands), (a .pre .1 .1 .1, omega arith, stacks-pos l))
+    ((l .size-is, l .small, l .few-commands), (omega (arith, a .pre .1 .1 .0, a .pre .1 .1 .1), omega arith, stacks-pos l))
 
 add-dist-at : tie.Need-add-dist-at
 add-dist-at c =
