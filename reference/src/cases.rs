@@ -1,4 +1,4 @@
-//! Requests with replies written down by hand: the paper's rows, the places where it can
+//! Requests with replies written down by hand: document 01's rows, the places where it can
 //! be misread, and the vectors that tell wrong programs apart. Each is compared with this
 //! program and with the reply that stands here, so that it tests this program too.
 
@@ -721,7 +721,7 @@ fn add_traps(b: &Bench) -> Result<String, String> {
 
 // ---- 001's examples
 
-/// The three languages of Example 2, against what the paper says of them in words.
+/// The three languages of Example 2, against what 001 says of them in words.
 fn example_2(b: &Bench) -> Result<String, String> {
     let rec = written(
         1,

@@ -1,6 +1,6 @@
 //! The chain finder a second time: a plain program that shares no code with the library.
 //!
-//! It is written from the paper's sentences and from the clauses of source 001, to be
+//! It is written from document 01's sentences and from the clauses of source 001, to be
 //! compared with the library on many requests. It is meant to be read and believed, so
 //! it allocates as it likes and prefers the plain way to the fast one.
 //!

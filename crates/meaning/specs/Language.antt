@@ -1,4 +1,5 @@
--- The language of a pattern: source document 001, section 3, "Semantics", clause by clause and in its order.
+-- The language of a pattern: source document 001, section 3, "Semantics", clause by clause and in its order; 001 has no clause for the
+-- empty word, so that of `nothing` is document 01's.
 -- A word is the kind and boat of each line of a chain: 001's data word, the kind its letter and the boat its data value.
 use mathlib.Core.Path.{_≡_}
 use mathlib.Core.Bool.{Bool, cond, true, false}
