@@ -20,7 +20,7 @@ use request::Plan;
 
 // ---- the work area
 
-// Word `i` of a part.
+// Word `i` of a part becomes `v`.
 fn put(part: &mut [u32], i: usize, v: u32)
     requires { ⌜ i < length (now part) ⌝ }
     ensures { λ _. ⌜ now (part .exit) ≡ set (now (part .entry)) i v ⌝ }
@@ -28,7 +28,7 @@ fn put(part: &mut [u32], i: usize, v: u32)
     part[i] = v;
 }
 
-// Word `i` of the stretch of `size` words from word `base` on.
+// Word `i` of the stretch of `size` words from word `base` on becomes `v`.
 pub fn write(work: &mut [u32], base: usize, size: usize, i: usize, v: u32)
     requires { ⌜ (base + size ≤ length (now work)) × (i < size) ⌝ }
     ensures { λ _. ⌜ now (work .exit) ≡ set (now (work .entry)) (base + i) v ⌝ }
