@@ -11,6 +11,7 @@ use lib.Dec.{ltb}
 use lib.ListN.{length, getD, set, take, drop, replicate, length-set, length-drop}
 use lib.Seq.{take-set-le, drop-set-lt, getD-drop, getD-take, take-suc, take-take, drop-cons, drop-length}
 use borrow.Author.Tests.{ltb-true}
+use Rattle.automaton.specs.Listed.{_∈_}
 use Rattle.automaton.specs.Columns.{Columns, members}
 use Rattle.request.specs.declared.Plan.{Plan}
 use Rattle.search.specs.Plain.{flat, memb}
@@ -23,12 +24,13 @@ use Rattle.workspace.specs.Area.{stretch, found, outside, Outside, Ready, Step,
 use Rattle.search.specs.Product.{Setting, succs}
 use Rattle.search.specs.Loaded.{settingIn}
 use Rattle.search.specs.Moves.{visit, onward, push-law}
+use Rattle.workspace.specs.Chosen.{firstStates}
 use Rattle.workspace.specs.Spots.{front, Fit, nextTurn}
 use Rattle.workspace.proofs.Stretches.{stretch-none, stretch-get, stretch-set, stretch-below, stretch-above, stretch-push}
 use Rattle.workspace.proofs.Changes.{blank-good, under-front, ready-state, ready-long}
 use Rattle.checker.specs.Walk.{seeded, stepped, walked, marks, Alive, Advanced, frontierAt, frontier, asideOf, wiped, Aside, Listed, listTurn, Fresh}
 use Rattle.checker.proofs.Sets.{seeded-wiped, step-low, walked-marks, memb-not}
-use Rattle.checker.proofs.Steps.{succs-low, begins, begin-seeded, begins-in, begins-low, goal-low}
+use Rattle.checker.proofs.Steps.{succs-low, begin-seeded, begins-are, begins-low, goal-low}
 
 -- ---- the frontier set aside
 
@@ -227,7 +229,7 @@ module _ (plan : Plan) (cols : Columns) (w : List ℕ) (fit : Fit plan cols w) (
   In = settingIn cols plan (front plan w)
 
   abbrev starts : List ℕ
-  starts = begins plan cols w fit begin a ha (fresh .within)
+  starts = firstStates plan begin a
 
   -- the positions of the mask are the first set
   pub begun : (D depths : List ℕ) {r : ℕ} {v : List ℕ} → Step (marks plan) (plan .size) (turns (nextTurn plan depths begin (visit D 0) a 0) 0 (plan .done + 1)) 0 w r v
@@ -250,7 +252,8 @@ module _ (plan : Plan) (cols : Columns) (w : List ℕ) (fit : Fit plan cols w) (
     pub verdict : (st : Search) → st ≡ walked (succs In) (plan .size) c (seeded (plan .size) starts)
         → (getD (st .dist) (goal In b) 0 ≡ 0 → says ≡ false) × ((getD (st .dist) (goal In b) 0 ≡ 0 → ⊥) → says ≡ true)
     verdict st is =
-        let m = moved-members (succs In) c starts (starting In a (members begin)) (begins-in plan cols w fit begin a ha (fresh .within)) (goal In b) in
+        let same = begins-are plan cols w fit begin a ha (fresh .within) in
+        let m = moved-members (succs In) c starts (starting In a (members begin)) (λ s. (subst (s ∈_) same, subst (s ∈_) (sym same))) (goal In b) in
         ⊎-elim
         (λ z. (λ _. memb-not (λ k. z .1 (m .1 k)), λ n. absurd (n (ap (λ (st : Search). getD (st .dist) (goal In b) 0) is ∙ z .0))))
         (λ z. (λ n. absurd (z .0 (sym (ap (λ (st : Search). getD (st .dist) (goal In b) 0) is) ∙ n)), λ _. in-memb (goal In b) _ (m .0 (z .1))))

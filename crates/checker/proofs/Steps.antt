@@ -1,45 +1,32 @@
 -- Steps by the columns and the loaded tables: they lead to states below the size (`succs-low`), the positions of the start's mask are
--- seeded (`begin-seeded`), and the tables fit whatever is written after them (`fit-same`).
+-- seeded (`begin-seeded`).
 use mathlib.Core.Path.{_≡_, sym, ap, _∙_, subst}
-use mathlib.Core.Bool.{Bool, cond, _&&_}
-use mathlib.Core.List.{List, map, Memᴰ·map, Memᴰ·of-map}
-use mathlib.Core.Logic.{_↔_}
+use mathlib.Core.Bool.{cond, _&&_}
+use mathlib.Core.List.{List, Memᴰ·of-map}
 use Prim.Native.Nat.{ℕ, suc, _+_, _^_, _%_, _<_, _≤_}
 use native.Mathlib.Nat.{mod-lt, mod-eq-of-lt, lt-of-lt-of-le}
 use native.Mathlib.Omega.{arith}
 use lib.Dec.{eqb}
-use lib.ListN.{length, getD, take}
+use lib.ListN.{length, getD}
 use Rattle.meaning.specs.Record.{Line}
 use Rattle.meaning.specs.Writing.{lineAt}
 use Rattle.automaton.specs.Listed.{_∈_, when-sound}
 use Rattle.automaton.specs.Columns.{Columns, bitOf, members, nodeIn}
-use Rattle.request.specs.Layout.{Laid}
 use Rattle.request.specs.declared.Plan.{Plan}
-use Rattle.search.specs.Plain.{memb, filt, count}
-use Rattle.search.specs.Sets.{memb-in, in-memb, filt-in, count-in}
-use Rattle.search.specs.Loops.{turns, loop-map, loop-filt, loop-count, turns-same}
+use Rattle.search.specs.Plain.{memb, count}
+use Rattle.search.specs.Sets.{filt-in, count-in}
+use Rattle.search.specs.Loops.{turns, turns-same}
 use Rattle.search.specs.Table.{Search, blank, push}
 use Rattle.search.specs.Product.{Setting, state, placeOf, stackOf, posOf, cut, takes, pushed, following, succs}
 use Rattle.search.specs.Along.{goal, starting}
 use Rattle.search.specs.Loaded.{settingIn}
 use Rattle.search.specs.Moves.{visit, visit-any}
+use Rattle.workspace.specs.Chosen.{firstStates, first-law}
 use Rattle.workspace.specs.Spots.{front, Fit, nextTurn}
 use Rattle.search.specs.Front.{line-at, stateIn, state-in}
 use Rattle.workspace.proofs.Bounds.{state-low, power-pos, power-fits, stacks-pos}
-use Rattle.workspace.proofs.Bridge.{member}
+use Rattle.workspace.proofs.Firsts.{first-states}
 use Rattle.checker.specs.Walk.{seeded}
-
--- the tables in an area with the same front
-pub fit-same : {plan : Plan} {cols : Columns} {w v : List ℕ} → Fit plan cols w → take (plan .base) v ≡ take (plan .base) w → length v ≡ length w → Fit plan cols v
-fit-same {plan} {cols} {w} {v} f e l =
-    record {
-      laid = subst (Laid plan) (sym l) (f .laid);
-      starts = rw e (f .starts);
-      ends = rw e (f .ends);
-      levels-low = f .levels-low;
-      depths-low = f .depths-low;
-      leaves-low = f .leaves-low;
-    }
 
 -- a state to which line i leads, by its parts
 succs-at : (S : Setting) (s i t : ℕ) → t ∈ succs S s i
@@ -76,48 +63,22 @@ module _ (plan : Plan) (cols : Columns) (w : List ℕ) (fit : Fit plan cols w) w
   -- ---- the start
 
   module _ (begin a : ℕ) (ha : a < plan .places) (within : (k : ℕ) → k ∈ members begin → k ≤ plan .done) where
-    abbrev has : ℕ → Bool
-    has k = eqb (bitOf begin k) 1
-
-    -- the states of the mask's positions at place a, in the order of the loop
-    abbrev pub begins : List ℕ
-    begins = map (λ k. stateIn plan a k 0) (filt has (count 0 (plan .done + 1)))
-
-    pub begin-seeded : (D depths : List ℕ) → turns (nextTurn plan depths begin (visit D 0) a 0) 0 (plan .done + 1) (blank (plan .size)) ≡ seeded (plan .size) begins
+    pub begin-seeded : (D depths : List ℕ) → turns (nextTurn plan depths begin (visit D 0) a 0) 0 (plan .done + 1) (blank (plan .size)) ≡ seeded (plan .size) (firstStates plan begin a)
     unfolding seeded nextTurn
     begin-seeded D depths =
-        let at : ℕ → ℕ = λ k. stateIn plan a k 0 in
-        let ks = count 0 (plan .done + 1) in
-        turns-same _ (λ k b. cond (has k) (push 1 (at k) b) b) (λ k b. ap (λ x. cond (has k) x b) (turn k b)) 0 (plan .done + 1) (blank (plan .size))
-        ∙ sym (loop-map (push 1) at (filt has ks) _ ∙ (loop-filt (λ k. push 1 (at k)) has ks _ ∙ loop-count _ 0 (plan .done + 1) _))
+        turns-same _ (λ k b. cond (eqb (bitOf begin k) 1) (push 1 (stateIn plan a k 0) b) b) (λ k b. ap (λ x. cond (eqb (bitOf begin k) 1) x b) (turn k b)) 0 (plan .done + 1) (blank (plan .size))
+        ∙ sym (first-law (push 1) plan begin a (blank (plan .size)))
       where
         turn : (k : ℕ) (b : Search) → visit D 0 (stateIn plan a k (0 % plan .radix ^ getD depths k 0)) b ≡ push 1 (stateIn plan a k 0) b
         turn k b = visit-any D _ b ∙ ap (λ v. push 1 (stateIn plan a k v) b) (mod-eq-of-lt (power-pos (fit .laid) (getD depths k 0)))
 
-    -- they are below the size, and the states of the mask
-    pub begins-in : (s : ℕ) → (s ∈ begins) ↔ (s ∈ starting In a (members begin))
-    begins-in s = (forth, back)
-      where
-        forth : s ∈ begins → s ∈ starting In a (members begin)
-        forth m =
-            let (k, g, is) = Memᴰ·of-map (λ k. stateIn plan a k 0) (filt has (count 0 (plan .done + 1))) m in
-            let (listed, bit) = filt-in has (count 0 (plan .done + 1)) k .0 g in
-            let below : k < 0 + (plan .done + 1) = count-in 0 (plan .done + 1) k .0 listed .1 in
-            subst (_∈ starting In a (members begin)) (sym (state-in cols plan (length w) (fit .laid) (front plan w) a k 0) ∙ is)
-            (Memᴰ·map (λ k. state In a k 0) (memb-in k (members begin) (member begin k (omega (arith, below, fit .laid .few-commands)) ∙ bit)))
+    -- the loop's first states are those of the mask, below the size
+    pub begins-are : firstStates plan begin a ≡ starting In a (members begin)
+    begins-are = first-states cols plan (length w) (fit .laid) (front plan w) begin a within
 
-        back : s ∈ starting In a (members begin) → s ∈ begins
-        back m =
-            let (k, g, is) = Memᴰ·of-map (λ k. state In a k 0) (members begin) m in
-            let low = within k g in
-            subst (_∈ begins) (state-in cols plan (length w) (fit .laid) (front plan w) a k 0 ∙ is)
-            (Memᴰ·map (λ k. stateIn plan a k 0)
-            (filt-in has (count 0 (plan .done + 1)) k .1
-            (count-in 0 (plan .done + 1) k .1 (omega arith, omega arith), sym (member begin k (omega (arith, fit .laid .few-commands))) ∙ in-memb k (members begin) g)))
-
-    pub begins-low : (s : ℕ) → s ∈ begins → s < plan .size
+    pub begins-low : (s : ℕ) → s ∈ firstStates plan begin a → s < plan .size
     begins-low s m =
-        let (k, g, is) = Memᴰ·of-map (λ k. state In a k 0) (members begin) (begins-in s .0 m) in
+        let (k, g, is) = Memᴰ·of-map (λ k. state In a k 0) (members begin) (subst (s ∈_) begins-are m) in
         subst (_< plan .size) is (at-low a k 0 ha (within k g) (stacks-pos (fit .laid)))
 
   pub goal-low : (b : ℕ) → b < plan .places → goal In b < plan .size

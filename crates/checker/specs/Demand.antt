@@ -1,45 +1,18 @@
 -- Demand 2 of the checker's definition: `check-demand`, for every request, since a chain is checked exactly where all questions are passed.
--- `asked-parts` is what a request that passes says of its bytes and places.
-use mathlib.Core.Path.{_≡_, refl, sym, ap, _∙_, subst}
-use mathlib.Core.Bool.{Bool, true, false, _&&_, false≢true}
+use mathlib.Core.Path.{_≡_, refl, sym, _∙_, subst}
+use mathlib.Core.Bool.{Bool, true, false, false≢true}
 use mathlib.Core.List.{List}
 use Prim.Native.Nat.{ℕ, _<_}
-use lib.Dec.{ltb, leb}
 use lib.ListN.{getD}
-use borrow.Author.Tests.{ltb-true}
 use Rattle.meaning.specs.Outcome.{Outcome, refused, passed, ask, andThen, told}
 use Rattle.meaning.specs.Record.{Day, readRecord}
-use Rattle.meaning.specs.Pattern.{Pattern, readPattern, noneGiven}
-use Rattle.meaning.specs.Request.{Asked, sizeOf, need, askBoth, askRequest}
-use Rattle.record.specs.Outcomes.{passed-inj, and-true, ask-passed, andThen-passed}
+use Rattle.meaning.specs.Pattern.{Pattern}
+use Rattle.meaning.specs.Request.{Asked, askRequest}
+use Rattle.record.specs.Outcomes.{passed-inj}
 use Rattle.record.specs.Fit.{record-fits}
+use Rattle.request.specs.Told.{asked-parts}
 use Rattle.search.specs.Check.{check, check-says}
 use Rattle.checker.specs.Reply.{linesExist, checkOf, Says, Demand2}
-
--- ---- a request that passes
-
-pub record Parts (rec pat : List ℕ) (from to : ℕ) (q : Asked) : Type 0 where
-  pub day-read : readRecord rec ≡ passed (q .day)
-  pub pattern-read : readPattern noneGiven pat ≡ passed (q .pattern)
-  pub from-low : from < q .day .places
-  pub to-low : to < q .day .places
-
-pub asked-parts : (rec pat : List ℕ) (from to words : ℕ) (q : Asked) → askRequest rec pat from to words ≡ passed q → Parts rec pat from to q
-unfolding askRequest
-asked-parts rec pat from to words q h =
-    let (b, e, rest) = andThen-passed (askBoth rec pat) _ q h in
-    let (places, more) = ask-passed (ltb from (b .day .places) && ltb to (b .day .places)) 15 _ q rest in
-    let (small, last) = ask-passed (leb (sizeOf b) 1048576) 16 _ q more in
-    let (room, same) = ask-passed (leb (need (sizeOf b)) words) 17 (passed b) q last in
-    let (day, r, f) = andThen-passed (readRecord rec) _ b e in
-    let (p, s, g) = andThen-passed (readPattern noneGiven pat) _ b f in
-    let (x, y) = and-true (ltb from (b .day .places)) (ltb to (b .day .places)) places in
-    subst (Parts rec pat from to) (passed-inj same) (record {
-      day-read = r ∙ ap (λ (z : Asked). passed (z .day)) (passed-inj g);
-      pattern-read = s ∙ ap (λ (z : Asked). passed (z .pattern)) (passed-inj g);
-      from-low = ltb-true _ _ x;
-      to-low = ltb-true _ _ y;
-    })
 
 -- ---- demand 2, for bytes below 256
 

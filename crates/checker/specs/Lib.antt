@@ -1,4 +1,3 @@
 pub mod Reply
 pub mod Walk
 pub mod Demand
-pub mod Rows

@@ -1,25 +1,21 @@
 -- A set of states moved along a chain inside the work area: what the pair of marks and frontier holds, and what each function makes of it.
 -- The list, from word `base` on, takes the frontier's states while the next frontier is made.
 use mathlib.Core.Path.{_≡_}
-use mathlib.Core.Bool.{Bool, true}
-use mathlib.Core.List.{List, [], _∷_, _++_}
-use Prim.Native.Nat.{ℕ, _+_, _-_, _≤_, _<_}
-use lib.ListN.{length, getD, set, take, drop, replicate}
-use Rattle.meaning.specs.Outcome.{passed}
-use Rattle.meaning.specs.Pattern.{readPattern, noneGiven}
+use mathlib.Core.Bool.{Bool}
+use mathlib.Core.List.{List, [], _∷_}
+use Prim.Native.Nat.{ℕ, _+_, _≤_, _<_}
+use lib.ListN.{length, getD, set, take, drop}
 use Rattle.meaning.specs.Request.{Asked}
-use Rattle.record.specs.Fit.{Fit}
 use Rattle.automaton.specs.Listed.{_∈_}
 use Rattle.automaton.specs.Columns.{members}
-use Rattle.request.specs.Layout.{Laid, loadedOf}
-use Rattle.request.specs.Reply.{Planned}
 use Rattle.request.specs.declared.Plan.{Plan}
 use Rattle.search.specs.Plain.{flat}
 use Rattle.search.specs.Loops.{loop}
 use Rattle.search.specs.Table.{Search, blank, push}
 use Rattle.workspace.specs.Area.{stretch, found, Ready}
+use Rattle.workspace.specs.Posed.{Posed}
 use Rattle.search.specs.Product.{Setting}
-use Rattle.search.specs.Check.{exist, check}
+use Rattle.search.specs.Check.{check}
 use Rattle.search.specs.Moves.{visit, onward}
 
 -- ---- sets of states, marked and listed
@@ -101,22 +97,8 @@ pub record Fresh (plan : Plan) (begin : ℕ) (w : List ℕ) : Type 0 where
   pub none : found (marks plan) (plan .size) 0 w ≡ blank (plan .size)
   pub within : (k : ℕ) → k ∈ members begin → k ≤ plan .done
 
--- ---- a request loaded
+-- ---- a request
 
--- the pattern's bytes, the plan, the places, the chain and the area are those of a request that passed questions 1 to 18
-pub record Posed (q : Asked) (pat : List ℕ) (plan : Plan) (from to : ℕ) (chain w : List ℕ) : Type 0 where
-  pub reads : readPattern noneGiven pat ≡ passed (q .pattern)
-  pub planned : Planned q plan
-  pub laid : Laid plan (length w)
-  pub fit : Fit (q .day .lines) (q .day .places)
-  pub from-low : from < q .day .places
-  pub to-low : to < q .day .places
-  pub lines : exist (length (q .day .lines)) chain ≡ true
-  pub loaded : w ≡ loadedOf (plan .keeps) (q .day .lines) ++ replicate (length w - plan .base) 0
-
--- the area is that of some request, and the reply b is right for every one that it is of
-abbrev pub SomePosed : List ℕ → Plan → ℕ → ℕ → List ℕ → List ℕ → Type 0
-SomePosed pat plan from to chain w = (q : Asked) × Posed q pat plan from to chain w
-
+-- the reply b is right for every request that the area is of
 abbrev pub RightFor : List ℕ → Plan → ℕ → ℕ → List ℕ → List ℕ → Bool → Type 0
-RightFor pat plan from to chain w b = (q : Asked) → Posed q pat plan from to chain w → b ≡ check (q .day .lines) (q .pattern) from to chain
+RightFor pat plan from to chain w b = (q : Asked) → Posed q pat plan from to w → b ≡ check (q .day .lines) (q .pattern) from to chain

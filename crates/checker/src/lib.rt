@@ -2,7 +2,7 @@
 // Marks and frontier hold the set; the list before them holds the states of the line before, so that a line's work goes by the states alive.
 ghost use mathlib.Core.Path.{_≡_};
 ghost use mathlib.Core.Bool.{true};
-ghost use Prim.Native.Nat.{_+_, _-_, _≤_, _<_};
+ghost use Prim.Native.Nat.{_+_, _≤_, _<_};
 ghost use lib.ListN.{length};
 ghost use Rattle.meaning.specs.Outcome.{told};
 ghost use Rattle.meaning.specs.Request.{askRequest, workAfter};
@@ -15,8 +15,9 @@ ghost use Rattle.search.specs.Product.{succs};
 ghost use Rattle.search.specs.Along.{goal, starting};
 ghost use Rattle.search.specs.Loaded.{settingIn};
 ghost use Rattle.workspace.specs.Spots.{front, Fit};
+ghost use Rattle.workspace.specs.Posed.{SomePosed};
 ghost use Rattle.search.specs.Check.{exist, moved};
-ghost use Rattle.checker.specs.Walk.{stepped, walked, marks, Alive, Advanced, frontierAt, asideOf, Aside, Listed, listTurn, Fresh, SomePosed, RightFor};
+ghost use Rattle.checker.specs.Walk.{stepped, walked, marks, Alive, Advanced, frontierAt, asideOf, Aside, Listed, listTurn, Fresh, RightFor};
 ghost use Rattle.checker.specs.Reply.{checkReply, checkOf, Demand2};
 use request::Plan;
 use request::Request;
@@ -230,7 +231,8 @@ fn accepted(
     chain: &[u16],
     work: &mut [u32],
 ) -> bool
-    requires { ⌜ SomePosed (now pattern) plan from to (now chain) (now work) ⌝ }
+    requires { ⌜ SomePosed (now pattern) plan from to (now work) ⌝ }
+    requires { ⌜ exist (plan .lines) (now chain) ≡ true ⌝ }
     ensures { λ r. ⌜ RightFor (now (pattern .entry)) plan from to (now (chain .entry)) (now (work .entry)) r ⌝ }
 {
     let mut kinds: [u8; 64] = [0; 64];

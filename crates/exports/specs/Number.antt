@@ -6,6 +6,7 @@ use lib.Dec.{leb}
 use lib.ListN.{length, drop}
 use Rattle.meaning.specs.Outcome.{Outcome, refused, passed, Reply, value, refusal}
 use Rattle.meaning.specs.Record.{Line}
+use Rattle.finder.specs.Reply as Find
 
 abbrev pub numberOf : Reply ℕ → ℕ
 numberOf (value n) = n
@@ -38,3 +39,10 @@ abbrev pub checkNumber : Reply Bool → ℕ
 checkNumber (value true) = 1
 checkNumber (value false) = 0
 checkNumber (refusal number second) = number * 4294967296 + second
+
+-- ---- a chain's length, or none
+
+abbrev pub findNumber : Find.Said → ℕ
+findNumber (Find.found n) = n
+findNumber Find.none-found = 4294967295
+findNumber (Find.refusal number second) = number * 4294967296 + second

@@ -8,10 +8,11 @@ ghost use Rattle.meaning.specs.Outcome.{told};
 ghost use Rattle.meaning.specs.Writing.{beginOf, beginAfter, addOf, addAfter, readOf};
 ghost use Rattle.meaning.specs.Request.{wordsOf, askRequest, workAfter};
 ghost use Rattle.checker.specs.Reply.{checkOf};
+ghost use Rattle.finder.specs.Reply.{findOf, said, outAfter};
 ghost use Rattle.record.specs.Reply.{lineShown, writeReply};
-ghost use Rattle.request.specs.Reply.{wordsReply};
-ghost use Rattle.exports.specs.Number.{numberOf, Fits32, fieldsOf, readNumber, readAfter, checkNumber};
+ghost use Rattle.exports.specs.Number.{numberOf, Fits32, fieldsOf, readNumber, readAfter, checkNumber, findNumber};
 use checker::CheckReply;
+use finder::FindReply;
 use record::Line;
 use record::LineReply;
 use record::WriteReply;
@@ -129,5 +130,26 @@ pub extern "C" fn chains_check(
         CheckReply::Yes => 1,
         CheckReply::No => 0,
         CheckReply::Refused(q, _) => q as u64 * 4294967296,
+    }
+}
+
+// Finds the first shortest chain; value: its length, the chain standing at the front of the output, or 4,294,967,295 for none.
+#[no_mangle]
+pub extern "C" fn chains_find(
+    rec: &[u8],
+    pat: &[u8],
+    from: u16,
+    to: u16,
+    work: &mut [u32],
+    out: &mut [u16],
+) -> u64
+    ensures reply { λ r. ⌜ r ≡ findNumber (said (findOf (now (rec .entry)) (now (pat .entry)) from to (length (now (work .entry))) (length (now (out .entry))))) ⌝ }
+    ensures workspace { λ _. ⌜ now (work .exit) ≡ workAfter (askRequest (now (rec .entry)) (now (pat .entry)) from to (length (now (work .entry)))) (now (work .entry)) ⌝ }
+    ensures output { λ _. ⌜ now (out .exit) ≡ outAfter (findOf (now (rec .entry)) (now (pat .entry)) from to (length (now (work .entry))) (length (now (out .entry)))) (now (out .entry)) ⌝ }
+{
+    match finder::find(rec, pat, from, to, work, out) {
+        FindReply::Found(n) => n as u64,
+        FindReply::NoChain => 4294967295,
+        FindReply::Refused(q, second) => q as u64 * 4294967296 + second as u64,
     }
 }

@@ -1,22 +1,24 @@
 -- Demand 3, in terms of accepted chains of any length and of what the caller sees: the reply and the output.
--- Claimed: `finds` (the definition that the finder's promise cites meets the demand).
+-- Claimed: `finds` (the definition that the finder's promise cites meets the demand), and `find-bounds` (lengths fit and are small).
 use mathlib.Core.Path.{_≡_, refl, sym, ap, subst}
 use mathlib.Core.Bool.{Bool, true, false, cond, _&&_}
 use mathlib.Core.List.{List, _++_}
 use mathlib.Core.Option.{Option, none, some}
 use Prim.Native.Nat.{ℕ, _<_, _≤_}
+use native.Mathlib.Nat.{lt-of-lt-of-le}
 use native.Mathlib.Omega.{arith}
 use lib.Dec.{ltb, leb}
 use lib.ListN.{length, take, drop, getD}
 use lib.Seq.{take-append-seam}
 use borrow.Author.Tests.{ltb-true, leb-true, leb-false}
-use Rattle.meaning.specs.Outcome.{passed, ask}
+use Rattle.meaning.specs.Outcome.{Outcome, refused, passed, ask}
 use Rattle.meaning.specs.Record.{Line, Day, readRecord}
 use Rattle.meaning.specs.Pattern.{Pattern, readPattern, noneGiven}
 use Rattle.meaning.specs.Chain.{Accepted, First}
 use Rattle.meaning.specs.Request.{Asked, sizeOf, need, askRequest}
 use Rattle.record.specs.Outcomes.{and-true}
 use Rattle.record.specs.Fit.{record-fits}
+use Rattle.request.specs.Told.{Parts, asked-parts}
 use Rattle.search.specs.Answer.{LinesWithin, answer, answer-none, answer-some}
 use Rattle.finder.specs.Reply.{chain, too-long, settled, searched, findOf, Said, found, none-found, refusal, said, outAfter}
 
@@ -80,3 +82,31 @@ finds rec pat from to words room out low day p r s =
     go true e true false = never 17 19 (omega arith)
     go true e false v = never 16 19 (omega arith)
     go false e u v = never 15 19 (omega arith)
+
+-- ---- lengths are small: they fit the output where a chain is found, and are always below the largest search size
+
+abbrev pub Bounds : ℕ → Said → Type 0
+Bounds room (found n) = (n ≤ room) × (n < 1048576)
+Bounds room none-found = Unit {0}
+Bounds room (refusal number n) = n < 1048576
+
+pub find-bounds : (rec pat : List ℕ) (from to words room : ℕ) → ((i : ℕ) → getD rec i 0 < 256) → Bounds room (said (findOf rec pat from to words room))
+unfolding findOf
+find-bounds rec pat from to words room low = go (askRequest rec pat from to words) refl
+  where
+    short : (q : Asked) → Parts rec pat from to q → (c : List ℕ) → answer (q .day .lines) (q .day .places) (q .pattern) from to ≡ some c → length c < 1048576
+    short q x c e =
+        let less = answer-some (q .day .lines) (q .day .places) (q .pattern) (record-fits rec (q .day) (x .day-read) low .within) from to (x .from-low) (x .to-low) c e .1 in
+        lt-of-lt-of-le less (x .small)
+
+    settled-bounds : (o : Option (List ℕ)) → ((c : List ℕ) → o ≡ some c → length c < 1048576) → Bounds room (said (settled room o))
+    settled-bounds none h = tt
+    settled-bounds (some c) h = fits (leb (length c) room) refl
+      where
+        fits : (t : Bool) → leb (length c) room ≡ t → Bounds room (said (cond t (chain c) (too-long (length c))))
+        fits true e = (leb-true _ _ e, h c refl)
+        fits false e = h c refl
+
+    go : (o : Outcome Asked) → askRequest rec pat from to words ≡ o → Bounds room (said (searched o from to room))
+    go (refused number) e = omega arith
+    go (passed q) e = settled-bounds (answer (q .day .lines) (q .day .places) (q .pattern) from to) (short q (asked-parts rec pat from to words q e))

@@ -1,3 +1,3 @@
 pub mod Reply
+pub mod Searching
 pub mod Demand
-pub mod Rows

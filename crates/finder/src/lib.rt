@@ -1,8 +1,151 @@
 // The finder: the first shortest chain that a pattern accepts between two places, or that there is none.
+// Phase one gives every state its distance to the end; phase two takes, line by line, the least line that leads one nearer.
+ghost use mathlib.Core.Path.{_≡_};
+ghost use Prim.Native.Nat.{_<_};
+ghost use lib.ListN.{length};
+ghost use Rattle.meaning.specs.Request.{askRequest, workAfter};
+ghost use Rattle.automaton.specs.Columns.{columns};
+ghost use Rattle.search.specs.Loaded.{settingIn};
+ghost use Rattle.workspace.specs.Chosen.{firstStates};
+ghost use Rattle.workspace.specs.Spots.{front, Fit};
+ghost use Rattle.workspace.specs.Posed.{SomePosed};
+ghost use Rattle.finder.specs.Reply.{findReply, findOf, said, outAfter};
+ghost use Rattle.finder.specs.Demand.{Demand3};
+ghost use Rattle.finder.specs.Searching.{toldBy, Searched, searchedIn, RightFor};
+use request::Plan;
+use request::Request;
 
 // What the finder says: the length of the chain that it wrote to the output, that there is none, or a refusal.
 pub enum FindReply {
     Found(usize),
     NoChain,
     Refused(u8, usize),
+}
+
+// Both phases, in an area into which the record is loaded. Returns one more than the length of the first shortest chain, and 0
+// where there is none; the chain is written where the output holds it.
+fn both_phases(
+    work: &mut [u32],
+    plan: Plan,
+    kinds: &[u8; 64],
+    tests: &[u8; 64],
+    levels: &[u8; 64],
+    depths: &[u8; 64],
+    pushes: &[u8; 64],
+    follow: &[u64; 64],
+    begin: u64,
+    from: usize,
+    to: usize,
+    out: &mut [u16],
+) -> u32
+    requires { ⌜ Fit plan (columns (now kinds) (now tests) (now levels) (now depths) (now pushes) (now follow)) (now work) ⌝ }
+    requires { ⌜ (from < plan .places) × (to < plan .places) ⌝ }
+    ensures { λ r. ⌜ Searched (searchedIn (settingIn (columns (now (kinds .entry)) (now (tests .entry)) (now (levels .entry)) (now (depths .entry)) (now (pushes .entry)) (now (follow .entry))) plan (front plan (now (work .entry)))) plan (firstStates plan begin from) to) r (now (out .entry)) (now (out .exit)) ⌝ }
+{
+    workspace::distances(work, plan, kinds, tests, levels, depths, pushes, follow, to);
+    let nearest = workspace::nearest(work, plan, begin, from);
+    if nearest == 0 {
+        return nearest;
+    }
+    if out.len() < nearest as usize - 1 {
+        return nearest;
+    }
+    workspace::chain_into(
+        work,
+        plan,
+        kinds,
+        tests,
+        levels,
+        depths,
+        pushes,
+        follow,
+        begin,
+        from,
+        nearest,
+        out,
+    );
+    nearest
+}
+
+// The search of a request whose record is loaded. The pattern's automaton stands in this function's frame.
+fn search_loaded(
+    pattern: &[u8],
+    plan: Plan,
+    from: usize,
+    to: usize,
+    work: &mut [u32],
+    out: &mut [u16],
+) -> u32
+    requires { ⌜ SomePosed (now pattern) plan from to (now work) ⌝ }
+    ensures { λ r. ⌜ RightFor (now (pattern .entry)) plan from to (now (work .entry)) r (now (out .entry)) (now (out .exit)) ⌝ }
+{
+    let mut kinds: [u8; 64] = [0; 64];
+    let mut tests: [u8; 64] = [0; 64];
+    let mut levels: [u8; 64] = [0; 64];
+    let mut depths: [u8; 64] = [0; 64];
+    let mut pushes: [u8; 64] = [0; 64];
+    let mut follow: [u64; 64] = [0; 64];
+    let begin = automaton::compile(
+        pattern,
+        &mut kinds,
+        &mut tests,
+        &mut levels,
+        &mut depths,
+        &mut pushes,
+        &mut follow,
+    );
+    both_phases(
+        work,
+        plan,
+        &kinds,
+        &tests,
+        &levels,
+        &depths,
+        &pushes,
+        &follow,
+        begin,
+        from,
+        to,
+        out,
+    )
+}
+
+// Question 19, one more than the chain's length being known, or 0 where there is none.
+fn answered(nearest: u32, room: usize) -> FindReply
+    ensures { λ r. ⌜ findReply r ≡ toldBy nearest room ⌝ }
+{
+    if nearest == 0 {
+        return FindReply::NoChain;
+    }
+    let long = nearest as usize - 1;
+    if room < long {
+        return FindReply::Refused(19, long);
+    }
+    FindReply::Found(long)
+}
+
+// Questions 1 to 17, the search, and question 19: the first shortest chain that the pattern accepts from the first place to the
+// second. The area stays untouched where a question up to 17 is answered no, and is all zeros after every other reply; the output
+// has the chain in front where one is found, and is untouched otherwise.
+pub fn find(
+    day: &[u8],
+    pattern: &[u8],
+    from: u16,
+    to: u16,
+    work: &mut [u32],
+    out: &mut [u16],
+) -> FindReply
+    ensures reply { λ r. ⌜ findReply r ≡ said (findOf (now (day .entry)) (now (pattern .entry)) from to (length (now (work .entry))) (length (now (out .entry)))) ⌝ }
+    ensures workspace { λ _. ⌜ now (work .exit) ≡ workAfter (askRequest (now (day .entry)) (now (pattern .entry)) from to (length (now (work .entry)))) (now (work .entry)) ⌝ }
+    ensures output { λ _. ⌜ now (out .exit) ≡ outAfter (findOf (now (day .entry)) (now (pattern .entry)) from to (length (now (work .entry))) (length (now (out .entry)))) (now (out .entry)) ⌝ }
+    ensures first_shortest { λ r. ⌜ Demand3 (now (day .entry)) (now (pattern .entry)) from to (length (now (out .entry))) (findReply r) (now (out .exit)) ⌝ }
+{
+    let asked = request::ask_request(day, pattern, from, to, work.len());
+    let Request::Asked(plan) = asked else {
+        return FindReply::Refused(asked.number(), 0);
+    };
+    request::load(day, plan, work);
+    let nearest = search_loaded(pattern, plan, from as usize, to as usize, work, out);
+    request::clear(work);
+    answered(nearest, out.len())
 }

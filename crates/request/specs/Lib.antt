@@ -2,3 +2,4 @@ pub mod Codes
 pub mod Layout
 pub mod Reply
 pub mod Drawing
+pub mod Told

@@ -2,23 +2,19 @@
 -- `accepted` ensures of the loaded area; demand 2 holds of the definition, and so of the reply. Assumes nothing.
 use mathlib.Core.Path.{_≡_, refl, sym, ap, _∙_, subst}
 use mathlib.Core.Bool.{Bool, true, false, not, false≢true}
-use mathlib.Core.List.{List, _++_}
-use Prim.Native.Nat.{ℕ, _+_, _-_, _<_}
+use Prim.Native.Nat.{ℕ, _<_}
 use native.Mathlib.Omega.{arith}
-use lib.ListN.{length, getD, replicate, length-replicate}
+use lib.ListN.{length, getD}
 use Rattle.meaning.specs.Outcome.{Reply, refusal, value, told}
 use Rattle.meaning.specs.Request.{askRequest, workAfter}
-use Rattle.record.specs.Fit.{record-fits}
-use Rattle.record.specs.Whole.{linesIn, linesOf}
-use Rattle.request.specs.Layout.{Laid, loadedOf}
 use Rattle.request.specs.Reply.{requestNumber}
+use Rattle.request.specs.Told.{Parts, asked-parts, answers-refused, Told, answers-asked, told-loading, all-zero}
 use Rattle.request.specs.declared.Plan.{Plan}
 use Rattle.search.specs.Check.{exist}
+use Rattle.workspace.proofs.Posing.{posed-from}
 use Rattle.checker.specs.Reply.{checkOf, Demand2}
-use Rattle.checker.specs.Demand.{Parts, asked-parts, check-demand}
-use Rattle.checker.specs.Walk.{Posed}
-use Rattle.checker.proofs.Posing.{words-long, tables-long}
-use Rattle.checker.proofs.Replies.{Told, answers-refused, answers-asked, told-loading, check-refused, check-missing, check-said}
+use Rattle.checker.specs.Demand.{check-demand}
+use Rattle.checker.proofs.Replies.{check-refused, check-missing, check-said}
 use borrow.Author.Needs.{needs}
 use Rattle.checker.proofs.check_chain.Statement.{statement}
 use Rattle.checker.proofs.check_chain.Tie as tie
@@ -115,42 +111,17 @@ load-requires c κs = let k = c .before .before .before in told-loading (passed-
 
 -- ---- where the record is loaded
 
--- words w that are loaded from the record are those of the request
-posed : (k : tie.After-known-told) → exist (plan k .lines) (start k .args .chain .now) ≡ true → (w : List ℕ)
-    → w ≡ loadedOf (plan k .keeps) (linesOf (start k .args .day .now)) ++ replicate (length (start k .args .work .now) - plan k .base) 0
-    → Posed (passed-on k .asked) (start k .args .pattern .now) (plan k) (start k .args .from) (start k .args .to) (start k .args .chain .now) w
-posed k all w is =
-    let t = passed-on k in
-    let p = parts k in
-    let area = length (start k .args .work .now) in
-    let loaded = is ∙ ap (λ ls. loadedOf (plan k .keeps) ls ++ replicate (area - plan k .base) 0) (ap linesIn (p .day-read)) in
-    let sum = words-long (loadedOf (plan k .keeps) (t .asked .day .lines)) (area - plan k .base) (plan k .base) w loaded (tables-long (t .planned) (t .laid)) in
-    let long : length w ≡ area = omega (arith, sum, t .laid .room) in
-    record {
-      reads = p .pattern-read;
-      planned = t .planned;
-      laid = subst (Laid (plan k)) (sym long) (t .laid);
-      fit = record-fits (start k .args .day .now) (t .asked .day) (p .day-read) (low k);
-      from-low = p .from-low;
-      to-low = p .to-low;
-      lines = exist-as k ∙ all;
-      loaded = loaded ∙ ap (λ n. loadedOf (plan k .keeps) (t .asked .day .lines) ++ replicate (n - plan k .base) 0) (sym long);
-    }
-
 accepted-requires : tie.Need-accepted-requires
 accepted-requires c κs =
     let k = c .before .before .before .before .before .before .before in
-    (passed-on k .asked, posed k (sym (c .before .before .before .before .before .before .lines-exist .ensures) ∙ not-false _ (c .before .before .before .before .before .if1 .left)) _ (c .before .before .before .load .ensures))
+    let all = sym (c .before .before .before .before .before .before .lines-exist .ensures) ∙ not-false _ (c .before .before .before .before .before .if1 .left) in
+    ((passed-on k .asked, posed-from (passed-on k) (parts k) (low k) _ (c .before .before .before .load .ensures)), all)
 
 clear-requires-2 : tie.Need-clear-requires-2
 clear-requires-2 c κs = search needs
 
 same-length-2 : tie.Need-same-length-2
 same-length-2 c = search needs
-
--- words that are all zeros, as many as there were
-zeros : (n m : ℕ) (v : List ℕ) → v ≡ replicate n 0 → length v ≡ m → v ≡ replicate m 0
-zeros n m v e l = e ∙ ap (λ k. replicate k 0) (sym (length-replicate {A = ℕ} n 0) ∙ (sym (ap length e) ∙ l))
 
 -- the reply is what `accepted` said
 answered : (c : tie.After-slice-known5) (b : Bool) → c .before .before .before .before .before .before .accepted .result ≡ b
@@ -160,14 +131,14 @@ answered c b e =
     let x = start k .args in
     let t = passed-on k in
     let all = sym (c .before .before .before .before .before .before .before .before .before .before .before .before .before .lines-exist .ensures) ∙ not-false _ (c .before .before .before .before .before .before .before .before .before .before .before .before .if1 .left) in
-    let right = c .before .before .before .before .before .before .accepted .ensures (t .asked) (posed k all _ (c .before .before .before .before .before .before .before .before .before .before .load .ensures)) in
+    let right = c .before .before .before .before .before .before .accepted .ensures (t .asked) (posed-from t (parts k) (low k) _ (c .before .before .before .before .before .before .before .before .before .before .load .ensures)) in
     sym (ap told (check-said (x .day .now) (x .pattern .now) (x .from) (x .to) (x .chain .now) (length (x .work .now)) (t .asked) (t .is) (exist-as k ∙ all) b (sym e ∙ right)))
 
 returns-3 : tie.Need-returns-3
 returns-3 c =
     let k = c .before .before .before .before .before .before .before .before .before .before .before .before .before .before .before in
     let is = answered (c .before) true (c .if2 .taken) in
-    let area = zeros (length (c .before .before .before .before .before .before .before .accepted .last .1 .1 .1 .1 .1 .0)) _ _ (c .before .before .before .clear2 .ensures) (same-length-2 c) in
+    let area = all-zero (length (c .before .before .before .before .before .before .before .accepted .last .1 .1 .1 .1 .1 .0)) _ _ (c .before .before .before .clear2 .ensures) (same-length-2 c) in
     (is, (area ∙ sym (ap (λ o. workAfter o (start k .args .work .now)) (passed-on k .is)), demanded (start k) (low k) _ is))
 
 same-length-3 : tie.Need-same-length-3
@@ -177,7 +148,7 @@ returns-4 : tie.Need-returns-4
 returns-4 c =
     let k = c .before .before .before .before .before .before .before .before .before .before .before .before .before .before .before in
     let is = answered (c .before) false (c .if2 .left) in
-    let area = zeros (length (c .before .before .before .before .before .before .before .accepted .last .1 .1 .1 .1 .1 .0)) _ _ (c .before .before .before .clear2 .ensures) (same-length-3 c) in
+    let area = all-zero (length (c .before .before .before .before .before .before .before .accepted .last .1 .1 .1 .1 .1 .0)) _ _ (c .before .before .before .clear2 .ensures) (same-length-3 c) in
     (is, (area ∙ sym (ap (λ o. workAfter o (start k .args .work .now)) (passed-on k .is)), demanded (start k) (low k) _ is))
 
 pub check-chain-spec : {M : Type 1} → statement M

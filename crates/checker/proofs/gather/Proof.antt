@@ -10,7 +10,7 @@ use Rattle.search.specs.Loaded.{settingIn}
 use Rattle.workspace.specs.Spots.{front}
 use Rattle.workspace.proofs.Changes.{loop-start, loop-turn, loop-end, under-stretch, under-front}
 use Rattle.checker.specs.Walk.{marks, listTurn}
-use Rattle.checker.proofs.Steps.{fit-same}
+use Rattle.workspace.proofs.Backs.{fit-same}
 use Rattle.checker.proofs.Moving.{front-word}
 use borrow.Author.Needs.{needs}
 use Rattle.checker.proofs.gather.Statement.{statement}
@@ -54,7 +54,7 @@ from-state-requires c κs =
     let less = c .before .before .before .before .loop-test .taken in
     let u = l .loop .inv .1 in
     let is = c .before .word .ensures ∙ list-is l less in
-    (u .ready, (fit-same (a .pre .1 .0) (under-front u (a .args .plan .base) (omega arith)) (u .long), (a .pre .1 .1 .0, subst (_< a .args .plan .size) (sym is) (a .pre .1 .1 .2 (l .loop .j) less))))
+    (u .ready, (fit-same (u .long) (under-front u (a .args .plan .base) (omega arith)) (a .pre .1 .0), (a .pre .1 .1 .0, subst (_< a .args .plan .size) (sym is) (a .pre .1 .1 .2 (l .loop .j) less))))
 
 add-j : tie.Need-add-j Inv-loop μ-loop
 add-j c = search needs

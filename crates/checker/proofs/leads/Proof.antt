@@ -14,7 +14,7 @@ use Rattle.workspace.specs.Spots.{front}
 use Rattle.search.specs.Front.{goal-in}
 use Rattle.workspace.proofs.Bounds.{stacks-pos}
 use Rattle.checker.specs.Walk.{walked}
-use Rattle.checker.proofs.Steps.{fit-same}
+use Rattle.workspace.proofs.Backs.{fit-same}
 use Rattle.checker.proofs.Moving.{begun, verdict}
 use borrow.Author.Needs.{needs}
 use Rattle.checker.proofs.leads.Statement.{statement}
@@ -38,7 +38,7 @@ run-chain-requires : tie.Need-run-chain-requires
 run-chain-requires c κs =
     let a = c .before .before .before .before .before .before .before in
     let b = begun (a .args .plan) (cols a) (a .args .work .now) (a .pre .0) (a .args .begin) (a .args .from) (a .pre .1 .1 .0) (a .pre .1 .0) _ _ (c .before .before .before .over-next .ensures) in
-    (fit-same (a .pre .0) (b .front) (b .long), (b .alive, a .pre .1 .1 .2))
+    (fit-same (b .long) (b .front) (a .pre .0), (b .alive, a .pre .1 .1 .2))
 
 state-at-requires : tie.Need-state-at-requires
 state-at-requires c κs =

@@ -1,6 +1,6 @@
 -- `checker::next_line` meets its contract: the states that waited are set aside, nothing is marked then, and what is gathered is their step.
 -- Assumes nothing.
-use Rattle.checker.proofs.Steps.{fit-same}
+use Rattle.workspace.proofs.Backs.{fit-same}
 use Rattle.checker.proofs.Moving.{aside-ready, aside-listed, advanced}
 use borrow.Author.Needs.{needs}
 use Rattle.checker.proofs.next_line.Statement.{statement}
@@ -14,7 +14,7 @@ gather-requires c κs =
     let a = c .before .before .before .before .before .before in
     let alive = a .pre .1 .0 in
     let d = c .before .before .before .settle .ensures in
-    (aside-ready alive d, (fit-same (a .pre .0) (d .front) (d .long), (a .pre .1 .1, alive .ready .fits, aside-listed alive d)))
+    (aside-ready alive d, (fit-same (d .long) (d .front) (a .pre .0), (a .pre .1 .1, alive .ready .fits, aside-listed alive d)))
 
 same-length : tie.Need-same-length
 same-length c = search needs

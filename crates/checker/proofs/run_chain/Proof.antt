@@ -6,7 +6,7 @@ use Rattle.automaton.specs.Columns.{columns}
 use Rattle.search.specs.Product.{succs}
 use Rattle.search.specs.Loaded.{settingIn}
 use Rattle.workspace.specs.Spots.{front}
-use Rattle.checker.proofs.Steps.{fit-same}
+use Rattle.workspace.proofs.Backs.{fit-same}
 use Rattle.checker.proofs.Moving.{Left, left-all, left-none, left-line, left-turn}
 use borrow.Author.Needs.{needs}
 use Rattle.checker.proofs.run_chain.Statement.{statement}
@@ -35,7 +35,7 @@ next-line-requires c κs =
     let l = c .before .before .before in
     let a = l .before .before .before in
     let left = l .loop .inv .1 in
-    (fit-same (a .pre .0) (left .front) (left .long), (left .alive, left-line _ _ _ left (c .before .before .loop-test .taken)))
+    (fit-same (left .long) (left .front) (a .pre .0), (left .alive, left-line _ _ _ left (c .before .before .loop-test .taken)))
 
 add-k : tie.Need-add-k Inv-loop μ-loop
 add-k c = search needs

@@ -7,7 +7,6 @@ use Rattle.automaton.specs.Columns.{Columns, columns}
 use Rattle.request.specs.Layout.{Laid}
 use Rattle.search.specs.Table.{blank}
 use Rattle.workspace.specs.Area.{stretch}
-use Rattle.search.specs.PhaseTwo.{put}
 use Rattle.workspace.specs.Spots.{Fit}
 use Rattle.workspace.specs.Chosen.{start-law}
 use Rattle.workspace.proofs.Backs.{fit-same}

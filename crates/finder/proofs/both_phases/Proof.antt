@@ -1,0 +1,92 @@
+-- `finder::both_phases` meets its contract: what phase one leaves in the area is what phase two goes by. Assumes nothing.
+use mathlib.Core.List.{List}
+use Prim.Native.Nat.{ℕ}
+use native.Mathlib.Omega.{arith}
+use Rattle.automaton.specs.Columns.{Columns, columns}
+use Rattle.search.specs.Loaded.{settingIn}
+use Rattle.search.specs.Product.{Setting}
+use Rattle.workspace.specs.Spots.{front}
+use Rattle.workspace.specs.Chosen.{firstStates}
+use Rattle.workspace.proofs.Backs.{fit-same}
+use Rattle.finder.proofs.Written.{tables-same, told-none, told-long, told-written}
+use borrow.Author.Needs.{needs}
+use Rattle.finder.proofs.both_phases.Statement.{statement}
+use Rattle.finder.proofs.both_phases.Tie as tie
+
+abbrev cols : tie.Start → Columns
+cols a = columns (a .args .kinds .now) (a .args .tests .now) (a .args .levels .now) (a .args .depths .now) (a .args .pushes .now) (a .args .follow .now)
+
+abbrev setting : tie.Start → Setting
+setting a = settingIn (cols a) (a .args .plan) (front (a .args .plan) (a .args .work .now))
+
+abbrev firsts : tie.Start → List ℕ
+firsts a = firstStates (a .args .plan) (a .args .begin) (a .args .from)
+
+distances-requires : tie.Need-distances-requires
+distances-requires c κs = search needs
+
+nearest-requires : tie.Need-nearest-requires
+nearest-requires c κs = search needs
+
+same-length : tie.Need-same-length
+same-length c = search needs
+
+returns : tie.Need-returns
+returns c =
+    let a = c .before .before .before .before .before .before .before .before .before in
+    told-none (setting a) (a .args .plan) (firsts a) (a .args .to) (c .before .before .before .before .before .distances .ensures) _ (c .before .nearest .ensures) (a .args .out .now) (c .if1 .taken)
+
+cast-if2 : tie.Need-cast-if2
+cast-if2 c = search needs
+
+sub-if2 : tie.Need-sub-if2
+sub-if2 c = search needs
+
+same-length-2 : tie.Need-same-length-2
+same-length-2 c = search needs
+
+returns-2 : tie.Need-returns-2
+returns-2 c =
+    let a = c .before .before .before .before .before .before .before .before .before .before in
+    told-long (setting a) (a .args .plan) (firsts a) (a .args .to) (c .before .before .before .before .before .before .distances .ensures) _ (c .before .before .nearest .ensures) (a .args .out .now)
+    (omega (arith, c .before .if1 .left)) (c .if2 .taken)
+
+chain-into-requires : tie.Need-chain-into-requires
+chain-into-requires c κs =
+    let a = c .before .before .before .before .before .before .before .before .before .before .before .before in
+    let step = c .before .before .before .before .before .before .before .before .distances .ensures in
+    let same = tables-same (setting a) (a .args .plan) (firsts a) (a .args .to) step _ (c .before .before .before .before .nearest .ensures) (a .args .out .now) in
+    (fit-same (step .long) same (a .pre .0), (a .pre .1 .0, omega (arith, c .before .before .before .if1 .left), omega (arith, c .before .before .if2 .left)))
+
+same-length-3 : tie.Need-same-length-3
+same-length-3 c = search needs
+
+same-length-4 : tie.Need-same-length-4
+same-length-4 c = search needs
+
+returns-3 : tie.Need-returns-3
+returns-3 c =
+    let a = c .before .before .before .before .before .before .before .before .before .before .before .before .before .before .before .before .before in
+    let step = c .before .before .before .before .before .before .before .before .before .before .before .before .before .distances .ensures in
+    let word = c .before .before .before .before .before .before .before .before .before .nearest .ensures in
+    let same = tables-same (setting a) (a .args .plan) (firsts a) (a .args .to) step _ word (a .args .out .now) in
+    told-written (setting a) (a .args .plan) (firsts a) (a .args .to) step _ word (a .args .out .now)
+    (omega (arith, c .before .before .before .before .before .before .before .before .if1 .left)) (omega (arith, c .before .before .before .before .before .before .before .if2 .left)) _
+    (rw same at (c .before .before .before .before .chain-into .ensures))
+
+pub both-phases-spec : {M : Type 1} → statement M
+both-phases-spec =
+    tie.close
+    (tie.spec
+    distances-requires
+    nearest-requires
+    same-length
+    returns
+    cast-if2
+    sub-if2
+    same-length-2
+    returns-2
+    chain-into-requires
+    same-length-3
+    same-length-4
+    returns-3)

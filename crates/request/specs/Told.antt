@@ -1,0 +1,89 @@
+-- A request that is answered, for the checker and the finder alike: what a request that passes says of its bytes and places (`asked-parts`),
+-- and the cases of the code's enum against the outcome of questions 1 to 17 (`answers-refused`, `answers-asked`).
+use mathlib.Core.Path.{_≡_, refl, sym, ap, _∙_, subst}
+use mathlib.Core.Bool.{_&&_}
+use mathlib.Core.List.{List}
+use Prim.Native.Nat.{ℕ, _<_, _≤_}
+use native.Mathlib.Omega.{arith}
+use lib.Dec.{ltb, leb}
+use lib.ListN.{length, replicate, length-replicate}
+use borrow.Author.Tests.{ltb-true, leb-true}
+use Rattle.meaning.specs.Outcome.{Outcome, refused, passed}
+use Rattle.meaning.specs.Record.{readRecord}
+use Rattle.meaning.specs.Pattern.{readPattern, noneGiven}
+use Rattle.meaning.specs.Request.{Asked, sizeOf, need, askBoth, askRequest}
+use Rattle.record.specs.Outcomes.{passed-inj, and-true, ask-passed, andThen-passed}
+use Rattle.record.specs.Whole.{linesIn, linesOf}
+use Rattle.request.specs.Layout.{Laid, Loading, boatWords}
+use Rattle.request.specs.Reply.{Answers, Planned}
+use Rattle.request.specs.declared.Plan.{Plan}
+use Rattle.request.specs.declared.Request.{Request}
+use Rattle.request.specs.declared.Request.the-variants as Request
+
+-- ---- a request that passes
+
+pub record Parts (rec pat : List ℕ) (from to : ℕ) (q : Asked) : Type 0 where
+  pub day-read : readRecord rec ≡ passed (q .day)
+  pub pattern-read : readPattern noneGiven pat ≡ passed (q .pattern)
+  pub from-low : from < q .day .places
+  pub to-low : to < q .day .places
+  pub small : sizeOf q ≤ 1048576
+
+pub asked-parts : (rec pat : List ℕ) (from to words : ℕ) (q : Asked) → askRequest rec pat from to words ≡ passed q → Parts rec pat from to q
+unfolding askRequest
+asked-parts rec pat from to words q h =
+    let (b, e, rest) = andThen-passed (askBoth rec pat) _ q h in
+    let (places, more) = ask-passed (ltb from (b .day .places) && ltb to (b .day .places)) 15 _ q rest in
+    let (small, last) = ask-passed (leb (sizeOf b) 1048576) 16 _ q more in
+    let (room, same) = ask-passed (leb (need (sizeOf b)) words) 17 (passed b) q last in
+    let (day, r, f) = andThen-passed (readRecord rec) _ b e in
+    let (p, s, g) = andThen-passed (readPattern noneGiven pat) _ b f in
+    let (x, y) = and-true (ltb from (b .day .places)) (ltb to (b .day .places)) places in
+    subst (Parts rec pat from to) (passed-inj same) (record {
+      day-read = r ∙ ap (λ (z : Asked). passed (z .day)) (passed-inj g);
+      pattern-read = s ∙ ap (λ (z : Asked). passed (z .pattern)) (passed-inj g);
+      from-low = ltb-true _ _ x;
+      to-low = ltb-true _ _ y;
+      small = leb-true _ _ small;
+    })
+
+-- ---- the enum's cases
+
+pub answers-refused : (o : Outcome Asked) (area : ℕ) (r : Request) (number : ℕ) → Answers o area r → r ≡ Request.Refused number → o ≡ refused number
+answers-refused (refused n) area r number a e = let same : Request.Refused n ≡ Request.Refused number = sym a ∙ e in ap refused cc
+answers-refused (passed q) area r number a e =
+    let same : Request.Asked (a .0) ≡ Request.Refused number = sym (a .1) ∙ e in
+    absurd (let z : _≡_ {A = ℕ} 0 1 = cc in omega arith)
+
+-- a plan that was told is that of what passed
+pub record Told (o : Outcome Asked) (area : ℕ) (plan : Plan) : Type 0 where
+  pub asked : Asked
+  pub is : o ≡ passed asked
+  pub planned : Planned asked plan
+  pub laid : Laid plan area
+
+pub answers-asked : (o : Outcome Asked) (area : ℕ) (r : Request) (plan : Plan) → Answers o area r → r ≡ Request.Asked plan → Told o area plan
+answers-asked (refused n) area r plan a e =
+    let same : Request.Refused n ≡ Request.Asked plan = sym a ∙ e in
+    absurd (let z : _≡_ {A = ℕ} 0 1 = cc in omega arith)
+answers-asked (passed q) area r plan (own, is, planned, laid) e =
+    let same : Request.Asked own ≡ Request.Asked plan = sym is ∙ e in
+    let plans : own ≡ plan = cc in
+    record { asked = q; is = refl; planned = subst (Planned q) plans planned; laid = subst (λ (p : Plan). Laid p area) plans laid }
+
+-- the record can be loaded by it
+pub told-loading : {rec pat : List ℕ} {from to area : ℕ} {plan : Plan} (t : Told (askRequest rec pat from to area) area plan) → Parts rec pat from to (t .asked) → Loading (linesOf rec) plan area
+told-loading {rec} {plan = plan} t p =
+    let lines : linesOf rec ≡ t .asked .day .lines = ap linesIn (p .day-read) in
+    record {
+      lines-are = t .planned .lines-are ∙ sym (ap length lines);
+      first-is = t .planned .first-is;
+      boats-are = t .planned .boats-are ∙ (λ i. length (boatWords (sym (t .planned .keeps-are) i) (sym lines i)));
+      laid = t .laid;
+    }
+
+-- ---- the area after clearing
+
+-- words that are all zeros, as many as there were
+pub all-zero : (n m : ℕ) (v : List ℕ) → v ≡ replicate n 0 → length v ≡ m → v ≡ replicate m 0
+all-zero n m v e l = e ∙ ap (λ k. replicate k 0) (sym (length-replicate {A = ℕ} n 0) ∙ (sym (ap length e) ∙ l))

@@ -1,0 +1,159 @@
+-- Document 01's starred rows, "A day at the hut", computed from the bytes, of the definitions that the promises of the finder and the
+-- checker cite: one table, one theorem, `rows-right`. `more-right` has rows that the starred ones do not tell apart. Nothing to believe.
+use mathlib.Core.Path.{_≡_, refl}
+use mathlib.Core.Bool.{Bool, true, false, cond, not, _&&_}
+use mathlib.Core.List.{List, [], _∷_, _++_}
+use Prim.Native.Nat.{ℕ}
+use lib.Dec.{eqb}
+use Rattle.meaning.specs.Outcome.{Outcome, refused, passed}
+use Rattle.meaning.specs.Record.{boatsAfter, entryAt, linesFrom, readRecord}
+use Rattle.meaning.specs.Pattern.{readPattern, readAt, commandAt, shapeOf}
+use Rattle.meaning.specs.Request.{searchSize, askRequest}
+use Rattle.request.specs.Codes.{codes}
+use Rattle.search.specs.Plain.{solve, found, news, look, bfs, chosen, pick, first, next, level, nearest, lesser, isAt, memb, nub, filt, flat, count}
+use Rattle.search.specs.Product.{stacks, state, placeOf, posOf, stackOf, succs, preds}
+use Rattle.search.specs.Answer.{setting, starts, answer}
+use Rattle.search.specs.Check.{exist, moved, check}
+use Rattle.checker.specs.Reply.{checkOf}
+use Rattle.finder.specs.Reply.{Finding, stopped, nowhere, chain, too-long, findOf}
+
+-- ---- the day's records and patterns, in bytes
+
+-- from, kind, class, sail number and to, each below 256
+line-bytes : ℕ → ℕ → ℕ → ℕ → ℕ → List ℕ
+line-bytes from kind class sail to = 0x02 ∷ 0 ∷ from ∷ kind ∷ class ∷ 0 ∷ 0 ∷ sail ∷ 0 ∷ to ∷ []
+
+head-R : List ℕ
+head-R =
+    0x01 ∷ 0 ∷ 4
+    ∷ (line-bytes 0 1 1 150 1 ++ (line-bytes 0 1 2 150 1 ++ (line-bytes 1 2 2 150 2 ++ (line-bytes 1 2 1 150 2 ++ line-bytes 2 3 1 150 2))))
+
+R : List ℕ
+R = head-R ++ (line-bytes 2 4 2 150 3 ++ (line-bytes 2 4 1 151 3 ++ (0x00 ∷ [])))
+
+-- R with line 7
+R-more : List ℕ
+R-more = head-R ++ (line-bytes 2 4 2 150 3 ++ (line-bytes 2 4 1 151 3 ++ (line-bytes 2 4 1 150 3 ++ (0x00 ∷ []))))
+
+-- R without line 5
+R-less : List ℕ
+R-less = head-R ++ (line-bytes 2 4 1 151 3 ++ (0x00 ∷ []))
+
+T : List ℕ
+T = 0x01 ∷ 0 ∷ 1 ∷ (line-bytes 0 1 1 1 0 ++ (line-bytes 0 1 1 2 0 ++ (0x00 ∷ [])))
+
+E : List ℕ
+E = 0x01 ∷ 0 ∷ 1 ∷ 0x00 ∷ []
+
+P : List ℕ
+P = 0x27 ∷ 1 ∷ 0 ∷ 0x25 ∷ 0x22 ∷ 2 ∷ 0 ∷ 0x25 ∷ 0x26 ∷ 0x22 ∷ 3 ∷ 0 ∷ 0x22 ∷ 4 ∷ 0 ∷ []
+
+S : List ℕ
+S = 0x27 ∷ 1 ∷ 0 ∷ 0x25 ∷ 0x27 ∷ 1 ∷ 0 ∷ 0x23 ∷ 1 ∷ 0 ∷ 0x22 ∷ 1 ∷ 0 ∷ []
+
+-- ---- the table
+
+-- record, pattern, from, to; a chain to check, or the entries of the output; and the reply, with a work area of 16,384 words
+data Row : Type 0 where
+  finds : List ℕ → List ℕ → ℕ → ℕ → ℕ → Finding → Row
+  checks : List ℕ → List ℕ → ℕ → ℕ → List ℕ → Outcome Bool → Row
+
+rows : List Row
+rows =
+    finds R P 0 3 16 (chain (1 ∷ 2 ∷ 5 ∷ []))
+    ∷ finds R-more P 0 3 16 (chain (0 ∷ 3 ∷ 7 ∷ []))
+    ∷ finds R-less P 0 3 16 nowhere
+    ∷ checks R P 0 3 (0 ∷ 2 ∷ 5 ∷ []) (passed false)
+    ∷ checks T S 0 0 (0 ∷ 1 ∷ 0 ∷ 0 ∷ []) (passed true)
+    ∷ checks T S 0 0 (0 ∷ 1 ∷ 0 ∷ 1 ∷ []) (passed false)
+    ∷ finds T S 0 0 16 (chain (0 ∷ 0 ∷ 1 ∷ 0 ∷ []))
+    ∷ finds E (0x20 ∷ []) 0 0 16 (chain [])
+    ∷ finds E (0x21 ∷ 3 ∷ []) 0 0 16 nowhere
+    ∷ finds R (0x26 ∷ 0x20 ∷ []) 0 1 16 nowhere
+    ∷ []
+
+-- ---- the test of a row
+
+sameChain : List ℕ → List ℕ → Bool
+sameChain [] [] = true
+sameChain [] (y ∷ ys) = false
+sameChain (x ∷ xs) [] = false
+sameChain (x ∷ xs) (y ∷ ys) = cond (eqb x y) (sameChain xs ys) false
+
+isStopped : Finding → ℕ → Bool
+isStopped (stopped m) n = eqb m n
+isStopped nowhere n = false
+isStopped (chain c) n = false
+isStopped (too-long m) n = false
+
+isNowhere : Finding → Bool
+isNowhere (stopped m) = false
+isNowhere nowhere = true
+isNowhere (chain c) = false
+isNowhere (too-long m) = false
+
+isChain : Finding → List ℕ → Bool
+isChain (stopped m) d = false
+isChain nowhere d = false
+isChain (chain c) d = sameChain c d
+isChain (too-long m) d = false
+
+isLong : Finding → ℕ → Bool
+isLong (stopped m) n = false
+isLong nowhere n = false
+isLong (chain c) n = false
+isLong (too-long m) n = eqb m n
+
+sameFinding : Finding → Finding → Bool
+sameFinding x (stopped n) = isStopped x n
+sameFinding x nowhere = isNowhere x
+sameFinding x (chain d) = isChain x d
+sameFinding x (too-long n) = isLong x n
+
+agrees : Bool → Bool → Bool
+agrees true b = b
+agrees false b = not b
+
+sameCheck : Outcome Bool → Outcome Bool → Bool
+sameCheck (refused n) (refused m) = eqb n m
+sameCheck (refused n) (passed b) = false
+sameCheck (passed a) (refused m) = false
+sameCheck (passed a) (passed b) = agrees a b
+
+right : Row → Bool
+right (finds rec pat a b room f) = sameFinding (findOf rec pat a b 16384 room) f
+right (checks rec pat a b c o) = sameCheck (checkOf rec pat a b c 16384) o
+
+allRight : List Row → Bool
+allRight [] = true
+allRight (r ∷ rs) = right r && allRight rs
+
+rows-right : allRight rows ≡ true
+unfolding allRight right sameCheck agrees sameFinding isStopped isNowhere isChain isLong sameChain rows R R-more R-less head-R line-bytes T E P S findOf checkOf askRequest readRecord linesFrom entryAt readPattern readAt commandAt shapeOf searchSize boatsAfter codes solve found news look bfs chosen pick first next level nearest lesser isAt memb nub filt flat count stacks state placeOf posOf stackOf succs preds setting starts answer exist moved check
+rows-right = refl
+
+-- ---- more rows
+
+more : List Row
+more =
+    -- an output that is one entry short, and one that just holds the chain
+    finds R P 0 3 2 (too-long 3)
+    ∷ finds R P 0 3 3 (chain (1 ∷ 2 ∷ 5 ∷ []))
+    ∷ finds E (0x20 ∷ []) 0 0 0 (chain [])
+    -- places are asked about after the pattern
+    ∷ finds R P 0 4 16 (stopped 15)
+    ∷ finds R (0x22 ∷ 1 ∷ 0 ∷ []) 0 4 16 (stopped 12)
+    ∷ checks R P 0 3 (1 ∷ 2 ∷ 5 ∷ []) (passed true)
+    ∷ checks R P 0 2 (1 ∷ 2 ∷ 5 ∷ []) (passed false)
+    ∷ checks R P 0 3 (1 ∷ 2 ∷ []) (passed false)
+    -- a line that does not exist, after lines that do not join; only where 15 is passed
+    ∷ checks R P 0 3 (0 ∷ 5 ∷ 7 ∷ []) (refused 18)
+    ∷ checks R P 0 4 (7 ∷ []) (refused 15)
+    -- the empty chain leads from a place to itself
+    ∷ checks R (0x26 ∷ 0x20 ∷ []) 0 0 [] (passed true)
+    ∷ checks R (0x26 ∷ 0x20 ∷ []) 0 1 [] (passed false)
+    ∷ []
+
+more-right : allRight more ≡ true
+unfolding allRight right sameCheck agrees sameFinding isStopped isNowhere isChain isLong sameChain more R R-more R-less head-R line-bytes T E P S findOf checkOf askRequest readRecord linesFrom entryAt readPattern readAt commandAt shapeOf searchSize boatsAfter codes solve found news look bfs chosen pick first next level nearest lesser isAt memb nub filt flat count stacks state placeOf posOf stackOf succs preds setting starts answer exist moved check
+more-right = refl
