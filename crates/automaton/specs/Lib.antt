@@ -2,7 +2,6 @@ pub mod Listed
 pub mod Automaton
 pub mod Columns
 pub mod Masks
-pub mod Compiling
 pub mod Runs
 pub mod Scope
 pub mod Placed

@@ -20,14 +20,14 @@ use Rattle.search.specs.Check.{exist, moved, moved-members}
 use Rattle.search.specs.Along.{goal, starting}
 use Rattle.search.specs.Loops.{loop, turns, loop-append, loop-flat, loop-same}
 use Rattle.search.specs.Table.{Search, blank, push}
-use Rattle.workspace.specs.Area.{stretch, found, outside, Outside, Ready, Step, Under}
+use Rattle.states.specs.Area.{stretch, found, outside, Outside, Ready, Step, Under}
 use Rattle.search.specs.Product.{Setting, succs}
 use Rattle.search.specs.Loaded.{settingIn}
 use Rattle.search.specs.Moves.{visit, onward, push-law}
 use Rattle.workspace.specs.Chosen.{firstStates}
-use Rattle.workspace.specs.Spots.{front, Fit, nextTurn}
-use Rattle.workspace.proofs.Stretches.{stretch-none, stretch-get, stretch-set, stretch-below, stretch-above, stretch-push}
-use Rattle.workspace.proofs.Changes.{blank-good, under-front, ready-state, ready-long}
+use Rattle.states.specs.Spots.{front, Fit, nextTurn}
+use Rattle.states.proofs.Stretches.{stretch-none, stretch-get, stretch-set, stretch-below, stretch-above, stretch-push}
+use Rattle.states.proofs.Changes.{blank-good, under-front, ready-state, ready-long}
 use Rattle.checker.specs.Walk.{seeded, stepped, walked, marks, Alive, Advanced, frontierAt, frontier, asideOf, wiped, Aside, Listed, listTurn, Fresh}
 use Rattle.checker.proofs.Sets.{seeded-wiped, step-low, walked-marks, memb-not}
 use Rattle.checker.proofs.Steps.{succs-low, begin-seeded, begins-are, begins-low, goal-low}

@@ -17,11 +17,11 @@ use Rattle.search.specs.Along.{goal, starting}
 use Rattle.search.specs.Loaded.{settingIn}
 use Rattle.search.specs.Check.{exist, moved, check}
 use Rattle.search.specs.ReadBack.{loaded-check}
-use Rattle.workspace.specs.Area.{stretch, found, Ready}
+use Rattle.states.specs.Area.{stretch, found, Ready}
 use Rattle.workspace.specs.Posed.{Posed}
-use Rattle.workspace.specs.Spots.{front}
-use Rattle.workspace.proofs.Stretches.{stretch-none}
-use Rattle.workspace.proofs.Changes.{blank-good}
+use Rattle.states.specs.Spots.{front}
+use Rattle.states.proofs.Stretches.{stretch-none}
+use Rattle.states.proofs.Changes.{blank-good}
 use Rattle.workspace.proofs.Posing.{posed-plan, posed-tables, posed-zero}
 use Rattle.checker.specs.Walk.{marks, Fresh}
 

@@ -22,9 +22,9 @@ use Rattle.search.specs.Along.{goal, starting}
 use Rattle.search.specs.Loaded.{settingIn}
 use Rattle.search.specs.Moves.{visit, visit-any}
 use Rattle.workspace.specs.Chosen.{firstStates, first-law}
-use Rattle.workspace.specs.Spots.{front, Fit, nextTurn}
+use Rattle.states.specs.Spots.{front, Fit, nextTurn}
 use Rattle.search.specs.Front.{line-at, stateIn, state-in}
-use Rattle.workspace.proofs.Bounds.{state-low, power-pos, power-fits, stacks-pos}
+use Rattle.states.proofs.Bounds.{state-low, power-pos, power-fits, stacks-pos}
 use Rattle.workspace.proofs.Firsts.{first-states}
 use Rattle.checker.specs.Walk.{seeded}
 

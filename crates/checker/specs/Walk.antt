@@ -12,7 +12,7 @@ use Rattle.request.specs.declared.Plan.{Plan}
 use Rattle.search.specs.Plain.{flat}
 use Rattle.search.specs.Loops.{loop}
 use Rattle.search.specs.Table.{Search, blank, push}
-use Rattle.workspace.specs.Area.{stretch, found, Ready}
+use Rattle.states.specs.Area.{stretch, found, Ready}
 use Rattle.workspace.specs.Posed.{Posed}
 use Rattle.search.specs.Product.{Setting}
 use Rattle.search.specs.Check.{check}

@@ -10,11 +10,11 @@ ghost use Rattle.automaton.specs.Columns.{columns, members};
 ghost use Rattle.request.specs.Layout.{Laid};
 ghost use Rattle.search.specs.Loops.{turns};
 ghost use Rattle.search.specs.Plain.{memb};
-ghost use Rattle.workspace.specs.Area.{Ready, Step};
+ghost use Rattle.states.specs.Area.{Ready, Step};
 ghost use Rattle.search.specs.Product.{succs};
 ghost use Rattle.search.specs.Along.{goal, starting};
 ghost use Rattle.search.specs.Loaded.{settingIn};
-ghost use Rattle.workspace.specs.Spots.{front, Fit};
+ghost use Rattle.states.specs.Spots.{front, Fit};
 ghost use Rattle.workspace.specs.Posed.{SomePosed};
 ghost use Rattle.search.specs.Check.{exist, moved};
 ghost use Rattle.checker.specs.Walk.{stepped, walked, marks, Alive, Advanced, frontierAt, asideOf, Aside, Listed, listTurn, Fresh, RightFor};
@@ -51,9 +51,9 @@ fn set_aside(work: &mut [u32], plan: Plan, i: usize)
     requires { ⌜ (i < plan .size) × (frontierAt plan (now work) i < plan .size) ⌝ }
     ensures { λ _. ⌜ now (work .exit) ≡ asideOf plan i (now (work .entry)) ⌝ }
 {
-    let s = workspace::word(work, plan.base + plan.size + plan.size + i);
-    workspace::write(work, plan.base, plan.size, i, s);
-    workspace::write(work, plan.base + plan.size, plan.size, s as usize, 0);
+    let s = states::word(work, plan.base + plan.size + plan.size + i);
+    states::write(work, plan.base, plan.size, i, s);
+    states::write(work, plan.base + plan.size, plan.size, s as usize, 0);
 }
 
 // All states of the frontier come into the list, and nothing is marked.
@@ -87,7 +87,7 @@ fn gather(
 {
     let mut t = 0;
     for j in 0..count {
-        let s = workspace::word(work, plan.base + j) as usize;
+        let s = states::word(work, plan.base + j) as usize;
         t = workspace::from_state(
             work,
             plan,
@@ -213,8 +213,8 @@ fn leads(
         chain,
         starts,
     );
-    let end = workspace::state_at(plan, to, plan.done, 0);
-    if workspace::dist_at(work, plan.base + plan.size, plan.size, tail, end) == 0 {
+    let end = states::state_at(plan, to, plan.done, 0);
+    if states::dist_at(work, plan.base + plan.size, plan.size, tail, end) == 0 {
         return false;
     }
     true
@@ -241,7 +241,7 @@ fn accepted(
     let mut depths: [u8; 64] = [0; 64];
     let mut pushes: [u8; 64] = [0; 64];
     let mut follow: [u64; 64] = [0; 64];
-    let begin = automaton::compile(
+    let begin = compiler::compile(
         pattern,
         &mut kinds,
         &mut tests,

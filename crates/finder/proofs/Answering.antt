@@ -20,7 +20,7 @@ use Rattle.search.specs.Table.{Search}
 use Rattle.search.specs.ReadBack.{loaded-finish}
 use Rattle.workspace.specs.Chosen.{firstStates}
 use Rattle.workspace.specs.Posed.{Posed}
-use Rattle.workspace.specs.Spots.{front}
+use Rattle.states.specs.Spots.{front}
 use Rattle.workspace.proofs.Firsts.{first-states}
 use Rattle.workspace.proofs.Posing.{posed-plan, posed-tables}
 use Rattle.finder.specs.Reply.{stopped, settled, findOf}

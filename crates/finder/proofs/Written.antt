@@ -14,8 +14,8 @@ use Rattle.search.specs.PhaseTwo.{nearestWord, put, walk, forwardBy, forward}
 use Rattle.search.specs.Phases.{finish}
 use Rattle.search.specs.Product.{Setting}
 use Rattle.search.specs.Moves.{fromState}
-use Rattle.workspace.specs.Area.{stretch, found, Outside, outside, Step}
-use Rattle.workspace.specs.Spots.{front, backward}
+use Rattle.states.specs.Area.{stretch, found, Outside, outside, Step}
+use Rattle.states.specs.Spots.{front, backward}
 use Rattle.finder.specs.Searching.{searchedIn, Searched}
 
 walk-long : (E : ℕ → ℕ → ℕ → Search → Search) (m k lo : ℕ) (st : Search) → length (walk E m k lo st) ≡ k

@@ -7,7 +7,7 @@ ghost use Rattle.meaning.specs.Request.{askRequest, workAfter};
 ghost use Rattle.automaton.specs.Columns.{columns};
 ghost use Rattle.search.specs.Loaded.{settingIn};
 ghost use Rattle.workspace.specs.Chosen.{firstStates};
-ghost use Rattle.workspace.specs.Spots.{front, Fit};
+ghost use Rattle.states.specs.Spots.{front, Fit};
 ghost use Rattle.workspace.specs.Posed.{SomePosed};
 ghost use Rattle.finder.specs.Reply.{findReply, findOf, said, outAfter};
 ghost use Rattle.finder.specs.Demand.{Demand3};
@@ -85,7 +85,7 @@ fn search_loaded(
     let mut depths: [u8; 64] = [0; 64];
     let mut pushes: [u8; 64] = [0; 64];
     let mut follow: [u64; 64] = [0; 64];
-    let begin = automaton::compile(
+    let begin = compiler::compile(
         pattern,
         &mut kinds,
         &mut tests,

@@ -20,10 +20,10 @@ use Rattle.search.specs.Product.{Setting}
 use Rattle.search.specs.Along.{goal}
 use Rattle.search.specs.Moves.{expand}
 use Rattle.search.specs.Loaded.{codeAt, wordAt}
-use Rattle.workspace.specs.Spots.{front, Starts, Fit, spotIn, off, on, okay, boatOf, stateIn, stackAt, stackTurn, lineTurn, targetIn, Aimed, spotTurn, run, backward}
-use Rattle.workspace.specs.declared.Spot.{Spot}
-use Rattle.workspace.specs.declared.Target.{Target}
-use Rattle.workspace.proofs.Bounds.{power-pos}
+use Rattle.states.specs.Spots.{front, Starts, Fit, spotIn, off, on, okay, boatOf, stateIn, stackAt, stackTurn, lineTurn, targetIn, Aimed, spotTurn, run, backward}
+use Rattle.states.specs.declared.Spot.{Spot}
+use Rattle.states.specs.declared.Target.{Target}
+use Rattle.states.proofs.Bounds.{power-pos}
 
 -- ---- a stack undone, to u
 

@@ -25,9 +25,9 @@ use Rattle.search.specs.Product.{Setting, stacks, state, placeOf, posOf, stackO
 use Rattle.search.specs.Along.{goal}
 use Rattle.search.specs.Loaded.{codeAt, wordAt, lineIn, linesIn, boatWordAt, settingIn}
 use Rattle.search.specs.Moves.{overStacks, overLines, expand, overNext, onward}
-use Rattle.workspace.specs.Spots.{wordsCompared, metBy, spotIn, off, offBy, on, onBy, okay, boatOf, stateIn, stackAt, stackTurn, lineTurn, nextTurn, targetIn, spotTurn}
-use Rattle.workspace.specs.declared.Spot.{Spot}
-use Rattle.workspace.specs.declared.Target.{Target}
+use Rattle.states.specs.Spots.{wordsCompared, metBy, spotIn, off, offBy, on, onBy, okay, boatOf, stateIn, stackAt, stackTurn, lineTurn, nextTurn, targetIn, spotTurn}
+use Rattle.states.specs.declared.Spot.{Spot}
+use Rattle.states.specs.declared.Target.{Target}
 
 -- ---- a body may be changed for one that does the same at each number that the loop comes to
 

@@ -1,7 +1,3 @@
-pub mod Stretches
-pub mod Changes
-pub mod Bounds
-pub mod Comparing
 pub mod Bridge
 pub mod Visits
 pub mod Backs

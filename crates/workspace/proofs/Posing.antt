@@ -13,7 +13,7 @@ use Rattle.meaning.specs.Request.{Asked, askRequest}
 use Rattle.record.specs.Fit.{record-fits}
 use Rattle.record.specs.Whole.{linesIn, linesOf}
 use Rattle.automaton.specs.Columns.{Columns, Compiled}
-use Rattle.automaton.specs.Compiling.{Small, rowAt}
+use Rattle.compiler.specs.Compiling.{Small, rowAt}
 use Rattle.automaton.specs.Limits.{compiled-depth}
 use Rattle.request.specs.Codes.{codes, codes-length}
 use Rattle.request.specs.Layout.{Laid, lineWord, fromIn, toIn, boatWords, loadedOf}
@@ -24,10 +24,10 @@ use Rattle.search.specs.Loaded.{wordAt, settingIn}
 use Rattle.search.specs.Answer.{setting}
 use Rattle.search.specs.Front.{line-at, tables}
 use Rattle.search.specs.ReadBack.{Planned, loaded-same}
-use Rattle.workspace.specs.Area.{stretch}
-use Rattle.workspace.specs.Spots.{front, Fit}
+use Rattle.states.specs.Area.{stretch}
+use Rattle.states.specs.Spots.{front, Fit}
 use Rattle.workspace.specs.Posed.{Posed}
-use Rattle.workspace.proofs.Stretches.{stretch-get, stretch-length}
+use Rattle.states.proofs.Stretches.{stretch-get, stretch-length}
 
 -- words g with zeros after them
 module _ (g : List ℕ) (n b : ℕ) (w : List ℕ) (is : w ≡ g ++ replicate n 0) (long : length g ≡ b) where

@@ -1,4 +1,2 @@
-pub mod Area
-pub mod Spots
 pub mod Chosen
 pub mod Posed

@@ -1,266 +1,23 @@
-// The search of a loaded record by an automaton's columns, inside one lent work area.
-// Each function that changes the area promises a `Step`: what the pair of stretches holds afterwards, and that every other word is as it was.
+// The loops of the search over a loaded record by an automaton's columns, inside one lent work area: both phases, and one line forward for the checker.
 ghost use mathlib.Core.Path.{_≡_};
 ghost use Prim.Native.Nat.{ℕ, suc, _+_, _*_, _-_, _^_, _/_, _%_, _≤_, _<_};
 ghost use lib.Dec.{eqb};
 ghost use mathlib.Core.List.{_++_};
-ghost use lib.ListN.{length, getD, set, replicate, drop};
+ghost use lib.ListN.{length, getD, drop};
 ghost use Rattle.automaton.specs.Columns.{columns};
 ghost use Rattle.automaton.specs.Shape.{deeper};
 ghost use Rattle.request.specs.Layout.{Laid};
 ghost use Rattle.search.specs.Loops.{loop, turns};
 ghost use Rattle.search.specs.Table.{blank, push};
-ghost use Rattle.workspace.specs.Area.{stretch, patch, found, Ready, Step};
-ghost use Rattle.search.specs.Loaded.{boatWordAt, settingIn};
+ghost use Rattle.states.specs.Area.{stretch, found, Ready, Step};
+ghost use Rattle.search.specs.Loaded.{settingIn};
 ghost use Rattle.search.specs.Moves.{visit, onward, expand, fromState};
 ghost use Rattle.search.specs.PhaseTwo.{lesserWord, nearestWord, put, gather, try, walk};
 ghost use Rattle.workspace.specs.Chosen.{firstStates, nearTurn, tryTable};
-ghost use Rattle.workspace.specs.Spots.{front, Fit, toldShown, wordsCompared, metBy, spotIn, Sane, off, on, okay, stackAt, stackTurn, lineTurn, nextTurn, targetIn, Aimed, Stacks, Starts, spotTurn, run, backward};
+ghost use Rattle.states.specs.Spots.{front, Fit, Sane, on, stackAt, stackTurn, lineTurn, nextTurn, Aimed, Stacks, Starts, spotTurn, run, backward};
 use request::Plan;
-
-// ---- the work area
-
-// Word `i` of a part becomes `v`.
-fn put(part: &mut [u32], i: usize, v: u32)
-    requires { ⌜ i < length (now part) ⌝ }
-    ensures { λ _. ⌜ now (part .exit) ≡ set (now (part .entry)) i v ⌝ }
-{
-    part[i] = v;
-}
-
-// Word `i` of the stretch of `size` words from word `base` on becomes `v`.
-pub fn write(work: &mut [u32], base: usize, size: usize, i: usize, v: u32)
-    requires { ⌜ (base + size ≤ length (now work)) × (i < size) ⌝ }
-    ensures { λ _. ⌜ now (work .exit) ≡ set (now (work .entry)) (base + i) v ⌝ }
-{
-    put(&mut work[base..base + size], i, v);
-}
-
-// All words of `part` become 0.
-fn zero(part: &mut [u32])
-    ensures { λ _. ⌜ now (part .exit) ≡ replicate (length (now (part .entry))) 0 ⌝ }
-{
-    let mut i = 0;
-    while i < part.len() {
-        part[i] = 0;
-        i += 1;
-    }
-}
-
-// All words of the stretch of `size` words from word `base` on become 0.
-pub fn clear_stretch(work: &mut [u32], base: usize, size: usize)
-    requires { ⌜ base + size ≤ length (now work) ⌝ }
-    ensures { λ _. ⌜ now (work .exit) ≡ patch base size (replicate size 0) (now (work .entry)) ⌝ }
-{
-    zero(&mut work[base..base + size]);
-}
-
-// Word `i` of the area.
-pub fn word(work: &[u32], i: usize) -> u32
-    requires { ⌜ i < length (now work) ⌝ }
-    ensures { λ r. ⌜ r ≡ getD (now (work .entry)) i 0 ⌝ }
-{
-    work[i]
-}
-
-// The state `s` gets the word `d` and comes into the queue, unless it has a word. Returns how many are in the queue then.
-pub fn push_if_new(
-    work: &mut [u32],
-    base: usize,
-    size: usize,
-    d: u32,
-    s: usize,
-    tail: usize,
-) -> usize
-    requires { ⌜ Ready base size tail (now work) ⌝ }
-    requires { ⌜ (s < size) × (0 < d) × (d ≤ suc tail) ⌝ }
-    ensures { λ r. ⌜ Step base size (push d s) tail (now (work .entry)) r (now (work .exit)) ⌝ }
-{
-    let i = base + s;
-    if work[i] == 0 {
-        write(work, base, size, s, d);
-        write(work, base + size, size, tail, s as u32);
-        tail + 1
-    } else {
-        tail
-    }
-}
-
-// The state at place `i` of the queue.
-pub fn waiting(work: &[u32], base: usize, size: usize, tail: usize, i: usize) -> usize
-    requires { ⌜ Ready base size tail (now work) ⌝ }
-    requires { ⌜ i < tail ⌝ }
-    ensures { λ r. ⌜ (r ≡ getD (found base size tail (now (work .entry)) .queue) i 0) × (r < size) ⌝ }
-{
-    let k = base + size + i;
-    work[k] as usize
-}
-
-// The word of the state `s`.
-pub fn dist_at(work: &[u32], base: usize, size: usize, tail: usize, s: usize) -> u32
-    requires { ⌜ Ready base size tail (now work) ⌝ }
-    requires { ⌜ s < size ⌝ }
-    ensures { λ r. ⌜ (r ≡ getD (found base size tail (now (work .entry)) .dist) s 0) × (r ≤ tail) ⌝ }
-{
-    let k = base + s;
-    work[k]
-}
-
-// ---- boats
-
-// What comparing two boats tells.
-pub enum Told {
-    SameBoat,
-    OtherBoat,
-}
-
-// The boats that two words say, compared. Whoever compares boats does it here.
-pub fn compared(a: u32, b: u32) -> Told
-    ensures { λ r. ⌜ toldShown r ≡ wordsCompared a b ⌝ }
-{
-    if a == b {
-        Told::SameBoat
-    } else {
-        Told::OtherBoat
-    }
-}
-
-// Does the test, 2 for same and 3 for other, take what the comparison told? No other test takes anything here.
-pub fn meets(test: u8, told: Told) -> bool
-    ensures { λ r. ⌜ r ≡ metBy test (toldShown told) ⌝ }
-{
-    match told {
-        Told::SameBoat => test == 2,
-        Told::OtherBoat => test == 3,
-    }
-}
-
-// The word of a boat by its number: 0 where the number or the boats' stretch has none.
-pub fn boat_word(work: &[u32], plan: Plan, number: usize) -> u32
-    requires { ⌜ Laid plan (length (now work)) ⌝ }
-    requires { ⌜ number < 4294967296 ⌝ }
-    ensures { λ r. ⌜ r ≡ boatWordAt plan (front plan (now (work .entry))) number ⌝ }
-{
-    if number == 0 {
-        return 0;
-    }
-    let k = plan.first + (number - 1);
-    if k < plan.base {
-        return word(work, k);
-    }
-    0
-}
-
-// ---- a position by its numbers
-
-// Its kind and test, 1 where it pushes, radix^level of the level that the test reads, and radix^depth.
-pub struct Spot {
-    pub kind: usize,
-    pub test: u8,
-    pub push: u8,
-    pub level: usize,
-    pub weight: usize,
-}
-
-fn wide(x: u8) -> usize
-    ensures { λ r. ⌜ (r ≡ x) × (r < 256) ⌝ }
-{
-    x as usize
-}
-
-// radix^e
-pub fn power(radix: usize, e: usize) -> usize
-    requires { ⌜ (0 < radix) × (radix ^ e ≤ 1048576) ⌝ }
-    ensures { λ r. ⌜ r ≡ radix ^ e ⌝ }
-{
-    let mut p = 1;
-    let mut i = 0;
-    while i < e {
-        p = p * radix;
-        i += 1;
-    }
-    p
-}
-
-// Position `c`.
-pub fn spot_at(
-    kinds: &[u8; 64],
-    tests: &[u8; 64],
-    levels: &[u8; 64],
-    depths: &[u8; 64],
-    pushes: &[u8; 64],
-    follow: &[u64; 64],
-    radix: usize,
-    c: usize,
-) -> Spot
-    requires { ⌜ (c < 64) × (0 < radix) × (radix ^ getD (now levels) c 0 ≤ 1048576) × (radix ^ getD (now depths) c 0 ≤ 1048576) ⌝ }
-    ensures { λ r. ⌜ r ≡ spotIn (columns (now (kinds .entry)) (now (tests .entry)) (now (levels .entry)) (now (depths .entry)) (now (pushes .entry)) (now (follow .entry))) radix c ⌝ }
-{
-    let level = power(radix, wide(levels[c]));
-    let weight = power(radix, wide(depths[c]));
-    Spot {
-        kind: wide(kinds[c]),
-        test: tests[c],
-        push: pushes[c],
-        level,
-        weight,
-    }
-}
-
-// The stack before the position, of the stack after it.
-pub fn take_off(spot: Spot, v: usize) -> usize
-    requires { ⌜ 0 < spot .weight ⌝ }
-    ensures { λ r. ⌜ r ≡ off spot v ⌝ }
-{
-    if spot.push == 1 { v % spot.weight } else { v }
-}
-
-// The stack after the position, of the stack before it and the line's boat number.
-pub fn put_on(spot: Spot, u: usize, code: u32) -> usize
-    requires { ⌜ (spot .weight ≤ 1048576) × (u < 4294967296) ⌝ }
-    ensures { λ r. ⌜ r ≡ on spot u code ⌝ }
-{
-    if spot.push == 1 {
-        code as usize * spot.weight + u
-    } else {
-        u
-    }
-}
-
-// The test of the boat with the word `boat` against the stack before the position.
-pub fn passes(work: &[u32], plan: Plan, spot: Spot, boat: u32, v: usize) -> bool
-    requires { ⌜ Laid plan (length (now work)) ⌝ }
-    requires { ⌜ 0 < spot .level ⌝ }
-    ensures { λ r. ⌜ r ≡ okay plan (front plan (now (work .entry))) spot boat v ⌝ }
-{
-    if spot.test == 1 {
-        return true;
-    }
-    let kept = boat_word(work, plan, v / spot.level % plan.radix);
-    meets(spot.test, compared(boat, kept))
-}
-
-// The state at a place and a position with a stack.
-pub fn state_at(plan: Plan, place: usize, position: usize, stack: usize) -> usize
-    requires { ⌜ (plan .size ≡ plan .places * (plan .done + 1) * plan .stacks) × (plan .size ≤ 1048576) × (plan .done ≤ 63) ⌝ }
-    requires { ⌜ (place < plan .places) × (position ≤ plan .done) × (stack < plan .stacks) ⌝ }
-    ensures { λ r. ⌜ (r ≡ (place * (plan .done + 1) + position) * plan .stacks + stack) × (r < plan .size) ⌝ }
-{
-    (place * (plan.done + 1) + position) * plan.stacks + stack
-}
-
-// Is the state `s` at the place `q`? Asked without a division, since most lines start elsewhere.
-pub fn stands_at(plan: Plan, s: usize, q: usize) -> bool
-    requires { ⌜ (0 < plan .stacks) × ((plan .done + 1) * plan .stacks ≤ 1048576) × (plan .done ≤ 63) × (q < 4294967296) ⌝ }
-    ensures { λ r. ⌜ r ≡ eqb q (s / plan .stacks / (plan .done + 1)) ⌝ }
-{
-    let block = (plan.done + 1) * plan.stacks;
-    let low = q * block;
-    if s < low {
-        return false;
-    }
-    s - low < block
-}
+use states::Spot;
+use states::Target;
 
 // ---- forward, by one line from one state: marks and frontier are the pair after the distances
 
@@ -272,10 +29,10 @@ pub fn visit_state(work: &mut [u32], plan: Plan, want: u32, t: usize, tail: usiz
 {
     let marks = plan.base + plan.size;
     if want == 0 {
-        return push_if_new(work, marks, plan.size, 1, t, tail);
+        return states::push_if_new(work, marks, plan.size, 1, t, tail);
     }
-    if word(work, plan.base + t) == want {
-        return push_if_new(work, marks, plan.size, 1, t, tail);
+    if states::word(work, plan.base + t) == want {
+        return states::push_if_new(work, marks, plan.size, 1, t, tail);
     }
     tail
 }
@@ -298,8 +55,8 @@ pub fn one_next(
     ensures { λ r. ⌜ Step (plan .base + plan .size) (plan .size) (nextTurn plan (now (depths .entry)) mask (visit (stretch (plan .base) (plan .size) (now (work .entry))) want) to v k) tail (now (work .entry)) r (now (work .exit)) ⌝ }
 {
     if (mask >> k) % 2 == 1 {
-        let weight = power(plan.radix, wide(depths[k]));
-        let t = state_at(plan, to, k, v % weight);
+        let weight = states::power(plan.radix, states::wide(depths[k]));
+        let t = states::state_at(plan, to, k, v % weight);
         return visit_state(work, plan, want, t, tail);
     }
     tail
@@ -349,16 +106,16 @@ pub fn from_state(
     requires { ⌜ (i < plan .lines) × (s < plan .size) ⌝ }
     ensures { λ r. ⌜ Step (plan .base + plan .size) (plan .size) (onward (settingIn (columns (now (kinds .entry)) (now (tests .entry)) (now (levels .entry)) (now (depths .entry)) (now (pushes .entry)) (now (follow .entry))) plan (front plan (now (work .entry)))) (visit (stretch (plan .base) (plan .size) (now (work .entry))) want) i s) tail (now (work .entry)) r (now (work .exit)) ⌝ }
 {
-    let line = word(work, plan.words + i) as usize;
-    if stands_at(plan, s, line / 16384) {
+    let line = states::word(work, plan.words + i) as usize;
+    if states::stands_at(plan, s, line / 16384) {
         let at = s / plan.stacks % (plan.done + 1);
-        let spot = spot_at(kinds, tests, levels, depths, pushes, follow, plan.radix, at);
+        let spot = states::spot_at(kinds, tests, levels, depths, pushes, follow, plan.radix, at);
         if line % 16 == spot.kind {
             let v = s % plan.stacks;
-            let code = word(work, plan.codes + i);
-            let boat = boat_word(work, plan, code as usize);
-            if passes(work, plan, spot, boat, v) {
-                let u = put_on(spot, v, code);
+            let code = states::word(work, plan.codes + i);
+            let boat = states::boat_word(work, plan, code as usize);
+            if states::passes(work, plan, spot, boat, v) {
+                let u = states::put_on(spot, v, code);
                 return over_next(
                     work,
                     plan,
@@ -376,32 +133,6 @@ pub fn from_state(
 }
 
 // ---- backward
-
-// A state that is expanded: its place, its position, the position's depth, radix^depth, and its stack cut to that depth.
-pub struct Target {
-    pub place: usize,
-    pub position: usize,
-    pub depth: usize,
-    pub weight: usize,
-    pub stack: usize,
-}
-
-// The state `t` by its numbers.
-pub fn target_of(depths: &[u8; 64], plan: Plan, t: usize) -> Target
-    requires { ⌜ (0 < plan .stacks) × (0 < plan .radix) × (plan .done ≤ 63) × ((k : ℕ) → k ≤ plan .done → plan .radix ^ getD (now depths) k 0 ≤ 1048576) ⌝ }
-    ensures { λ r. ⌜ r ≡ targetIn (now (depths .entry)) plan t ⌝ }
-{
-    let position = t / plan.stacks % (plan.done + 1);
-    let depth = wide(depths[position]);
-    let weight = power(plan.radix, depth);
-    Target {
-        place: t / plan.stacks / (plan.done + 1),
-        position,
-        depth,
-        weight,
-        stack: t % plan.stacks % weight,
-    }
-}
 
 // One stack `v` after the position: it is undone for the line's boat, and the state before is pushed.
 pub fn one_stack(
@@ -421,10 +152,10 @@ pub fn one_stack(
     requires { ⌜ (0 < d) × (d ≤ suc tail) × (home + v < plan .size) ⌝ }
     ensures { λ r. ⌜ Step (plan .base) (plan .size) (stackAt plan (front plan (now (work .entry))) spot d home code boat v) tail (now (work .entry)) r (now (work .exit)) ⌝ }
 {
-    let u = take_off(spot, v);
-    if put_on(spot, u, code) == v {
-        if passes(work, plan, spot, boat, u) {
-            return push_if_new(work, plan.base, plan.size, d, home + u, tail);
+    let u = states::take_off(spot, v);
+    if states::put_on(spot, u, code) == v {
+        if states::passes(work, plan, spot, boat, u) {
+            return states::push_if_new(work, plan.base, plan.size, d, home + u, tail);
         }
     }
     tail
@@ -475,12 +206,12 @@ pub fn one_line(
     requires { ⌜ (0 < d) × (d ≤ suc tail) × (c ≤ plan .done) × (i < plan .lines) × Stacks count (target .weight) (target .stack) (plan .stacks) ⌝ }
     ensures { λ r. ⌜ Step (plan .base) (plan .size) (lineTurn plan (front plan (now (work .entry))) spot target d c count i) tail (now (work .entry)) r (now (work .exit)) ⌝ }
 {
-    let line = word(work, plan.words + i) as usize;
+    let line = states::word(work, plan.words + i) as usize;
     if line / 16 % 1024 == target.place {
         if line % 16 == spot.kind {
-            let code = word(work, plan.codes + i);
-            let boat = boat_word(work, plan, code as usize);
-            let home = state_at(plan, line / 16384, c, 0);
+            let code = states::word(work, plan.codes + i);
+            let boat = states::boat_word(work, plan, code as usize);
+            let home = states::state_at(plan, line / 16384, c, 0);
             return over_stacks(
                 work,
                 plan,
@@ -529,9 +260,9 @@ fn leaves_of(depth: u8, push: u8) -> usize
     ensures { λ r. ⌜ r ≡ deeper (eqb push 1) depth ⌝ }
 {
     if push == 1 {
-        wide(depth) + 1
+        states::wide(depth) + 1
     } else {
-        wide(depth)
+        states::wide(depth)
     }
 }
 
@@ -540,7 +271,11 @@ fn stacks_over(radix: usize, deep: usize, e: usize) -> usize
     requires { ⌜ (0 < radix) × (radix ^ (deep - e) ≤ 1048576) ⌝ }
     ensures { λ r. ⌜ r ≡ radix ^ (deep - e) ⌝ }
 {
-    if e < deep { power(radix, deep - e) } else { 1 }
+    if e < deep {
+        states::power(radix, deep - e)
+    } else {
+        1
+    }
 }
 
 // The position `c`, if the target's may come after it: each line, for each stack that it can leave.
@@ -565,7 +300,7 @@ pub fn one_spot(
     ensures { λ r. ⌜ Step (plan .base) (plan .size) (spotTurn (columns (now (kinds .entry)) (now (tests .entry)) (now (levels .entry)) (now (depths .entry)) (now (pushes .entry)) (now (follow .entry))) plan (front plan (now (work .entry))) target d c) tail (now (work .entry)) r (now (work .exit)) ⌝ }
 {
     if (follow[c] >> target.position) % 2 == 1 {
-        let spot = spot_at(kinds, tests, levels, depths, pushes, follow, plan.radix, c);
+        let spot = states::spot_at(kinds, tests, levels, depths, pushes, follow, plan.radix, c);
         let count = stacks_over(plan.radix, leaves_of(depths[c], pushes[c]), target.depth);
         return over_lines(work, plan, spot, target, d, c, count, tail);
     }
@@ -591,7 +326,7 @@ pub fn expand_state(
     requires { ⌜ (0 < d) × (d ≤ suc tail) ⌝ }
     ensures { λ r. ⌜ Step (plan .base) (plan .size) (expand (settingIn (columns (now (kinds .entry)) (now (tests .entry)) (now (levels .entry)) (now (depths .entry)) (now (pushes .entry)) (now (follow .entry))) plan (front plan (now (work .entry)))) d t) tail (now (work .entry)) r (now (work .exit)) ⌝ }
 {
-    let target = target_of(depths, plan, t);
+    let target = states::target_of(depths, plan, t);
     let done = plan.done;
     let mut u = tail;
     for c in 0..done {
@@ -632,8 +367,8 @@ pub fn search_back(
     let mut t = tail;
     let mut head = 0;
     while head < t {
-        let s = waiting(work, plan.base, plan.size, t, head);
-        let d = dist_at(work, plan.base, plan.size, t, s) + 1;
+        let s = states::waiting(work, plan.base, plan.size, t, head);
+        let d = states::dist_at(work, plan.base, plan.size, t, s) + 1;
         t = expand_state(
             work,
             plan,
@@ -670,8 +405,15 @@ pub fn distances(
 {
     let base = plan.base;
     let size = plan.size;
-    clear_stretch(work, base, size);
-    let t = push_if_new(work, base, size, 1, state_at(plan, to, plan.done, 0), 0);
+    states::clear_stretch(work, base, size);
+    let t = states::push_if_new(
+        work,
+        base,
+        size,
+        1,
+        states::state_at(plan, to, plan.done, 0),
+        0,
+    );
     search_back(work, plan, kinds, tests, levels, depths, pushes, follow, t)
 }
 
@@ -697,8 +439,8 @@ fn one_first(work: &[u32], plan: Plan, begin: u64, from: usize, k: usize, v: u32
     ensures { λ r. ⌜ r ≡ nearTurn plan (stretch (plan .base) (plan .size) (now (work .entry))) begin from k v ⌝ }
 {
     if (begin >> k) % 2 == 1 {
-        let s = state_at(plan, from, k, 0);
-        return lesser(v, word(work, plan.base + s));
+        let s = states::state_at(plan, from, k, 0);
+        return lesser(v, states::word(work, plan.base + s));
     }
     v
 }
@@ -741,7 +483,7 @@ pub fn gather_line(
     let mut t = tail;
     let mut j = lo;
     while j < tail {
-        let s = waiting(work, marks, plan.size, t, j);
+        let s = states::waiting(work, marks, plan.size, t, j);
         t = from_state(
             work,
             plan,
@@ -876,7 +618,7 @@ pub fn chain_into(
     requires { ⌜ (from < plan .places) × (0 < nearest) × (nearest ≤ suc (length (now out))) ⌝ }
     ensures { λ _. ⌜ now (out .exit) ≡ walk (fromState (settingIn (columns (now (kinds .entry)) (now (tests .entry)) (now (levels .entry)) (now (depths .entry)) (now (pushes .entry)) (now (follow .entry))) plan (front plan (now (work .entry)))) (stretch (plan .base) (plan .size) (now (work .entry)))) (plan .lines) (nearest - 1) 0 (loop (put (stretch (plan .base) (plan .size) (now (work .entry))) nearest) (firstStates plan begin from) (blank (plan .size))) ++ drop (nearest - 1) (now (out .entry)) ⌝ }
 {
-    clear_stretch(work, plan.base + plan.size, plan.size);
+    states::clear_stretch(work, plan.base + plan.size, plan.size);
     let tail = over_next(work, plan, depths, begin, nearest, from, 0, 0);
     walk_lines(
         work,

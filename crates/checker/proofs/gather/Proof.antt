@@ -5,10 +5,10 @@ use native.Mathlib.Omega.{arith}
 use lib.ListN.{length, getD}
 use Rattle.automaton.specs.Columns.{columns}
 use Rattle.search.specs.Loops.{turns}
-use Rattle.workspace.specs.Area.{Under}
+use Rattle.states.specs.Area.{Under}
 use Rattle.search.specs.Loaded.{settingIn}
-use Rattle.workspace.specs.Spots.{front}
-use Rattle.workspace.proofs.Changes.{loop-start, loop-turn, loop-end, under-stretch, under-front}
+use Rattle.states.specs.Spots.{front}
+use Rattle.states.proofs.Changes.{loop-start, loop-turn, loop-end, under-stretch, under-front}
 use Rattle.checker.specs.Walk.{marks, listTurn}
 use Rattle.workspace.proofs.Backs.{fit-same}
 use Rattle.checker.proofs.Moving.{front-word}

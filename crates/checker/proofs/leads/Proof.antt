@@ -10,9 +10,9 @@ use Rattle.search.specs.Product.{succs}
 use Rattle.search.specs.Along.{goal, starting}
 use Rattle.search.specs.Check.{moved}
 use Rattle.search.specs.Loaded.{settingIn}
-use Rattle.workspace.specs.Spots.{front}
+use Rattle.states.specs.Spots.{front}
 use Rattle.search.specs.Front.{goal-in}
-use Rattle.workspace.proofs.Bounds.{stacks-pos}
+use Rattle.states.proofs.Bounds.{stacks-pos}
 use Rattle.checker.specs.Walk.{walked}
 use Rattle.workspace.proofs.Backs.{fit-same}
 use Rattle.checker.proofs.Moving.{begun, verdict}

@@ -5,7 +5,7 @@ use native.Mathlib.Omega.{arith}
 use Rattle.automaton.specs.Columns.{Columns, columns}
 use Rattle.search.specs.Loaded.{settingIn}
 use Rattle.search.specs.Product.{Setting}
-use Rattle.workspace.specs.Spots.{front}
+use Rattle.states.specs.Spots.{front}
 use Rattle.workspace.specs.Chosen.{firstStates}
 use Rattle.workspace.proofs.Backs.{fit-same}
 use Rattle.finder.proofs.Written.{tables-same, told-none, told-long, told-written}

@@ -6,11 +6,11 @@ use lib.ListN.{length}
 use Rattle.automaton.specs.Columns.{Columns, columns}
 use Rattle.request.specs.Layout.{Laid}
 use Rattle.search.specs.Table.{blank}
-use Rattle.workspace.specs.Area.{stretch}
-use Rattle.workspace.specs.Spots.{Fit}
+use Rattle.states.specs.Area.{stretch}
+use Rattle.states.specs.Spots.{Fit}
 use Rattle.workspace.specs.Chosen.{start-law}
 use Rattle.workspace.proofs.Backs.{fit-same}
-use Rattle.workspace.proofs.Changes.{cleared-under, step-cleared, step-under, under-front, under-stretch}
+use Rattle.states.proofs.Changes.{cleared-under, step-cleared, step-under, under-front, under-stretch}
 use borrow.Author.Needs.{needs}
 use Rattle.workspace.proofs.chain_into.Statement.{statement}
 use Rattle.workspace.proofs.chain_into.Tie as tie

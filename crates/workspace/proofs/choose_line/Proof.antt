@@ -4,15 +4,15 @@ use Prim.Native.Nat.{_+_, _-_, _≤_}
 use native.Mathlib.Nat.{sub-zero}
 use native.Mathlib.Omega.{arith}
 use Rattle.automaton.specs.Columns.{Columns, columns}
-use Rattle.workspace.specs.Area.{stretch, found, Under}
+use Rattle.states.specs.Area.{stretch, found, Under}
 use Rattle.search.specs.PhaseTwo.{Tried, try}
 use Rattle.search.specs.Loaded.{settingIn}
 use Rattle.search.specs.Moves.{fromState}
-use Rattle.workspace.specs.Spots.{front, Fit}
+use Rattle.states.specs.Spots.{front, Fit}
 use Rattle.workspace.specs.Chosen.{tryTable}
 use Rattle.workspace.proofs.Backs.{fit-same}
 use Rattle.workspace.proofs.Ahead.{tried-next, tried-table, tried-here, tried-none, table-of}
-use Rattle.workspace.proofs.Changes.{under-start, under-step, under-end, under-front, under-stretch, ready-long, step-count}
+use Rattle.states.proofs.Changes.{under-start, under-step, under-end, under-front, under-stretch, ready-long, step-count}
 use borrow.Author.Needs.{needs}
 use Rattle.workspace.proofs.choose_line.Statement.{statement}
 use Rattle.workspace.proofs.choose_line.Tie as tie

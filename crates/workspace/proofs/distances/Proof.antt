@@ -4,11 +4,11 @@ use Prim.Native.Nat.{_+_, _≤_}
 use native.Mathlib.Omega.{arith}
 use lib.ListN.{length}
 use Rattle.automaton.specs.Columns.{Columns, columns}
-use Rattle.workspace.specs.Spots.{front, Fit}
-use Rattle.workspace.proofs.Bounds.{stacks-pos}
+use Rattle.states.specs.Spots.{front, Fit}
+use Rattle.states.proofs.Bounds.{stacks-pos}
 use Rattle.workspace.proofs.Bridge.{goal-is}
 use Rattle.workspace.proofs.Backs.{fit-same, backward-is}
-use Rattle.workspace.proofs.Changes.{cleared-ready, step-cleared, step-as, step-then, step-under, under-front}
+use Rattle.states.proofs.Changes.{cleared-ready, step-cleared, step-as, step-then, step-under, under-front}
 use borrow.Author.Needs.{needs}
 use Rattle.workspace.proofs.distances.Statement.{statement}
 use Rattle.workspace.proofs.distances.Tie as tie

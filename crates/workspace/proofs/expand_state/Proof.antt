@@ -5,14 +5,14 @@ use native.Mathlib.Nat.{sub-zero}
 use native.Mathlib.Omega.{arith}
 use Rattle.automaton.specs.Columns.{Columns, columns}
 use Rattle.search.specs.Loops.{turns}
-use Rattle.workspace.specs.Area.{found, Under}
+use Rattle.states.specs.Area.{found, Under}
 use Rattle.search.specs.Loaded.{settingIn}
 use Rattle.search.specs.Moves.{expand}
-use Rattle.workspace.specs.Spots.{front, Fit, spotTurn}
-use Rattle.workspace.proofs.Bounds.{stacks-pos, power-small}
+use Rattle.states.specs.Spots.{front, Fit, spotTurn}
+use Rattle.states.proofs.Bounds.{stacks-pos, power-small}
 use Rattle.workspace.proofs.Bridge.{expand-is}
 use Rattle.workspace.proofs.Backs.{fit-same, aimed}
-use Rattle.workspace.proofs.Changes.{under-as, loop-turn, loop-end, under-front}
+use Rattle.states.proofs.Changes.{under-as, loop-turn, loop-end, under-front}
 use borrow.Author.Needs.{needs}
 use Rattle.workspace.proofs.expand_state.Statement.{statement}
 use Rattle.workspace.proofs.expand_state.Tie as tie

@@ -8,9 +8,9 @@ use lib.ListN.{length}
 use Rattle.automaton.specs.Columns.{Columns, columns}
 use Rattle.request.specs.Layout.{toIn}
 use Rattle.search.specs.Loaded.{boatWordAt}
-use Rattle.workspace.specs.Spots.{front, Fit}
-use Rattle.workspace.proofs.Bounds.{word-low, code-low, base-in, word-front, code-front, stacks-pos, power-small, block-small, stacks-small, spot-sane}
-use Rattle.workspace.proofs.Changes.{step-as, step-none}
+use Rattle.states.specs.Spots.{front, Fit}
+use Rattle.states.proofs.Bounds.{word-low, code-low, base-in, word-front, code-front, stacks-pos, power-small, block-small, stacks-small, spot-sane}
+use Rattle.states.proofs.Changes.{step-as, step-none}
 use Rattle.workspace.proofs.Bridge.{from-elsewhere, from-other-kind, from-refused, from-taken}
 use borrow.Author.Needs.{needs}
 use Rattle.workspace.proofs.from_state.Statement.{statement}

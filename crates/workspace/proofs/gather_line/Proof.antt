@@ -3,14 +3,14 @@ use Prim.Native.Nat.{_+_, _-_, _≤_}
 use native.Mathlib.Omega.{arith}
 use Rattle.automaton.specs.Columns.{Columns, columns}
 use Rattle.search.specs.Loops.{turns}
-use Rattle.workspace.specs.Area.{stretch, Under}
+use Rattle.states.specs.Area.{stretch, Under}
 use Rattle.search.specs.PhaseTwo.{gather}
 use Rattle.search.specs.Loaded.{settingIn}
 use Rattle.search.specs.Moves.{fromState}
-use Rattle.workspace.specs.Spots.{front, Fit}
+use Rattle.states.specs.Spots.{front, Fit}
 use Rattle.workspace.proofs.Backs.{fit-same}
 use Rattle.workspace.proofs.Ahead.{gatherTurn, gather-turns, gather-at}
-use Rattle.workspace.proofs.Changes.{under-as, loop-turn, loop-end, under-front, under-stretch, ready-long, step-as}
+use Rattle.states.proofs.Changes.{under-as, loop-turn, loop-end, under-front, under-stretch, ready-long, step-as}
 use borrow.Author.Needs.{needs}
 use Rattle.workspace.proofs.gather_line.Statement.{statement}
 use Rattle.workspace.proofs.gather_line.Tie as tie

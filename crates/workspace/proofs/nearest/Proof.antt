@@ -4,9 +4,9 @@ use Prim.Native.Nat.{_+_, _-_, _≤_}
 use native.Mathlib.Nat.{sub-zero}
 use native.Mathlib.Omega.{arith}
 use Rattle.search.specs.Loops.{turns}
-use Rattle.workspace.specs.Area.{stretch}
+use Rattle.states.specs.Area.{stretch}
 use Rattle.workspace.specs.Chosen.{nearTurn, nearest-law}
-use Rattle.workspace.proofs.Changes.{turns-none, turns-next}
+use Rattle.states.proofs.Changes.{turns-none, turns-next}
 use borrow.Author.Needs.{needs}
 use Rattle.workspace.proofs.nearest.Statement.{statement}
 use Rattle.workspace.proofs.nearest.Tie as tie

@@ -1,8 +1,8 @@
 -- `workspace::one_first` meets its contract: the state with the empty stack is in range, and its word stands among the distances. Assumes nothing.
 use mathlib.Core.Path.{sym, _∙_}
 use native.Mathlib.Omega.{arith}
-use Rattle.workspace.proofs.Bounds.{stacks-pos}
-use Rattle.workspace.proofs.Stretches.{stretch-get}
+use Rattle.states.proofs.Bounds.{stacks-pos}
+use Rattle.states.proofs.Stretches.{stretch-get}
 use Rattle.workspace.proofs.Ahead.{near-taken, near-passed}
 use borrow.Author.Needs.{needs}
 use Rattle.workspace.proofs.one_first.Statement.{statement}

@@ -6,9 +6,9 @@ use native.Mathlib.Omega.{arith}
 use lib.ListN.{length}
 use Rattle.request.specs.Layout.{fromIn}
 use Rattle.search.specs.Loaded.{boatWordAt}
-use Rattle.workspace.specs.Spots.{front}
-use Rattle.workspace.proofs.Bounds.{word-low, code-low, base-in, word-front, code-front, stacks-pos, state-low}
-use Rattle.workspace.proofs.Changes.{step-as, step-none}
+use Rattle.states.specs.Spots.{front}
+use Rattle.states.proofs.Bounds.{word-low, code-low, base-in, word-front, code-front, stacks-pos, state-low}
+use Rattle.states.proofs.Changes.{step-as, step-none}
 use Rattle.workspace.proofs.Backs.{line-elsewhere, line-other-kind, line-taken}
 use borrow.Author.Needs.{needs}
 use Rattle.workspace.proofs.one_line.Statement.{statement}

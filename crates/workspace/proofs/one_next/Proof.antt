@@ -3,8 +3,8 @@ use mathlib.Core.Path.{ap, _∙_}
 use Prim.Native.Nat.{_^_}
 use native.Mathlib.Nat.{mod-lt}
 use native.Mathlib.Omega.{arith}
-use Rattle.workspace.proofs.Bounds.{power-pos, power-fits, power-small}
-use Rattle.workspace.proofs.Changes.{step-as, step-none}
+use Rattle.states.proofs.Bounds.{power-pos, power-fits, power-small}
+use Rattle.states.proofs.Changes.{step-as, step-none}
 use Rattle.workspace.proofs.Visits.{next-taken, next-passed}
 use borrow.Author.Needs.{needs}
 use Rattle.workspace.proofs.one_next.Statement.{statement}

@@ -6,9 +6,9 @@ use lib.Dec.{eqb}
 use lib.ListN.{getD}
 use Rattle.automaton.specs.Columns.{Columns, columns}
 use Rattle.automaton.specs.Shape.{deeper}
-use Rattle.workspace.specs.Spots.{Fit}
-use Rattle.workspace.proofs.Bounds.{power-small, spot-sane, stacks-fit}
-use Rattle.workspace.proofs.Changes.{step-as, step-none}
+use Rattle.states.specs.Spots.{Fit}
+use Rattle.states.proofs.Bounds.{power-small, spot-sane, stacks-fit}
+use Rattle.states.proofs.Changes.{step-as, step-none}
 use Rattle.workspace.proofs.Backs.{spot-taken, spot-passed}
 use borrow.Author.Needs.{needs}
 use Rattle.workspace.proofs.one_spot.Statement.{statement}

@@ -1,8 +1,8 @@
 -- `workspace::one_stack` meets its contract: the stack undone is no larger, so the state before is in range. Assumes nothing.
 use mathlib.Core.Path.{sym, _∙_}
 use native.Mathlib.Omega.{arith}
-use Rattle.workspace.proofs.Bounds.{off-le}
-use Rattle.workspace.proofs.Changes.{step-as, step-none}
+use Rattle.states.proofs.Bounds.{off-le}
+use Rattle.states.proofs.Changes.{step-as, step-none}
 use Rattle.workspace.proofs.Backs.{stack-taken, stack-refused, stack-other}
 use borrow.Author.Needs.{needs}
 use Rattle.workspace.proofs.one_stack.Statement.{statement}

@@ -4,10 +4,10 @@ use Prim.Native.Nat.{_+_, _-_, _≤_}
 use native.Mathlib.Omega.{arith}
 use Rattle.request.specs.Layout.{Laid}
 use Rattle.search.specs.Loops.{turns}
-use Rattle.workspace.specs.Area.{stretch, Under}
+use Rattle.states.specs.Area.{stretch, Under}
 use Rattle.search.specs.Moves.{visit}
-use Rattle.workspace.specs.Spots.{nextTurn}
-use Rattle.workspace.proofs.Changes.{loop-start, loop-turn, loop-end, under-stretch}
+use Rattle.states.specs.Spots.{nextTurn}
+use Rattle.states.proofs.Changes.{loop-start, loop-turn, loop-end, under-stretch}
 use borrow.Author.Needs.{needs}
 use Rattle.workspace.proofs.over_next.Statement.{statement}
 use Rattle.workspace.proofs.over_next.Tie as tie

@@ -4,12 +4,12 @@ use Prim.Native.Nat.{_-_, _≤_}
 use native.Mathlib.Nat.{sub-zero}
 use native.Mathlib.Omega.{arith}
 use Rattle.automaton.specs.Columns.{Columns, columns}
-use Rattle.workspace.specs.Area.{Under}
+use Rattle.states.specs.Area.{Under}
 use Rattle.search.specs.Loaded.{settingIn}
 use Rattle.search.specs.Moves.{expand}
-use Rattle.workspace.specs.Spots.{front, Fit, run}
+use Rattle.states.specs.Spots.{front, Fit, run}
 use Rattle.workspace.proofs.Backs.{fit-same, run-none, run-next}
-use Rattle.workspace.proofs.Changes.{under-start, under-step, under-end, under-front, ready-long}
+use Rattle.states.proofs.Changes.{under-start, under-step, under-end, under-front, ready-long}
 use borrow.Author.Needs.{needs}
 use Rattle.workspace.proofs.search_back.Statement.{statement}
 use Rattle.workspace.proofs.search_back.Tie as tie

@@ -1,7 +1,7 @@
 -- `workspace::visit_state` meets its contract: a push, or nothing, as the word wanted says. Assumes nothing.
 use mathlib.Core.Path.{sym, _∙_}
-use Rattle.workspace.proofs.Stretches.{stretch-get}
-use Rattle.workspace.proofs.Changes.{step-as, step-none}
+use Rattle.states.proofs.Stretches.{stretch-get}
+use Rattle.states.proofs.Changes.{step-as, step-none}
 use Rattle.workspace.proofs.Visits.{visit-all, visit-taken, visit-passed}
 use borrow.Author.Needs.{needs}
 use Rattle.workspace.proofs.visit_state.Statement.{statement}

@@ -5,15 +5,15 @@ use Prim.Native.Nat.{_+_, _-_, _≤_, _<_}
 use native.Mathlib.Omega.{arith}
 use lib.ListN.{length, take, drop, length-set}
 use Rattle.automaton.specs.Columns.{Columns, columns}
-use Rattle.workspace.specs.Area.{stretch, found, Under}
+use Rattle.states.specs.Area.{stretch, found, Under}
 use Rattle.search.specs.PhaseTwo.{walk}
 use Rattle.search.specs.Loaded.{settingIn}
 use Rattle.search.specs.Moves.{fromState}
-use Rattle.workspace.specs.Spots.{front, Fit}
+use Rattle.states.specs.Spots.{front, Fit}
 use Rattle.workspace.specs.Chosen.{anything}
 use Rattle.workspace.proofs.Backs.{fit-same}
 use Rattle.workspace.proofs.Ahead.{anything-same, walk-on, walk-kept, walk-end}
-use Rattle.workspace.proofs.Changes.{under-start, under-step, under-front, under-stretch, ready-long}
+use Rattle.states.proofs.Changes.{under-start, under-step, under-front, under-stretch, ready-long}
 use borrow.Author.Needs.{needs}
 use Rattle.workspace.proofs.walk_lines.Statement.{statement}
 use Rattle.workspace.proofs.walk_lines.Tie as tie

@@ -1,0 +1,115 @@
+-- A pattern's nodes are its first command's and those of the patterns after it, and an entry says a node. Assumes nothing.
+use mathlib.Core.Path.{_≡_, refl, sym, _∙_, ap, subst}
+use mathlib.Core.Bool.{Bool, true, false, cond}
+use mathlib.Core.List.{List, [], _∷_, _++_}
+use mathlib.Core.Logic.{_⊎_, inl, inr}
+use mathlib.Core.Option.{Option, none, some}
+use Prim.Native.Nat.{ℕ, suc, _+_, _-_, _≤_}
+use native.Mathlib.Omega.{arith}
+use lib.Dec.{eqb}
+use lib.ListN.{length}
+use borrow.Author.Tests.{ne-eqb}
+use Rattle.meaning.specs.Pattern.{Rule, Pattern, nothing, line, test, same, other, either, then, commands, leaf, around, joined}
+use Rattle.automaton.specs.Automaton.{Node, Test, always, against, silent, taking, heads, enter, levelOf, testOf, compile}
+use Rattle.automaton.specs.Columns.{testIn}
+use Rattle.automaton.specs.Masks.{Marks, marks-none}
+use Rattle.automaton.specs.Scope.{Below, level-below}
+use Rattle.compiler.specs.Compiling.{OnePattern, mark, scopeIn, afterIn, afterFirst, Row, Says, firstNode, ruleCode}
+
+-- ---- a pattern's nodes, by its command
+
+pub compile-leaf : (code kind slot b : ℕ) (scope K : List ℕ) → compile (leaf code kind slot) b scope K ≡ firstNode (leaf code kind slot) b scope K ∷ []
+compile-leaf code kind slot b scope K = go (eqb code 0x20) (eqb code 0x21) (eqb code 0x22)
+  where
+    go : (t u v : Bool)
+        → let p = cond t nothing (cond u (line kind) (cond v (test same kind slot) (test other kind slot))) in
+        compile p b scope K ≡ firstNode p b scope K ∷ []
+    go true u v = refl
+    go false true v = refl
+    go false false true = refl
+    go false false false = refl
+
+pub compile-around : {code : ℕ} (kind slot b : ℕ) (x : Pattern) (scope K : List ℕ) → OnePattern code
+    → compile (around code kind slot x) b scope K ≡ firstNode (around code kind slot x) b scope K ∷ compile x (suc b) (scopeIn code slot scope) (afterIn code (heads x (suc b)) K)
+compile-around kind slot b x scope K (inl e) = rw e
+compile-around kind slot b x scope K (inr e) = rw e
+
+pub compile-joined : (code b : ℕ) (x y : Pattern) (scope K : List ℕ)
+    → compile (joined code x y) b scope K ≡ silent ∷ (compile x (suc b) scope (afterFirst code y (suc b + commands x) K) ++ compile y (suc b + commands x) scope K)
+compile-joined code b x y scope K = go (eqb code 0x24)
+  where
+    go : (t : Bool) → compile (cond t (either x y) (then x y)) b scope K ≡ silent ∷ (compile x (suc b) scope (cond t K (enter y (suc b + commands x) K)) ++ compile y (suc b + commands x) scope K)
+    go true = refl
+    go false = refl
+
+-- ---- the first command's node
+
+pub node-line : {code : ℕ} (kind slot b : ℕ) (scope K : List ℕ) → code ≡ 0x21 → firstNode (leaf code kind slot) b scope K ≡ taking kind always false scope K
+node-line kind slot b scope K e = rw e
+
+abbrev pub ruleOf : ℕ → Rule
+ruleOf code = cond (eqb code 0x22) same other
+
+pub node-test : {code : ℕ} (kind slot b : ℕ) (scope K : List ℕ) → (code ≡ 0x20 → ⊥) → (code ≡ 0x21 → ⊥)
+    → firstNode (leaf code kind slot) b scope K ≡ taking kind (testOf (ruleOf code) (levelOf slot scope)) false scope K
+node-test {code} kind slot b scope K h k = rw (ne-eqb code 0x20 h, ne-eqb code 0x21 k) (go (eqb code 0x22))
+  where
+    go : (t : Bool) → firstNode (cond t (test same kind slot) (test other kind slot)) b scope K ≡ taking kind (testOf (cond t same other) (levelOf slot scope)) false scope K
+    go true = refl
+    go false = refl
+
+-- ---- tests
+
+-- a slot that no keep has
+pub level-none : (r : Rule) (o : Option ℕ) → mark o ≡ 0 → testIn 0 0 ≡ testOf r o
+level-none r none e = refl
+level-none r (some j) e = absurd (omega (arith, e))
+
+against-rule : (t : Bool) (j : ℕ) → testIn (cond t 2 3) j ≡ against (cond t same other) j
+against-rule true j = refl
+against-rule false j = refl
+
+pub level-some : (code : ℕ) (o : Option ℕ) → (mark o ≡ 0 → ⊥) → testIn (ruleCode code) (mark o - 1) ≡ testOf (ruleOf code) o
+level-some code none h = absurd (h refl)
+level-some code (some j) h = let down : suc j - 1 ≡ j = omega arith in ap (testIn (ruleCode code)) down ∙ against-rule (eqb code 0x22) j
+
+-- the level is below the depth
+pub level-fits : (slot : ℕ) (scope : List ℕ) → mark (levelOf slot scope) ≤ length scope
+level-fits slot scope = go (levelOf slot scope) (level-below slot scope)
+  where
+    go : (o : Option ℕ) → Below o (length scope) → mark o ≤ length scope
+    go none h = omega arith
+    go (some j) h = omega (arith, h)
+
+-- ---- an entry says a node
+
+pub says-as : {x : Row} {n m : Node} → m ≡ n → Says x n → Says x m
+says-as {x} e h = subst (Says x) (sym e) h
+
+pub says-silent : {x : Row} → x .kind ≡ 0 → x .test ≡ 0 → x .level ≡ 0 → x .depth ≡ 0 → x .push ≡ 0 → x .follow ≡ 0 → Says x silent
+says-silent {x} k t l d p f = record {
+  alike = record {
+    kind = k;
+    test = λ i. testIn (t i) (l i);
+    push = ap (λ y. eqb y 1) p;
+    depth = d;
+    follow = (subst (λ m. Marks m []) (sym f) marks-none) .has;
+  };
+  small = record { kind = omega (arith, k); level = omega (arith, l); depth = omega (arith, d); push = omega (arith, p) };
+}
+
+module _ {x : Row} {kind : ℕ} {n : Test} (scope : List ℕ) {K : List ℕ} (k : x .kind ≡ kind) (low : kind ≤ 15) (t : testIn (x .test) (x .level) ≡ n)
+    (l : x .level ≤ x .depth) (d : x .depth ≡ length scope) (shallow : x .depth ≤ 3) (m : Marks (x .follow) K) where
+  pub says-taking : (push : Bool) → x .push ≡ cond push 1 0 → Says x (taking kind n push scope K)
+  says-taking push p = record {
+    alike = record { kind = k; test = t; push = ap (λ y. eqb y 1) p ∙ pushed push; depth = d; follow = m .has };
+    small = record { kind = omega (arith, k, low); level = l; depth = shallow; push = below push p };
+  }
+    where
+      pushed : (u : Bool) → eqb (cond u 1 0) 1 ≡ u
+      pushed true = refl
+      pushed false = refl
+
+      below : (u : Bool) → x .push ≡ cond u 1 0 → x .push ≤ 1
+      below true e = omega (arith, e)
+      below false e = omega (arith, e)

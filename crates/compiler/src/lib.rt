@@ -1,0 +1,450 @@
+// The compiler: from a pattern's bytes to its position automaton in small arrays, a column for each part of a node.
+// Two passes over the bytes, both by recursion: what a pattern begins with, and with that the entries of its positions.
+ghost use Prim.Native.Nat.{_<_, _≤_};
+ghost use mathlib.Core.Path.{_≡_};
+ghost use mathlib.Core.List.{[], _∷_};
+ghost use lib.ListN.{length, set};
+ghost use Rattle.automaton.specs.Automaton.{silent};
+ghost use Rattle.automaton.specs.Columns.{columns};
+ghost use Rattle.automaton.specs.Masks.{Marks};
+ghost use Rattle.compiler.specs.Compiling.{Passes, Reads, Commands, StepAt, leafOf, Begins, BeginsAt, BeginsAround, BeginsJoined, Entered, Ready, Allowed, AfterFirst, Inner, First, Second, rowOf, Says, Put, ruleCode, TakingSaid, LeafSaid, AroundSaid, CompiledAt, CompiledFrom, SmallUpTo};
+use pattern::Shape;
+
+// ---- one command
+
+// The commands that the compiler tells apart; it takes the others' shape from the command table.
+const NOTHING: u8 = 0x20;
+
+const LINE: u8 = 0x21;
+
+const SAME: u8 = 0x22;
+
+const EITHER: u8 = 0x24;
+
+const KEEP: u8 = 0x27;
+
+// A command that passed its questions: its byte, its operands, the count of patterns after it, the place after it.
+pub struct Step {
+    pub code: u8,
+    pub kind: u8,
+    pub slot: u8,
+    pub patterns: usize,
+    pub next: usize,
+}
+
+// The command at a place.
+fn step_at(src: &[u8], at: usize) -> Step
+    requires { ⌜ Commands (now src) at ⌝ }
+    ensures { λ r. ⌜ StepAt (now (src .entry)) at r ⌝ }
+{
+    let code = src[at];
+    let Shape::Is { operands, patterns } = pattern::shape_of(code) else {
+        return Step {
+            code,
+            kind: 0,
+            slot: 0,
+            patterns: 0,
+            next: at,
+        };
+    };
+    let kind = pattern::operand_at(src, at, operands, 0);
+    let slot = pattern::operand_at(src, at, operands, 1);
+    let next = at + 1 + operands;
+    Step {
+        code,
+        kind,
+        slot,
+        patterns,
+        next,
+    }
+}
+
+// ---- what a pattern begins with
+
+// The place after a pattern, the position after its own, the positions of its first letters, and whether it has the empty word.
+pub struct Begin {
+    pub next: usize,
+    pub after: usize,
+    pub heads: u64,
+    pub nullable: bool,
+}
+
+// The mask of one position.
+fn bit(k: usize) -> u64
+    requires { ⌜ k < 64 ⌝ }
+    ensures { λ r. ⌜ Marks r (k ∷ []) ⌝ }
+{
+    1u64 << k
+}
+
+// The positions that come next where a pattern stands and `after` may come after it.
+fn entered(p: Begin, after: u64) -> u64
+    ensures { λ r. ⌜ Entered p after r ⌝ }
+{
+    if p.nullable {
+        return p.heads | after;
+    }
+    p.heads
+}
+
+// A command without patterns.
+fn begin_leaf(c: Step, base: usize) -> Begin
+    requires { ⌜ base < 63 ⌝ }
+    ensures { λ r. ⌜ Begins (leafOf c) base (c .next) r ⌝ }
+{
+    if c.code == NOTHING {
+        return Begin {
+            next: c.next,
+            after: base + 1,
+            heads: 0,
+            nullable: true,
+        };
+    }
+    let heads = bit(base);
+    Begin {
+        next: c.next,
+        after: base + 1,
+        heads,
+        nullable: false,
+    }
+}
+
+// A repeat or keep, and the pattern in it.
+fn begin_around(c: Step, base: usize, p: Begin) -> Begin
+    requires { ⌜ base < 63 ⌝ }
+    ensures { λ r. ⌜ BeginsAround c base p r ⌝ }
+{
+    if c.code == KEEP {
+        let heads = bit(base);
+        return Begin {
+            next: p.next,
+            after: p.after,
+            heads,
+            nullable: false,
+        };
+    }
+    Begin {
+        next: p.next,
+        after: p.after,
+        heads: p.heads,
+        nullable: true,
+    }
+}
+
+// An either or then, and its two patterns.
+fn begin_joined(c: Step, p: Begin, q: Begin) -> Begin
+    ensures { λ r. ⌜ BeginsJoined c p q r ⌝ }
+{
+    if c.code == EITHER {
+        return Begin {
+            next: q.next,
+            after: q.after,
+            heads: p.heads | q.heads,
+            nullable: p.nullable || q.nullable,
+        };
+    }
+    Begin {
+        next: q.next,
+        after: q.after,
+        heads: entered(p, q.heads),
+        nullable: p.nullable && q.nullable,
+    }
+}
+
+// The pattern at a place, its positions from `base` on.
+fn begin_at(src: &[u8], at: usize, base: usize) -> Begin
+    requires { ⌜ Reads (now src) at base ⌝ }
+    ensures { λ r. ⌜ BeginsAt (now (src .entry)) at base r ⌝ }
+{
+    let c = step_at(src, at);
+    if c.patterns == 0 {
+        return begin_leaf(c, base);
+    }
+    let p = begin_at(src, c.next, base + 1);
+    if c.patterns == 1 {
+        return begin_around(c, base, p);
+    }
+    let q = begin_at(src, p.next, p.after);
+    begin_joined(c, p, q)
+}
+
+// ---- what stands around a pattern
+
+// A pattern to compile: the place of its bytes, its first position, for each slot the level and one of the innermost keep around it
+// (0 where there is none), how many keeps are around it, and the positions that may come after it.
+pub struct Task {
+    pub at: usize,
+    pub base: usize,
+    pub levels: [u8; 4],
+    pub depth: u8,
+    pub after: u64,
+}
+
+// The pattern in a repeat or keep; a turn of a repeat may be followed by another.
+fn inner_task(c: Step, task: Task, p: Begin) -> Task
+    requires { ⌜ Allowed c task ⌝ }
+    ensures { λ r. ⌜ Inner c task p r ⌝ }
+{
+    let base = task.base + 1;
+    let mut levels = task.levels;
+    if c.code == KEEP {
+        levels[c.slot as usize] = task.depth + 1;
+        return Task {
+            at: c.next,
+            base,
+            levels,
+            depth: task.depth + 1,
+            after: task.after,
+        };
+    }
+    Task {
+        at: c.next,
+        base,
+        levels,
+        depth: task.depth,
+        after: p.heads | task.after,
+    }
+}
+
+// What may come after the first pattern of an either or then: in a then, the second.
+fn after_first(c: Step, task: Task, q: Begin) -> u64
+    ensures { λ r. ⌜ AfterFirst c task q r ⌝ }
+{
+    if c.code == EITHER {
+        return task.after;
+    }
+    entered(q, task.after)
+}
+
+// The first pattern of an either or then.
+fn first_task(c: Step, task: Task, q: Begin) -> Task
+    requires { ⌜ task .base < 63 ⌝ }
+    ensures { λ r. ⌜ First c task q r ⌝ }
+{
+    let levels = task.levels;
+    let after = after_first(c, task, q);
+    Task {
+        at: c.next,
+        base: task.base + 1,
+        levels,
+        depth: task.depth,
+        after,
+    }
+}
+
+// The second pattern of an either or then: what stands around it is the same.
+fn second_task(task: Task, p: Begin) -> Task
+    ensures { λ r. ⌜ Second task p r ⌝ }
+{
+    let levels = task.levels;
+    Task {
+        at: p.next,
+        base: p.after,
+        levels,
+        depth: task.depth,
+        after: task.after,
+    }
+}
+
+// ---- the entries of a position
+
+// The tests' codes.
+const NEVER: u8 = 0;
+
+const ALWAYS: u8 = 1;
+
+const IS_SAME: u8 = 2;
+
+const IS_OTHER: u8 = 3;
+
+// What the columns get at one position.
+pub struct Entry {
+    pub kind: u8,
+    pub test: u8,
+    pub level: u8,
+    pub depth: u8,
+    pub push: u8,
+    pub follow: u64,
+}
+
+// A position that takes no letter.
+fn silent_entry() -> Entry
+    ensures { λ r. ⌜ Says (rowOf r) silent ⌝ }
+{
+    Entry {
+        kind: 0,
+        test: NEVER,
+        level: 0,
+        depth: 0,
+        push: 0,
+        follow: 0,
+    }
+}
+
+// A position that takes a letter and pushes nothing.
+fn taking_entry(c: Step, task: Task, test: u8, level: u8) -> Entry
+    requires { ⌜ Allowed c task ⌝ }
+    ensures { λ r. ⌜ TakingSaid c task test level r ⌝ }
+{
+    Entry {
+        kind: c.kind,
+        test,
+        level,
+        depth: task.depth,
+        push: 0,
+        follow: task.after,
+    }
+}
+
+// The test of a command same or other.
+fn rule_of(code: u8) -> u8
+    ensures { λ r. ⌜ r ≡ ruleCode code ⌝ }
+{
+    if code == SAME {
+        return IS_SAME;
+    }
+    IS_OTHER
+}
+
+// A command without patterns: nothing, line, or a test, which no value passes where no keep has the slot.
+fn leaf_entry(c: Step, task: Task) -> Entry
+    requires { ⌜ Allowed c task ⌝ }
+    ensures { λ r. ⌜ LeafSaid c task r ⌝ }
+{
+    if c.code == NOTHING {
+        return silent_entry();
+    }
+    if c.code == LINE {
+        return taking_entry(c, task, ALWAYS, 0);
+    }
+    let level = task.levels[c.slot as usize];
+    if level == 0 {
+        return taking_entry(c, task, NEVER, 0);
+    }
+    taking_entry(c, task, rule_of(c.code), level - 1)
+}
+
+// A repeat or keep: a keep takes a letter and pushes its boat.
+fn around_entry(c: Step, task: Task, p: Begin) -> Entry
+    requires { ⌜ Allowed c task ⌝ }
+    ensures { λ r. ⌜ AroundSaid c task p r ⌝ }
+{
+    if c.code == KEEP {
+        let follow = entered(p, task.after);
+        return Entry {
+            kind: c.kind,
+            test: ALWAYS,
+            level: 0,
+            depth: task.depth,
+            push: 1,
+            follow,
+        };
+    }
+    silent_entry()
+}
+
+// One entry of a column of bytes, and of the column of masks; a column that is lent as a slice tells its length.
+fn set_byte(column: &mut [u8], i: usize, x: u8)
+    requires { ⌜ i < length (now column) ⌝ }
+    ensures { λ _. ⌜ now (column .exit) ≡ set (now (column .entry)) i x ⌝ }
+{
+    column[i] = x;
+}
+
+fn set_mask(column: &mut [u64], i: usize, x: u64)
+    requires { ⌜ i < length (now column) ⌝ }
+    ensures { λ _. ⌜ now (column .exit) ≡ set (now (column .entry)) i x ⌝ }
+{
+    column[i] = x;
+}
+
+// One position's entries.
+fn put(
+    i: usize,
+    x: Entry,
+    kinds: &mut [u8; 64],
+    tests: &mut [u8; 64],
+    levels: &mut [u8; 64],
+    depths: &mut [u8; 64],
+    pushes: &mut [u8; 64],
+    follow: &mut [u64; 64],
+)
+    requires { ⌜ i < 64 ⌝ }
+    ensures { λ _. ⌜ Put i (rowOf x) (columns (now (kinds .entry)) (now (tests .entry)) (now (levels .entry)) (now (depths .entry)) (now (pushes .entry)) (now (follow .entry))) (columns (now (kinds .exit)) (now (tests .exit)) (now (levels .exit)) (now (depths .exit)) (now (pushes .exit)) (now (follow .exit))) ⌝ }
+{
+    set_byte(kinds, i, x.kind);
+    set_byte(tests, i, x.test);
+    set_byte(levels, i, x.level);
+    set_byte(depths, i, x.depth);
+    set_byte(pushes, i, x.push);
+    set_mask(follow, i, x.follow);
+}
+
+// ---- a pattern
+
+// The pattern of a task: its positions' entries, and none before them.
+fn compile_at(
+    src: &[u8],
+    task: Task,
+    kinds: &mut [u8; 64],
+    tests: &mut [u8; 64],
+    levels: &mut [u8; 64],
+    depths: &mut [u8; 64],
+    pushes: &mut [u8; 64],
+    follow: &mut [u64; 64],
+)
+    requires { ⌜ Ready (now src) task ⌝ }
+    ensures { λ _. ⌜ CompiledAt (now (src .entry)) task (columns (now (kinds .entry)) (now (tests .entry)) (now (levels .entry)) (now (depths .entry)) (now (pushes .entry)) (now (follow .entry))) (columns (now (kinds .exit)) (now (tests .exit)) (now (levels .exit)) (now (depths .exit)) (now (pushes .exit)) (now (follow .exit))) ⌝ }
+{
+    let c = step_at(src, task.at);
+    if c.patterns == 0 {
+        let x = leaf_entry(c, task);
+        put(task.base, x, kinds, tests, levels, depths, pushes, follow);
+        return;
+    }
+    let p = begin_at(src, c.next, task.base + 1);
+    if c.patterns == 1 {
+        let x = around_entry(c, task, p);
+        put(task.base, x, kinds, tests, levels, depths, pushes, follow);
+        let inner = inner_task(c, task, p);
+        compile_at(src, inner, kinds, tests, levels, depths, pushes, follow);
+        return;
+    }
+    let q = begin_at(src, p.next, p.after);
+    let x = silent_entry();
+    put(task.base, x, kinds, tests, levels, depths, pushes, follow);
+    let first = first_task(c, task, q);
+    compile_at(src, first, kinds, tests, levels, depths, pushes, follow);
+    let second = second_task(task, p);
+    compile_at(src, second, kinds, tests, levels, depths, pushes, follow);
+}
+
+// A pattern that passes its questions: its automaton in the columns, the end's position included, and the mask of where runs begin.
+pub fn compile(
+    pattern: &[u8],
+    kinds: &mut [u8; 64],
+    tests: &mut [u8; 64],
+    levels: &mut [u8; 64],
+    depths: &mut [u8; 64],
+    pushes: &mut [u8; 64],
+    follow: &mut [u64; 64],
+) -> u64
+    requires { ⌜ Passes (now pattern) ⌝ }
+    ensures automaton { λ r. ⌜ CompiledFrom (now (pattern .entry)) (columns (now (kinds .exit)) (now (tests .exit)) (now (levels .exit)) (now (depths .exit)) (now (pushes .exit)) (now (follow .exit))) r ⌝ }
+    ensures small { λ _. ⌜ SmallUpTo (now (pattern .entry)) (columns (now (kinds .exit)) (now (tests .exit)) (now (levels .exit)) (now (depths .exit)) (now (pushes .exit)) (now (follow .exit))) ⌝ }
+{
+    let p = begin_at(pattern, 0, 0);
+    let end = bit(p.after);
+    let none = [0, 0, 0, 0];
+    let whole = Task {
+        at: 0,
+        base: 0,
+        levels: none,
+        depth: 0,
+        after: end,
+    };
+    compile_at(pattern, whole, kinds, tests, levels, depths, pushes, follow);
+    let x = silent_entry();
+    put(p.after, x, kinds, tests, levels, depths, pushes, follow);
+    entered(p, end)
+}

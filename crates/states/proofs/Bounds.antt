@@ -1,0 +1,122 @@
+-- Numbers stay in range: powers of the radix, stacks with a boat on top, and states.
+use mathlib.Core.Path.{_≡_, sym, ap, _∙_, subst}
+use mathlib.Core.Bool.{Bool, true, false}
+use mathlib.Core.List.{List}
+use Prim.Native.Nat.{ℕ, suc, _+_, _*_, _-_, _^_, _<_, _≤_}
+use native.Mathlib.Nat.{pow-suc, pow-le-pow-right, lt-of-lt-of-le, mul-le-mul, mod-le, one-le-pow, le-mul-of-pos-right, mul-comm, mul-assoc, le-trans}
+use native.Mathlib.Omega.{arith}
+use lib.Arith.{digits-lt}
+use lib.Dec.{eqb}
+use lib.ListN.{getD, take}
+use lib.Pow.{pow-add}
+use lib.Seq.{getD-take}
+use Rattle.automaton.specs.Columns.{Columns}
+use Rattle.request.specs.Layout.{Laid}
+use Rattle.request.specs.declared.Plan.{Plan}
+use Rattle.search.specs.Loaded.{codeAt, wordAt}
+use Rattle.states.specs.Spots.{front, Fit, spotIn, Sane, off, offBy, Aimed, Stacks}
+use Rattle.states.specs.declared.Spot.{Spot}
+use Rattle.states.specs.declared.Target.{Target}
+
+-- one more factor
+pub pow-turn : (R e i p : ℕ) → 0 < R → i < e → R ^ e ≤ 1048576 → p ≡ R ^ i → (p * R ≤ 1048576) × (p * R ≡ R ^ (i + 1))
+pow-turn R e i p pos h k q =
+    let next : i + 1 ≡ suc i = omega arith in
+    let t : p * R ≡ R ^ (i + 1) = ap (_* R) q ∙ (sym (pow-suc R i) ∙ ap (R ^_) (sym next)) in
+    (rw t (le-trans (pow-le-pow-right pos (omega arith)) k), t)
+
+pub product-small : (x y : ℕ) → x < 4294967296 → y ≤ 1048576 → x * y ≤ 4503599626321920
+product-small x y h k = let a : x ≤ 4294967295 = omega arith in mul-le-mul a k
+
+off-by : (b : Bool) (d v : ℕ) → offBy b d v ≤ v
+off-by true d v = mod-le v d
+off-by false d v = omega arith
+
+pub off-le : (s : Spot) (v : ℕ) → off s v ≤ v
+unfolding off
+off-le s v = off-by (eqb (s .push) 1) (s .weight) v
+
+-- a word before the search's stretches
+pub front-get : (b : ℕ) (w : List ℕ) (j : ℕ) → j < b → getD (take b w) j 0 ≡ getD w j 0
+front-get b w j h = rw getD-take
+
+-- ---- a place, a position and a stack make a state
+
+module _ (places positions stacks size place position stack : ℕ) (is : size ≡ places * positions * stacks) (hq : place < places) (hk : position < positions) (hv : stack < stacks) where
+  pub state-low : (place * positions + position) * stacks + stack < size
+  state-low = rw is (digits-lt (digits-lt hq hk) hv)
+
+  pub pair-low : place * positions + position < size
+  pair-low = let some : 0 < stacks = omega arith in omega (arith, le-mul-of-pos-right (place * positions + position) some, state-low)
+
+-- ---- powers of the radix
+
+module _ {plan : Plan} {area : ℕ} (l : Laid plan area) where
+  pub stacks-pos : 0 < plan .stacks
+  stacks-pos = rw (l .stacks-is) (one-le-pow (plan .keeps) (plan .radix) (l .some-radix))
+
+  pub power-pos : (e : ℕ) → 0 < plan .radix ^ e
+  power-pos e = one-le-pow e (plan .radix) (l .some-radix)
+
+  pub power-fits : (e : ℕ) → e ≤ plan .keeps → plan .radix ^ e ≤ plan .stacks
+  power-fits e h = rw (l .stacks-is) (pow-le-pow-right (l .some-radix) h)
+
+  pub stacks-small : plan .stacks ≤ plan .size
+  stacks-small =
+      let some : 0 < plan .places * (plan .done + 1) = some-of (plan .places) (l .some-place) in
+      rw (l .size-is, mul-comm (plan .places * (plan .done + 1)) (plan .stacks)) (le-mul-of-pos-right (plan .stacks) some)
+    where
+      some-of : (p : ℕ) → 0 < p → 0 < p * (plan .done + 1)
+      some-of p h = let one : 0 < plan .done + 1 = omega arith in omega (arith, le-mul-of-pos-right p one)
+
+  pub power-small : (e : ℕ) → e ≤ plan .keeps → plan .radix ^ e ≤ 1048576
+  power-small e h = omega (arith, power-fits e h, stacks-small, l .small)
+
+  -- the stacks that a node of depth D can leave and that are w when cut to depth e
+  pub uncut-fits : (D e w : ℕ) → D ≤ plan .keeps → e ≤ plan .keeps → w < plan .radix ^ e → Stacks (plan .radix ^ (D - e)) (plan .radix ^ e) w (plan .stacks)
+  uncut-fits D e w hD he hw x hx =
+      let below : x * plan .radix ^ e + w < plan .radix ^ (D - e) * plan .radix ^ e = digits-lt hx hw in
+      lt-of-lt-of-le (rw (← pow-add (plan .radix) (D - e) e) at below) (power-fits (D - e + e) (omega arith))
+
+  -- the states at one place
+  pub block-small : (plan .done + 1) * plan .stacks ≤ 1048576
+  block-small =
+      let block = (plan .done + 1) * plan .stacks in
+      let whole : plan .size ≡ block * plan .places = l .size-is ∙ (mul-assoc (plan .places) (plan .done + 1) (plan .stacks) ∙ mul-comm (plan .places) block) in
+      omega (arith, le-mul-of-pos-right block (l .some-place), whole, l .small)
+
+  -- the words of a line stand before the search's stretches
+  pub word-low : (i : ℕ) → i < plan .lines → plan .words + i < plan .base
+  word-low i h = omega (arith, l .base-at)
+
+  pub code-low : (i : ℕ) → i < plan .lines → plan .codes + i < plan .base
+  code-low i h = omega (arith, l .words-at, l .base-at)
+
+  pub base-in : plan .base ≤ area
+  base-in = omega (arith, l .room)
+
+  -- and are read there
+  pub word-front : (w : List ℕ) (i : ℕ) → i < plan .lines → (p : ℕ) → p ≡ getD w (plan .words + i) 0 → p ≡ wordAt plan (front plan w) i
+  word-front w i h p e = e ∙ sym (front-get (plan .base) w (plan .words + i) (word-low i h))
+
+  pub code-front : (w : List ℕ) (i : ℕ) → i < plan .lines → (x : ℕ) → x ≡ getD w (plan .codes + i) 0 → x ≡ codeAt plan (front plan w) i
+  code-front w i h x e = e ∙ sym (front-get (plan .base) w (plan .codes + i) (code-low i h))
+
+  -- every stack tried for a target is one of the stacks
+  pub stacks-fit : (t : Target) → Aimed plan t → (D count : ℕ) → D ≤ plan .keeps → count ≡ plan .radix ^ (D - t .depth) → Stacks count (t .weight) (t .stack) (plan .stacks)
+  stacks-fit t m D count h e x hx =
+      let below : x < plan .radix ^ (D - t .depth) = subst (x <_) e hx in
+      let cut : t .stack < plan .radix ^ t .depth = subst (t .stack <_) (m .weight-is) (m .stack-low) in
+      subst (λ z. x * z + t .stack < plan .stacks) (sym (m .weight-is)) (uncut-fits D (t .depth) (t .stack) h (m .depth-low) cut x below)
+
+-- ---- a position's numbers
+
+pub spot-sane : {plan : Plan} {a : Columns} {w : List ℕ} → Fit plan a w → (c : ℕ) → c ≤ plan .done → (s : Spot) → s ≡ spotIn a (plan .radix) c → Sane s
+unfolding spotIn
+spot-sane {plan} {a} f c h s e =
+    subst Sane (sym e)
+    (record {
+      some-level = power-pos (f .laid) (getD (a .levels) c 0);
+      some-weight = power-pos (f .laid) (getD (a .depths) c 0);
+      small-weight = power-small (f .laid) (getD (a .depths) c 0) (f .depths-low c h);
+    })

@@ -1,0 +1,5 @@
+pub mod Stretches
+pub mod Changes
+pub mod Bounds
+pub mod Comparing
+pub mod Standing

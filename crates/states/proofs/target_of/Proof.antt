@@ -1,0 +1,65 @@
+-- `states::target_of` meets its contract, number by number. Assumes nothing.
+use Prim.Native.Nat.{_+_, _/_, _%_, _≤_}
+use native.Mathlib.Nat.{mod-lt, one-le-pow}
+use native.Mathlib.Omega.{arith}
+use Rattle.states.specs.Spots.{targetIn}
+use borrow.Author.Needs.{needs}
+use Rattle.states.proofs.target_of.Statement.{statement}
+use Rattle.states.proofs.target_of.Tie as tie
+
+low : (c : tie.Start) → c .args .t / c .args .plan .stacks % (c .args .plan .done + 1) ≤ c .args .plan .done
+low c = omega (arith, mod-lt (c .args .t / c .args .plan .stacks) {m = c .args .plan .done + 1} (omega arith))
+
+div-position : tie.Need-div-position
+div-position c = omega (arith, c .before .pre .0)
+
+add-position : tie.Need-add-position
+add-position c = omega (arith, c .before .before .pre .2)
+
+rem-position : tie.Need-rem-position
+rem-position c = search needs
+
+element-copy-out-wide : tie.Need-element-copy-out-wide
+element-copy-out-wide c = omega (arith, low (c .before .before), c .before .before .pre .2)
+
+wide-requires : tie.Need-wide-requires
+wide-requires c κs = search needs
+
+power-requires : tie.Need-power-requires
+power-requires c κs = rw (c .wide .ensures .0) (c .before .before .before .before .pre .1, c .before .before .before .before .pre .3 _ (low (c .before .before .before .before)))
+
+div-t7 : tie.Need-div-t7
+div-t7 c = omega (arith, c .before .before .before .before .before .before .pre .0)
+
+add-t8 : tie.Need-add-t8
+add-t8 c = omega (arith, c .before .before .before .before .before .before .before .pre .2)
+
+div-t12 : tie.Need-div-t12
+div-t12 c = omega arith
+
+rem-t13 : tie.Need-rem-t13
+rem-t13 c = omega (arith, c .before .before .before .before .before .before .before .before .pre .0)
+
+rem-t14 : tie.Need-rem-t14
+rem-t14 c = omega (arith, c .before .before .before .power .ensures, one-le-pow (c .before .before .before .before .wide .result) (c .before .before .before .before .before .before .before .before .args .plan .radix) (c .before .before .before .before .before .before .before .before .pre .1))
+
+returns : tie.Need-returns
+unfolding targetIn
+returns c = rw (c .before .before .before .power .ensures, c .before .before .before .before .wide .ensures .0)
+
+pub target-of-spec : {M : Type 1} → statement M
+target-of-spec =
+    tie.close
+    (tie.spec
+    div-position
+    add-position
+    rem-position
+    element-copy-out-wide
+    wide-requires
+    power-requires
+    div-t7
+    add-t8
+    div-t12
+    rem-t13
+    rem-t14
+    returns)

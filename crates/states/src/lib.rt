@@ -1,0 +1,286 @@
+// The words of the lent work area, and boats, positions and states by their numbers: what each loop of the search does with one of them.
+// Each function that changes the area promises a `Step`: what the pair of stretches holds afterwards, and that every other word is as it was.
+ghost use mathlib.Core.Path.{_≡_};
+ghost use Prim.Native.Nat.{ℕ, suc, _+_, _*_, _-_, _^_, _/_, _%_, _≤_, _<_};
+ghost use lib.Dec.{eqb};
+ghost use lib.ListN.{length, getD, set, replicate};
+ghost use Rattle.automaton.specs.Columns.{columns};
+ghost use Rattle.request.specs.Layout.{Laid};
+ghost use Rattle.search.specs.Table.{push};
+ghost use Rattle.states.specs.Area.{stretch, patch, found, Ready, Step};
+ghost use Rattle.search.specs.Loaded.{boatWordAt};
+ghost use Rattle.states.specs.Spots.{front, toldShown, wordsCompared, metBy, spotIn, off, on, okay, targetIn};
+use request::Plan;
+
+// ---- the work area
+
+// Word `i` of a part becomes `v`.
+fn put(part: &mut [u32], i: usize, v: u32)
+    requires { ⌜ i < length (now part) ⌝ }
+    ensures { λ _. ⌜ now (part .exit) ≡ set (now (part .entry)) i v ⌝ }
+{
+    part[i] = v;
+}
+
+// Word `i` of the stretch of `size` words from word `base` on becomes `v`.
+pub fn write(work: &mut [u32], base: usize, size: usize, i: usize, v: u32)
+    requires { ⌜ (base + size ≤ length (now work)) × (i < size) ⌝ }
+    ensures { λ _. ⌜ now (work .exit) ≡ set (now (work .entry)) (base + i) v ⌝ }
+{
+    put(&mut work[base..base + size], i, v);
+}
+
+// All words of `part` become 0.
+fn zero(part: &mut [u32])
+    ensures { λ _. ⌜ now (part .exit) ≡ replicate (length (now (part .entry))) 0 ⌝ }
+{
+    let mut i = 0;
+    while i < part.len() {
+        part[i] = 0;
+        i += 1;
+    }
+}
+
+// All words of the stretch of `size` words from word `base` on become 0.
+pub fn clear_stretch(work: &mut [u32], base: usize, size: usize)
+    requires { ⌜ base + size ≤ length (now work) ⌝ }
+    ensures { λ _. ⌜ now (work .exit) ≡ patch base size (replicate size 0) (now (work .entry)) ⌝ }
+{
+    zero(&mut work[base..base + size]);
+}
+
+// Word `i` of the area.
+pub fn word(work: &[u32], i: usize) -> u32
+    requires { ⌜ i < length (now work) ⌝ }
+    ensures { λ r. ⌜ r ≡ getD (now (work .entry)) i 0 ⌝ }
+{
+    work[i]
+}
+
+// The state `s` gets the word `d` and comes into the queue, unless it has a word. Returns how many are in the queue then.
+pub fn push_if_new(
+    work: &mut [u32],
+    base: usize,
+    size: usize,
+    d: u32,
+    s: usize,
+    tail: usize,
+) -> usize
+    requires { ⌜ Ready base size tail (now work) ⌝ }
+    requires { ⌜ (s < size) × (0 < d) × (d ≤ suc tail) ⌝ }
+    ensures { λ r. ⌜ Step base size (push d s) tail (now (work .entry)) r (now (work .exit)) ⌝ }
+{
+    let i = base + s;
+    if work[i] == 0 {
+        write(work, base, size, s, d);
+        write(work, base + size, size, tail, s as u32);
+        tail + 1
+    } else {
+        tail
+    }
+}
+
+// The state at place `i` of the queue.
+pub fn waiting(work: &[u32], base: usize, size: usize, tail: usize, i: usize) -> usize
+    requires { ⌜ Ready base size tail (now work) ⌝ }
+    requires { ⌜ i < tail ⌝ }
+    ensures { λ r. ⌜ (r ≡ getD (found base size tail (now (work .entry)) .queue) i 0) × (r < size) ⌝ }
+{
+    let k = base + size + i;
+    work[k] as usize
+}
+
+// The word of the state `s`.
+pub fn dist_at(work: &[u32], base: usize, size: usize, tail: usize, s: usize) -> u32
+    requires { ⌜ Ready base size tail (now work) ⌝ }
+    requires { ⌜ s < size ⌝ }
+    ensures { λ r. ⌜ (r ≡ getD (found base size tail (now (work .entry)) .dist) s 0) × (r ≤ tail) ⌝ }
+{
+    let k = base + s;
+    work[k]
+}
+
+// ---- boats
+
+// What comparing two boats tells.
+pub enum Told {
+    SameBoat,
+    OtherBoat,
+}
+
+// The boats that two words say, compared. Whoever compares boats does it here.
+pub fn compared(a: u32, b: u32) -> Told
+    ensures { λ r. ⌜ toldShown r ≡ wordsCompared a b ⌝ }
+{
+    if a == b {
+        Told::SameBoat
+    } else {
+        Told::OtherBoat
+    }
+}
+
+// Does the test, 2 for same and 3 for other, take what the comparison told? No other test takes anything here.
+pub fn meets(test: u8, told: Told) -> bool
+    ensures { λ r. ⌜ r ≡ metBy test (toldShown told) ⌝ }
+{
+    match told {
+        Told::SameBoat => test == 2,
+        Told::OtherBoat => test == 3,
+    }
+}
+
+// The word of a boat by its number: 0 where the number or the boats' stretch has none.
+pub fn boat_word(work: &[u32], plan: Plan, number: usize) -> u32
+    requires { ⌜ Laid plan (length (now work)) ⌝ }
+    requires { ⌜ number < 4294967296 ⌝ }
+    ensures { λ r. ⌜ r ≡ boatWordAt plan (front plan (now (work .entry))) number ⌝ }
+{
+    if number == 0 {
+        return 0;
+    }
+    let k = plan.first + (number - 1);
+    if k < plan.base {
+        return word(work, k);
+    }
+    0
+}
+
+// ---- a position by its numbers
+
+// Its kind and test, 1 where it pushes, radix^level of the level that the test reads, and radix^depth.
+pub struct Spot {
+    pub kind: usize,
+    pub test: u8,
+    pub push: u8,
+    pub level: usize,
+    pub weight: usize,
+}
+
+// A byte as a number.
+pub fn wide(x: u8) -> usize
+    ensures { λ r. ⌜ (r ≡ x) × (r < 256) ⌝ }
+{
+    x as usize
+}
+
+// radix^e
+pub fn power(radix: usize, e: usize) -> usize
+    requires { ⌜ (0 < radix) × (radix ^ e ≤ 1048576) ⌝ }
+    ensures { λ r. ⌜ r ≡ radix ^ e ⌝ }
+{
+    let mut p = 1;
+    let mut i = 0;
+    while i < e {
+        p = p * radix;
+        i += 1;
+    }
+    p
+}
+
+// Position `c`.
+pub fn spot_at(
+    kinds: &[u8; 64],
+    tests: &[u8; 64],
+    levels: &[u8; 64],
+    depths: &[u8; 64],
+    pushes: &[u8; 64],
+    follow: &[u64; 64],
+    radix: usize,
+    c: usize,
+) -> Spot
+    requires { ⌜ (c < 64) × (0 < radix) × (radix ^ getD (now levels) c 0 ≤ 1048576) × (radix ^ getD (now depths) c 0 ≤ 1048576) ⌝ }
+    ensures { λ r. ⌜ r ≡ spotIn (columns (now (kinds .entry)) (now (tests .entry)) (now (levels .entry)) (now (depths .entry)) (now (pushes .entry)) (now (follow .entry))) radix c ⌝ }
+{
+    let level = power(radix, wide(levels[c]));
+    let weight = power(radix, wide(depths[c]));
+    Spot {
+        kind: wide(kinds[c]),
+        test: tests[c],
+        push: pushes[c],
+        level,
+        weight,
+    }
+}
+
+// The stack before the position, of the stack after it.
+pub fn take_off(spot: Spot, v: usize) -> usize
+    requires { ⌜ 0 < spot .weight ⌝ }
+    ensures { λ r. ⌜ r ≡ off spot v ⌝ }
+{
+    if spot.push == 1 { v % spot.weight } else { v }
+}
+
+// The stack after the position, of the stack before it and the line's boat number.
+pub fn put_on(spot: Spot, u: usize, code: u32) -> usize
+    requires { ⌜ (spot .weight ≤ 1048576) × (u < 4294967296) ⌝ }
+    ensures { λ r. ⌜ r ≡ on spot u code ⌝ }
+{
+    if spot.push == 1 {
+        code as usize * spot.weight + u
+    } else {
+        u
+    }
+}
+
+// The test of the boat with the word `boat` against the stack before the position.
+pub fn passes(work: &[u32], plan: Plan, spot: Spot, boat: u32, v: usize) -> bool
+    requires { ⌜ Laid plan (length (now work)) ⌝ }
+    requires { ⌜ 0 < spot .level ⌝ }
+    ensures { λ r. ⌜ r ≡ okay plan (front plan (now (work .entry))) spot boat v ⌝ }
+{
+    if spot.test == 1 {
+        return true;
+    }
+    let kept = boat_word(work, plan, v / spot.level % plan.radix);
+    meets(spot.test, compared(boat, kept))
+}
+
+// The state at a place and a position with a stack.
+pub fn state_at(plan: Plan, place: usize, position: usize, stack: usize) -> usize
+    requires { ⌜ (plan .size ≡ plan .places * (plan .done + 1) * plan .stacks) × (plan .size ≤ 1048576) × (plan .done ≤ 63) ⌝ }
+    requires { ⌜ (place < plan .places) × (position ≤ plan .done) × (stack < plan .stacks) ⌝ }
+    ensures { λ r. ⌜ (r ≡ (place * (plan .done + 1) + position) * plan .stacks + stack) × (r < plan .size) ⌝ }
+{
+    (place * (plan.done + 1) + position) * plan.stacks + stack
+}
+
+// Is the state `s` at the place `q`? Asked without a division, since most lines start elsewhere.
+pub fn stands_at(plan: Plan, s: usize, q: usize) -> bool
+    requires { ⌜ (0 < plan .stacks) × ((plan .done + 1) * plan .stacks ≤ 1048576) × (plan .done ≤ 63) × (q < 4294967296) ⌝ }
+    ensures { λ r. ⌜ r ≡ eqb q (s / plan .stacks / (plan .done + 1)) ⌝ }
+{
+    let block = (plan.done + 1) * plan.stacks;
+    let low = q * block;
+    if s < low {
+        return false;
+    }
+    s - low < block
+}
+
+// ---- a state that is expanded, by its numbers
+
+// A state that is expanded: its place, its position, the position's depth, radix^depth, and its stack cut to that depth.
+pub struct Target {
+    pub place: usize,
+    pub position: usize,
+    pub depth: usize,
+    pub weight: usize,
+    pub stack: usize,
+}
+
+// The state `t` by its numbers.
+pub fn target_of(depths: &[u8; 64], plan: Plan, t: usize) -> Target
+    requires { ⌜ (0 < plan .stacks) × (0 < plan .radix) × (plan .done ≤ 63) × ((k : ℕ) → k ≤ plan .done → plan .radix ^ getD (now depths) k 0 ≤ 1048576) ⌝ }
+    ensures { λ r. ⌜ r ≡ targetIn (now (depths .entry)) plan t ⌝ }
+{
+    let position = t / plan.stacks % (plan.done + 1);
+    let depth = wide(depths[position]);
+    let weight = power(plan.radix, depth);
+    Target {
+        place: t / plan.stacks / (plan.done + 1),
+        position,
+        depth,
+        weight,
+        stack: t % plan.stacks % weight,
+    }
+}
