@@ -864,6 +864,22 @@ fn vector_list() -> Vec<Vector> {
             found: Some(vec![0, 0]),
             others: vec![(vec![0, 1], 1), (vec![1, 0], 0)],
         },
+        // V1 and V2 with the parts of either exchanged, for programs that take them the other
+        // way round.
+        Vector {
+            rec: one(&[line(0, 1, 2, 2, 0), line(0, 2, 1, 2, 0)]),
+            pat: vec![0x24, 0x21, 1, 0x21, 2],
+            to: 0,
+            found: Some(vec![0]),
+            others: vec![(vec![1], 1), (vec![0, 1], 0)],
+        },
+        Vector {
+            rec: one(&[line(0, 1, 1, 1, 0), line(0, 2, 1, 1, 0)]),
+            pat: vec![0x24, 0x25, 0x21, 1, 0x21, 1, 0x25, 0x21, 1, 0x21, 2],
+            to: 0,
+            found: Some(vec![0, 0]),
+            others: vec![(vec![0, 1], 1), (vec![1, 0], 0)],
+        },
         // V3: more lines than places.
         Vector {
             rec: one(&[line(0, 1, 1, 1, 0)]),

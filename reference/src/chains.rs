@@ -58,7 +58,7 @@ impl Asked {
     }
 
     /// The numbers of the lines from each place, in order.
-    fn lines_from(&self) -> Vec<Vec<u16>> {
+    pub(crate) fn lines_from(&self) -> Vec<Vec<u16>> {
         let mut from = vec![Vec::new(); self.record.places as usize];
         for (number, line) in self.record.lines.iter().enumerate() {
             from[line.from as usize].push(number as u16);

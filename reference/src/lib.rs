@@ -12,10 +12,12 @@
 //! - `program`: the line that the small program prints.
 //! - `library`: the six functions that scoring software calls, as a trait.
 //! - `compare`, `cases`, `rounds`, `generator`, `random`: a library compared with this one.
+//! - `faults`: copies of this program with one fault each, which the comparison must find.
 
 pub mod cases;
 pub mod chains;
 pub mod compare;
+pub mod faults;
 pub mod generator;
 pub mod library;
 #[cfg(feature = "linked")]

@@ -9,7 +9,7 @@ use crate::record::{Line, Record};
 
 /// What a spot does.
 #[derive(Clone, Copy, Debug)]
-enum Spot {
+pub(crate) enum Spot {
     /// Takes one line that passes the test.
     Take { test: Test, next: usize },
     /// Goes on to either of two spots, taking no line.
@@ -21,12 +21,29 @@ enum Spot {
 }
 
 #[derive(Clone, Copy, Debug)]
-enum Test {
+pub(crate) enum Test {
     Kind(u8),
     Same(u8, u8),
     Other(u8, u8),
     /// Passes on the kind, and pushes the line's boat under this slot.
     Keep(u8, u8),
+}
+
+impl Test {
+    /// The stack after a line that passes.
+    pub(crate) fn passed(self, stack: Stack, line: &Line, boat: u16) -> Option<Stack> {
+        match self {
+            Test::Kind(kind) => (line.kind == kind).then_some(stack),
+            Test::Same(kind, slot) => {
+                (line.kind == kind && stack.boat_of(slot) == Some(boat)).then_some(stack)
+            }
+            Test::Other(kind, slot) => {
+                let differs = stack.boat_of(slot).is_some_and(|kept| kept != boat);
+                (line.kind == kind && differs).then_some(stack)
+            }
+            Test::Keep(kind, slot) => (line.kind == kind).then(|| stack.pushed(slot, boat)),
+        }
+    }
 }
 
 /// One boat on the stack, with its slot. Boats are numbered in the order in which the
@@ -51,7 +68,7 @@ impl Stack {
         self
     }
 
-    fn popped(mut self) -> Stack {
+    pub(crate) fn popped(mut self) -> Stack {
         self.depth -= 1;
         self.kept[self.depth as usize] = Kept::default();
         self
@@ -70,13 +87,13 @@ impl Stack {
 /// A state between two lines: at a spot that takes a line, or done.
 #[derive(Clone, Copy, PartialEq, Eq, PartialOrd, Ord, Hash, Debug)]
 pub struct State {
-    spot: u8,
-    stack: Stack,
+    pub(crate) spot: u8,
+    pub(crate) stack: Stack,
 }
 
 pub struct Machine {
-    spots: Vec<Spot>,
-    start: usize,
+    pub(crate) spots: Vec<Spot>,
+    pub(crate) start: usize,
     done: usize,
 }
 
@@ -103,19 +120,7 @@ impl Machine {
         let Spot::Take { test, next } = self.spots[state.spot as usize] else {
             return;
         };
-        let stack = state.stack;
-        let passed = match test {
-            Test::Kind(kind) => (line.kind == kind).then_some(stack),
-            Test::Same(kind, slot) => {
-                (line.kind == kind && stack.boat_of(slot) == Some(boat)).then_some(stack)
-            }
-            Test::Other(kind, slot) => {
-                let differs = stack.boat_of(slot).is_some_and(|kept| kept != boat);
-                (line.kind == kind && differs).then_some(stack)
-            }
-            Test::Keep(kind, slot) => (line.kind == kind).then(|| stack.pushed(slot, boat)),
-        };
-        if let Some(stack) = passed {
+        if let Some(stack) = test.passed(state.stack, line, boat) {
             self.settle(next, stack, after);
         }
     }

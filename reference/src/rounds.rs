@@ -11,6 +11,15 @@ use crate::record::{written, Line, MOST_LINES};
 use crate::request::{fitted, shortest};
 
 pub type Replies = Result<Vec<u64>, String>;
+pub type Round = fn(&dyn Library, &mut Random) -> Replies;
+
+/// The sorts of rounds, by name.
+pub const SORTS: [(&str, Round); 4] = [
+    ("bytes", bytes),
+    ("writes", writes),
+    ("checks", check),
+    ("finds", find),
+];
 
 /// Records and patterns of any bytes: words, and one line read back.
 pub fn bytes(library: &dyn Library, random: &mut Random) -> Replies {

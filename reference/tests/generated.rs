@@ -5,10 +5,8 @@ use reference::library::Own;
 use reference::random::Random;
 use reference::record::read_record;
 use reference::request::{shortest, NO_CHAIN};
-use reference::rounds::{self, Replies};
+use reference::rounds::{self, Round};
 use std::collections::BTreeMap;
-
-type Round = fn(&dyn reference::library::Library, &mut Random) -> Replies;
 
 fn tally(round: Round, seed: u64, count: usize) -> BTreeMap<u64, usize> {
     let mut random = Random::new(seed);

@@ -9,7 +9,7 @@ use lib.Seq.{length-take-le}
 use Rattle.meaning.specs.Outcome.{Outcome, refused, passed, told, value, refusal}
 use Rattle.meaning.specs.Record.{Line}
 use Rattle.meaning.specs.Writing.{beginOf, addOf}
-use Rattle.record.specs.Added.{begun, adds}
+use Rattle.writing.specs.Added.{begun, adds}
 use Rattle.record.specs.Whole.{whole-of}
 use Rattle.exports.specs.Number.{numberOf, Fits32, checkNumber}
 

@@ -9,14 +9,15 @@ ghost use Rattle.meaning.specs.Writing.{beginOf, beginAfter, addOf, addAfter, r
 ghost use Rattle.meaning.specs.Request.{wordsOf, askRequest, workAfter};
 ghost use Rattle.checker.specs.Reply.{checkOf};
 ghost use Rattle.finder.specs.Reply.{findOf, said, outAfter};
-ghost use Rattle.record.specs.Reply.{lineShown, writeReply};
+ghost use Rattle.record.specs.Reply.{lineShown};
+ghost use Rattle.writing.specs.Reply.{writeReply};
 ghost use Rattle.exports.specs.Number.{numberOf, Fits32, fieldsOf, readNumber, readAfter, checkNumber, findNumber};
 use checker::CheckReply;
 use finder::FindReply;
 use record::Line;
 use record::LineReply;
-use record::WriteReply;
 use request::WordsReply;
+use writing::WriteReply;
 
 // ---- records
 
@@ -36,7 +37,7 @@ pub extern "C" fn chains_begin(buf: &mut [u8], places: u16) -> u64
     ensures reply { λ r. ⌜ r ≡ numberOf (told (beginOf (now (buf .entry)) places)) ⌝ }
     ensures buffer { λ _. ⌜ now (buf .exit) ≡ beginAfter (now (buf .entry)) places ⌝ }
 {
-    write_number(record::begin_record(buf, places))
+    write_number(writing::begin_record(buf, places))
 }
 
 // Adds a line; value: the record's new length.
@@ -60,7 +61,7 @@ pub extern "C" fn chains_add(
         sail,
         to,
     };
-    write_number(record::add_line(buf, len, line))
+    write_number(writing::add_line(buf, len, line))
 }
 
 // Puts the five fields of a line at the front of a list that has room for them.

@@ -1,3 +1,3 @@
 pub mod Tests
 pub mod Loop
-pub mod Writes
+pub mod Back

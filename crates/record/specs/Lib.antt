@@ -3,5 +3,3 @@ pub mod Outcomes
 pub mod Walk
 pub mod Whole
 pub mod Fit
-pub mod Added
-pub mod Boats

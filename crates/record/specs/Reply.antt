@@ -8,8 +8,6 @@ use Rattle.meaning.specs.Outcome.{Outcome, refused, passed, Reply, value, refus
 use Rattle.meaning.specs.Record.{Line, Day, Entry, two, placesWhole}
 use Rattle.meaning.specs.Record as meaning
 use Rattle.record.specs.declared.Line.{Line as LineStruct}
-use Rattle.record.specs.declared.WriteReply.{WriteReply}
-use Rattle.record.specs.declared.WriteReply.the-variants as Write
 use Rattle.record.specs.declared.LineReply.{LineReply}
 use Rattle.record.specs.declared.LineReply.the-variants as Read
 use Rattle.record.specs.declared.Head.{Head}
@@ -24,15 +22,6 @@ use Rattle.record.specs.declared.Reading.the-variants as Whole
 -- the line that the five operands are
 abbrev pub lineShown : LineStruct → Line
 lineShown l = record { from = l .from; kind = l .kind; boat = record { class = l .class; sail = l .sail }; to = l .to }
-
-abbrev pub writeReply : WriteReply → Reply ℕ
-writeReply (Write.Length n) = value n
-writeReply (Write.Refused number second) = refusal number second
-
--- the reply that says it
-abbrev pub writeTold : Outcome ℕ → WriteReply
-writeTold (refused number) = Write.Refused number 0
-writeTold (passed n) = Write.Length n
 
 abbrev pub lineReply : LineReply → Reply Line
 lineReply (Read.Line l) = value (lineShown l)

@@ -1,17 +1,13 @@
-// The day's record: reading its bytes, beginning one, adding a line, reading a line back, counting its boats.
+// The day's record: reading its bytes, and reading a line back.
 ghost use mathlib.Core.Path.{_≡_};
-ghost use mathlib.Core.List.{[], _∷_, _++_};
-ghost use mathlib.Core.Bool.{cond};
-ghost use Prim.Native.Nat.{suc, _+_, _*_, _<_, _≤_};
-ghost use lib.Dec.{eqb};
+ghost use Prim.Native.Nat.{_+_, _*_, _<_, _≤_};
 ghost use lib.ListN.{length, drop};
 ghost use Rattle.meaning.specs.Outcome.{passed, told};
-ghost use Rattle.meaning.specs.Record.{two, three, lineOf, bytesOf, askLine, entryAt, linesFrom, readRecord, boats};
+ghost use Rattle.meaning.specs.Record.{two, three, lineOf, askLine, entryAt, linesFrom, readRecord};
 ghost use Rattle.meaning.specs.Record.{line as line-entry};
-ghost use Rattle.meaning.specs.Writing.{written, beginOf, beginAfter, askNew, addOf, addAfter, lineAt, readOf};
-ghost use Rattle.record.specs.Boats.{BoatIs, firstSame};
+ghost use Rattle.meaning.specs.Writing.{lineAt, readOf};
 ghost use Rattle.record.specs.Whole.{linesOf};
-ghost use Rattle.record.specs.Reply.{writeReply, writeTold, entryNumber, readingNumber, lineReply, lineShown, entryTold, closedWith, headTold, countedWith, readingTold};
+ghost use Rattle.record.specs.Reply.{entryNumber, readingNumber, lineReply, lineShown, entryTold, closedWith, headTold, countedWith, readingTold};
 
 // The five operands of a line.
 pub struct Line {
@@ -20,12 +16,6 @@ pub struct Line {
     pub class: u8,
     pub sail: u32,
     pub to: u16,
-}
-
-// What beginning a record and adding a line say: the record's new length, or a refusal's number and second number.
-pub enum WriteReply {
-    Length(usize),
-    Refused(u8, usize),
 }
 
 // What reading a line back says.
@@ -55,7 +45,7 @@ pub enum Reading {
 
 impl Entry {
     // The number of the question that failed, 0 where none did.
-    fn number(self) -> u8
+    pub fn number(self) -> u8
         ensures { λ r. ⌜ r ≡ entryNumber self ⌝ }
     {
         match self {
@@ -81,14 +71,10 @@ impl Reading {
     }
 }
 
-// The limits of questions 1, 2, 22 and 21.
+// The limits of questions 1 and 2.
 const LONGEST: usize = 40964;
 
 const MOST_PLACES: u16 = 1024;
-
-const MOST_LINES: usize = 4096;
-
-const SAILS: u32 = 16777216;
 
 // ---- numbers in bytes, the high byte first
 
@@ -135,30 +121,10 @@ fn line_of(s: &[u8]) -> Line
     }
 }
 
-// The ten bytes of a line and an end byte after them.
-fn line_bytes(l: Line) -> [u8; 11]
-    requires { ⌜ l .sail < 16777216 ⌝ }
-    ensures { λ r. ⌜ r ≡ bytesOf (lineShown l) ++ (0 ∷ []) ⌝ }
-{
-    [
-        2,
-        (l.from / 256) as u8,
-        (l.from % 256) as u8,
-        l.kind,
-        l.class,
-        (l.sail / 65536) as u8,
-        (l.sail / 256 % 256) as u8,
-        (l.sail % 256) as u8,
-        (l.to / 256) as u8,
-        (l.to % 256) as u8,
-        0,
-    ]
-}
-
 // ---- questions 1 to 7
 
 // Questions 5 and 6 of a line.
-fn line_asked(l: Line, places: usize) -> Entry
+pub fn line_asked(l: Line, places: usize) -> Entry
     ensures { λ r. ⌜ r ≡ entryTold (askLine places (lineShown l) (passed (line-entry (lineShown l)))) ⌝ }
 {
     if places <= l.from as usize {
@@ -261,77 +227,6 @@ pub fn read_record(day: &[u8]) -> Reading
     lines_from(day, places)
 }
 
-// ---- writing
-
-// Puts new bytes into a buffer from a place on.
-fn write_at(buf: &mut [u8], at: usize, new: &[u8])
-    requires { ⌜ at + length (now new) ≤ length (now buf) ⌝ }
-    ensures { λ _. ⌜ now (buf .exit) ≡ written at (now (new .entry)) (now (buf .entry)) ⌝ }
-{
-    bytes::copy(new, &mut buf[at..]);
-}
-
-// Begins a record of so many places, with no line.
-pub fn begin_record(buf: &mut [u8], places: u16) -> WriteReply
-    ensures reply { λ r. ⌜ writeReply r ≡ told (beginOf (now (buf .entry)) places) ⌝ }
-    ensures buffer { λ _. ⌜ now (buf .exit) ≡ beginAfter (now (buf .entry)) places ⌝ }
-{
-    if places == 0 {
-        return WriteReply::Refused(2, 0);
-    }
-    if MOST_PLACES < places {
-        return WriteReply::Refused(2, 0);
-    }
-    if buf.len() < 4 {
-        return WriteReply::Refused(23, 0);
-    }
-    let new = [1, (places / 256) as u8, (places % 256) as u8, 0];
-    write_at(buf, 0, &new);
-    WriteReply::Length(4)
-}
-
-// Questions 5 and 6 of a new line, 21, 22 and 23, for a record of so many places and lines and len bytes in a buffer of room bytes.
-fn new_asked(places: usize, lines: usize, room: usize, len: usize, line: Line) -> WriteReply
-    requires { ⌜ len ≤ room ⌝ }
-    ensures { λ r. ⌜ r ≡ writeTold (askNew places lines room len (lineShown line)) ⌝ }
-{
-    let e = line_asked(line, places);
-    let Entry::Line = e else {
-        return WriteReply::Refused(e.number(), 0);
-    };
-    if SAILS <= line.sail {
-        return WriteReply::Refused(21, 0);
-    }
-    if MOST_LINES <= lines {
-        return WriteReply::Refused(22, 0);
-    }
-    if room - len < 10 {
-        return WriteReply::Refused(23, 0);
-    }
-    WriteReply::Length(len + 10)
-}
-
-// Adds a line to the record in the first len bytes of a buffer.
-pub fn add_line(buf: &mut [u8], len: usize, line: Line) -> WriteReply
-    ensures reply { λ r. ⌜ writeReply r ≡ told (addOf (now (buf .entry)) len (lineShown line)) ⌝ }
-    ensures buffer { λ _. ⌜ now (buf .exit) ≡ addAfter (now (buf .entry)) len (lineShown line) ⌝ }
-{
-    if buf.len() < len {
-        return WriteReply::Refused(20, 0);
-    }
-    let day = read_record(&buf[..len]);
-    let Reading::Record { places, lines } = day else {
-        return WriteReply::Refused(day.number(), 0);
-    };
-    let reply = new_asked(places, lines, buf.len(), len, line);
-    let WriteReply::Length(_) = reply else {
-        return reply;
-    };
-    let new = line_bytes(line);
-    write_at(buf, len - 1, &new);
-    reply
-}
-
 // ---- reading lines back
 
 // Line i of a record that passes.
@@ -356,56 +251,4 @@ pub fn read_line(day: &[u8], i: u16) -> LineReply
         return LineReply::Refused(18, 0);
     }
     LineReply::Line(line_at(day, n))
-}
-
-// ---- the different boats
-
-// The boat of line i as one number.
-pub fn boat_at(day: &[u8], i: usize) -> u32
-    requires { ⌜ i < length (linesOf (now day)) ⌝ }
-    ensures { λ r. ⌜ BoatIs (lineAt (linesOf (now (day .entry))) i .boat) r ⌝ }
-{
-    let l = line_at(day, i);
-    l.class as u32 * SAILS + l.sail
-}
-
-// The first line with the same boat as line i: the earlier lines from line 0 on, and line i itself where none of them has it.
-pub fn first_same(day: &[u8], i: usize) -> usize
-    requires { ⌜ i < length (linesOf (now day)) ⌝ }
-    ensures { λ r. ⌜ r ≡ firstSame (linesOf (now (day .entry))) i ⌝ }
-{
-    let boat = boat_at(day, i);
-    let mut j: usize = 0;
-    while j < i {
-        if boat_at(day, j) == boat {
-            return j;
-        }
-        j += 1;
-    }
-    i
-}
-
-// One more where line i is the first with its boat.
-fn counted(day: &[u8], i: usize, count: usize) -> usize
-    requires { ⌜ (i < length (linesOf (now day))) × (count ≤ i) ⌝ }
-    ensures { λ r. ⌜ r ≡ cond (eqb (firstSame (linesOf (now (day .entry))) i) i) (suc count) count ⌝ }
-{
-    if first_same(day, i) == i {
-        return count + 1;
-    }
-    count
-}
-
-// How many different boats a record of so many lines has.
-pub fn count_boats(day: &[u8], lines: usize) -> usize
-    requires { ⌜ lines ≡ length (linesOf (now day)) ⌝ }
-    ensures { λ r. ⌜ (r ≡ length (boats (linesOf (now (day .entry))))) × (r ≤ 4096) ⌝ }
-{
-    let mut count: usize = 0;
-    let mut i: usize = 0;
-    while i < lines {
-        count = counted(day, i, count);
-        i += 1;
-    }
-    count
 }

@@ -2,7 +2,7 @@
 // Each row prints its name and the reply; the file stdout has what document 01 says.
 use record::Line;
 use record::LineReply;
-use record::WriteReply;
+use writing::WriteReply;
 
 fn text(s: &[u8]) {
     io::write_all(1, s);
@@ -175,14 +175,14 @@ fn front(buf: &[u8], n: usize) -> &[u8] {
 // A row about beginning a record in the first room bytes.
 fn begun(name: &[u8], buf: &mut [u8], room: usize, places: u16) {
     if room <= buf.len() {
-        wrote(name, record::begin_record(&mut buf[..room], places));
+        wrote(name, writing::begin_record(&mut buf[..room], places));
     }
 }
 
 // A row about adding a line to the record of len bytes in the first room bytes.
 fn added(name: &[u8], buf: &mut [u8], room: usize, len: usize, l: Line) {
     if room <= buf.len() {
-        wrote(name, record::add_line(&mut buf[..room], len, l));
+        wrote(name, writing::add_line(&mut buf[..room], len, l));
     }
 }
 
@@ -211,7 +211,7 @@ fn shown(buf: &[u8]) {
 
 fn adds() {
     let mut buf = [9u8; 15];
-    record::begin_record(&mut buf, 2);
+    writing::begin_record(&mut buf, 2);
     added(
         b"length past the buffer",
         &mut buf,
@@ -274,7 +274,7 @@ fn nth(i: usize) -> Line {
 
 // The length after adding line i, or 0.
 fn longer(buf: &mut [u8], len: usize, i: usize) -> usize {
-    match record::add_line(buf, len, nth(i)) {
+    match writing::add_line(buf, len, nth(i)) {
         WriteReply::Length(n) => n,
         WriteReply::Refused(_, _) => 0,
     }
@@ -350,7 +350,7 @@ fn counted(name: &[u8], n: usize) {
 
 fn full() {
     let mut buf = [9u8; 40980];
-    record::begin_record(&mut buf, 1024);
+    writing::begin_record(&mut buf, 1024);
     let some = grown(&mut buf, 4, 0, 300);
     counted(b"length after 300 lines", some);
     counted(b"of them read back", back(front(&buf, some), 300));
@@ -394,12 +394,12 @@ fn full() {
 // Class 0 with number 0 is a boat like every other.
 fn unread() {
     let mut buf = [9u8; 64];
-    record::begin_record(&mut buf, 1);
-    record::add_line(&mut buf, 4, made(0, 1, 1, 150, 0));
-    record::add_line(&mut buf, 14, made(0, 1, 2, 150, 0));
-    record::add_line(&mut buf, 24, made(0, 2, 1, 150, 0));
-    record::add_line(&mut buf, 34, made(0, 1, 0, 0, 0));
-    record::add_line(&mut buf, 44, made(0, 3, 0, 0, 0));
+    writing::begin_record(&mut buf, 1);
+    writing::add_line(&mut buf, 4, made(0, 1, 1, 150, 0));
+    writing::add_line(&mut buf, 14, made(0, 1, 2, 150, 0));
+    writing::add_line(&mut buf, 24, made(0, 2, 1, 150, 0));
+    writing::add_line(&mut buf, 34, made(0, 1, 0, 0, 0));
+    writing::add_line(&mut buf, 44, made(0, 3, 0, 0, 0));
     line(b"the second unread number", front(&buf, 54), 4);
 }
 

@@ -8,7 +8,7 @@ use lib.Dec.{eqb}
 use lib.ListN.{length, replicate, length-append, length-replicate, replicate-append-replicate}
 use borrow.Rule.Slice.PartMut.{putMid}
 use Rattle.meaning.specs.Record.{Line, boats}
-use Rattle.record.specs.Boats.{word}
+use Rattle.boats.specs.Boats.{word}
 use Rattle.request.specs.Codes.{codes, codes-length}
 use Rattle.request.specs.Layout.{lineWord, loadedOf, Loading}
 use Rattle.request.specs.declared.Plan.{Plan}

@@ -12,7 +12,7 @@ use lib.Seq.{split-at, length-take-le, getD-take}
 use Rattle.meaning.specs.Record.{Boat, Line, agree, among, boatsAfter, boats}
 use Rattle.meaning.specs.Writing.{noLine, lineAt}
 use Rattle.meaning.specs.Language.{Compared, compared}
-use Rattle.record.specs.Boats.{agree-same, agree-self, firstWith, firstSame}
+use Rattle.boats.specs.Boats.{agree-same, agree-self, firstWith, firstSame}
 use Rattle.automaton.specs.Listed.{_∈_, none-in}
 
 -- ---- the definitions

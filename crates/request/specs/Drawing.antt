@@ -12,7 +12,7 @@ use borrow.Author.Tests.{eqb-false}
 use Rattle.meaning.specs.Record.{Line, boats}
 use Rattle.meaning.specs.Pattern.{commands, keeps}
 use Rattle.meaning.specs.Request.{Asked, sizeOf, need}
-use Rattle.record.specs.Boats.{word}
+use Rattle.boats.specs.Boats.{word}
 use Rattle.request.specs.Layout.{Laid, boatWords}
 use Rattle.request.specs.Reply.{Planned}
 use Rattle.request.specs.declared.Plan.{Plan}

@@ -6,7 +6,7 @@ use Prim.Native.Nat.{ℕ, _+_, _*_, _^_, _≤_, _<_, _/_, _%_}
 use lib.Dec.{eqb}
 use lib.ListN.{length, take}
 use Rattle.meaning.specs.Record.{Line, boats}
-use Rattle.record.specs.Boats.{word}
+use Rattle.boats.specs.Boats.{word}
 use Rattle.request.specs.Codes.{codes}
 use Rattle.request.specs.declared.Plan.{Plan}
 

@@ -9,7 +9,7 @@ ghost use Rattle.meaning.specs.Outcome.{told};
 ghost use Rattle.meaning.specs.Record.{boats};
 ghost use Rattle.meaning.specs.Request.{askBoth, askRequest, wordsOf};
 ghost use Rattle.meaning.specs.Writing.{lineAt};
-ghost use Rattle.record.specs.Boats.{word, firstSame};
+ghost use Rattle.boats.specs.Boats.{word, firstSame};
 ghost use Rattle.record.specs.Whole.{linesOf};
 ghost use Rattle.request.specs.Codes.{codes};
 ghost use Rattle.request.specs.Layout.{lineWord, loadedOf, Numbering, Loading};
@@ -140,7 +140,7 @@ fn measure(day: &[u8], places: usize, lines: usize, commands: usize, keeps: usiz
     requires { ⌜ (lines ≡ length (linesOf (now day))) × (places ≤ 1024) × (commands ≤ 63) ⌝ }
     ensures { λ r. ⌜ r ≡ measuredTold (linesOf (now (day .entry))) places commands keeps ⌝ }
 {
-    let boats = record::count_boats(day, lines);
+    let boats = boats::count_boats(day, lines);
     let sizing = size_of(places, commands, boats + 1, keeps);
     let Sizing::Size(size) = sizing else {
         return Measured::Above;
@@ -302,7 +302,7 @@ fn load_code(day: &[u8], i: usize, count: u32, part: &mut [u32]) -> u32
     requires { ⌜ Numbering (linesOf (now day)) i count (now part) ⌝ }
     ensures { λ r. ⌜ (r ≡ length (boats (take (suc i) (linesOf (now (day .entry)))))) × (now (part .exit) ≡ set (now (part .entry)) i (getD (codes (linesOf (now (day .entry)))) i 0)) ⌝ }
 {
-    let first = record::first_same(day, i);
+    let first = boats::first_same(day, i);
     if first == i {
         let next = count + 1;
         part[i] = next;
@@ -330,8 +330,8 @@ fn load_boat(day: &[u8], i: usize, count: usize, part: &mut [u32]) -> usize
     requires { ⌜ (i < length (linesOf (now day))) × (count ≡ length (boats (take i (linesOf (now day))))) × (length (now part) ≡ length (boats (linesOf (now day)))) ⌝ }
     ensures { λ r. ⌜ (r ≡ length (boats (take (suc i) (linesOf (now (day .entry)))))) × (now (part .exit) ≡ cond (eqb (firstSame (linesOf (now (day .entry))) i) i) (set (now (part .entry)) count (word (lineAt (linesOf (now (day .entry))) i .boat))) (now (part .entry))) ⌝ }
 {
-    if record::first_same(day, i) == i {
-        part[count] = record::boat_at(day, i);
+    if boats::first_same(day, i) == i {
+        part[count] = boats::boat_at(day, i);
         return count + 1;
     }
     count

@@ -15,7 +15,7 @@ use Rattle.meaning.specs.Writing.{noLine, lineAt}
 use Rattle.meaning.specs.Pattern.{Pattern, Rule, commands, keeps}
 use Rattle.meaning.specs.Language.{compared}
 use Rattle.meaning.specs.Request.{searchSize}
-use Rattle.record.specs.Boats.{word, boats-few}
+use Rattle.boats.specs.Boats.{word, boats-few}
 use Rattle.record.specs.Fit.{Fit}
 use Rattle.automaton.specs.Listed.{_∈_, getD-in}
 use Rattle.automaton.specs.Automaton.{against, nodes, nodeAt, start}

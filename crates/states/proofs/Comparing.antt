@@ -11,7 +11,7 @@ use lib.ListN.{length, getD, List·getD-eq-default}
 use lib.Seq.{length-take-le}
 use Rattle.meaning.specs.Record.{agree}
 use Rattle.meaning.specs.Language.{same-boat, other-boat}
-use Rattle.record.specs.Boats.{agree-same, agree-self, word}
+use Rattle.boats.specs.Boats.{agree-same, agree-self, word}
 use Rattle.request.specs.declared.Plan.{Plan}
 use Rattle.search.specs.Loaded.{boatIn, boatWordAt}
 use Rattle.states.specs.Spots.{front, wordsCompared, metBy, okay}

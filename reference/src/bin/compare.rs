@@ -11,22 +11,12 @@ use reference::library::Library;
 use reference::linked::Linked;
 use reference::random::Random;
 use reference::request::NO_CHAIN;
-use reference::rounds::{self, Replies};
+use reference::rounds::{Round, SORTS};
 use std::collections::BTreeMap;
 use std::process::exit;
 use std::time::{Instant, SystemTime, UNIX_EPOCH};
 
 const FIXED_SEEDS: [u64; 3] = [1, 2, 3];
-
-type Round = fn(&dyn Library, &mut Random) -> Replies;
-
-/// The sorts of rounds, in the order of the arguments.
-const SORTS: [(&str, Round); 4] = [
-    ("bytes", rounds::bytes),
-    ("writes", rounds::writes),
-    ("checks", rounds::check),
-    ("finds", rounds::find),
-];
 
 fn main() {
     let arguments: Option<Vec<u64>> = std::env::args().skip(1).map(|a| a.parse().ok()).collect();

@@ -2,8 +2,8 @@
 use mathlib.Core.Path.{sym, ap, subst}
 use Prim.Native.Nat.{_<_}
 use native.Mathlib.Omega.{arith}
-use Rattle.record.specs.Reply.{writeReply}
-use Rattle.record.specs.declared.WriteReply.{WriteReply}
+use Rattle.writing.specs.Reply.{writeReply}
+use Rattle.writing.specs.declared.WriteReply.{WriteReply}
 use Rattle.exports.specs.Number.{numberOf, Fits32}
 use borrow.Author.Needs.{needs}
 use Rattle.exports.proofs.write_number.Statement.{statement}

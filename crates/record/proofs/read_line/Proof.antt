@@ -9,7 +9,7 @@ use Rattle.meaning.specs.Record.{Day, readRecord}
 use Rattle.meaning.specs.Writing.{lineAt}
 use Rattle.record.specs.Reply.{readingNumber}
 use Rattle.record.specs.Whole.{linesIn, linesOf, reading-refused, reading-passed}
-use Rattle.record.proofs.Writes.{read-refused, read-passed}
+use Rattle.record.proofs.Back.{read-refused, read-passed}
 use borrow.Author.Tests.{le-ltb, lt-ltb}
 use borrow.Author.Needs.{needs}
 use Rattle.record.proofs.read_line.Statement.{statement}

@@ -10,7 +10,7 @@ use lib.ListN.{length}
 use Rattle.meaning.specs.Record.{boats}
 use Rattle.meaning.specs.Request.{askBoth, sizeOf, need}
 use Rattle.record.specs.Whole.{linesOf, lines-short}
-use Rattle.record.specs.Boats.{boats-few}
+use Rattle.boats.specs.Boats.{boats-few}
 use lib.Seq.{take-length}
 use Rattle.request.specs.Reply.{bothNumber, Small}
 use Rattle.request.specs.Drawing.{Fitting, laid, planned-of}

@@ -7,7 +7,7 @@ use native.Mathlib.Omega.{arith}
 use lib.ListN.{length, take, set}
 use borrow.Author.Tests.{eq-eqb, ne-eqb}
 use Rattle.meaning.specs.Record.{boats}
-use Rattle.record.specs.Boats.{boats-more, boats-few, boats-up}
+use Rattle.boats.specs.Boats.{boats-more, boats-few, boats-up}
 use Rattle.record.specs.Whole.{linesOf, lines-short}
 use borrow.Author.Needs.{needs}
 use Rattle.request.proofs.load_boat.Statement.{statement}

@@ -10,7 +10,7 @@ use lib.ListN.{length, take, drop, set, length-append, length-map}
 use lib.Seq.{take-length, drop-length}
 use Rattle.meaning.specs.Record.{Boat, Line, boats, boatsAfter}
 use Rattle.meaning.specs.Writing.{lineAt}
-use Rattle.record.specs.Boats.{word, firstSame, boats-next, boats-up}
+use Rattle.boats.specs.Boats.{word, firstSame, boats-next, boats-up}
 use Rattle.record.specs.Whole.{linesOf}
 use Rattle.request.proofs.Fills.{store-end}
 use Rattle.request.proofs.load_boats.Statement.{statement}

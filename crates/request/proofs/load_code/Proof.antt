@@ -11,7 +11,7 @@ use lib.Seq.{getD-take}
 use borrow.Author.Tests.{eq-eqb, ne-eqb}
 use Rattle.meaning.specs.Record.{Line, boats}
 use Rattle.meaning.specs.Writing.{lineAt}
-use Rattle.record.specs.Boats.{agree-self, firstSame, first-le, boats-more, boats-few}
+use Rattle.boats.specs.Boats.{agree-self, firstSame, first-le, boats-more, boats-few}
 use Rattle.record.specs.Whole.{linesOf}
 use Rattle.request.specs.Codes.{codes, code-earlier, code-new}
 use Rattle.request.specs.Layout.{Numbering}

@@ -9,7 +9,7 @@ use lib.Seq.{length-take-le}
 use borrow.Author.Tests.{eq-eqb, ne-eqb}
 use borrow.Rule.Slice.PartMut.{putMid}
 use Rattle.meaning.specs.Record.{boats}
-use Rattle.record.specs.Boats.{word}
+use Rattle.boats.specs.Boats.{word}
 use Rattle.record.specs.Whole.{linesOf}
 use borrow.Author.Needs.{needs}
 use Rattle.request.proofs.load_kept.Statement.{statement}

@@ -1,0 +1,161 @@
+/*
+ * The chain finder for a sailing day's record: the functions of libexports.a.
+ *
+ * A record is a day's written lines; a line has a kind and a boat (class and sail number) and leads from a place to a place. A
+ * pattern says which chains of lines are accepted. README.md explains the bytes of both.
+ *
+ * Slices. A pointer and the count that follows it are one slice: so many entries from there on. A pointer is never null and is
+ * aligned to its type, also where the count is 0: lend the address of any variable of the type then. (malloc(0) may be null.)
+ *
+ * Overlap. A buffer that a function writes to (no const) must not overlap another buffer of the same call. Two buffers that are
+ * only read may.
+ *
+ * Replies. Every function replies with one number of 64 bits: value + 2^32 * number. The number is 0, and the value is then what
+ * the function says below; or a question about what was given was answered no, and the number is that question's (1 to 23,
+ * enum chains_refusal). A refusal's value is 0, except with 19, where it is the length of the shortest chain.
+ *
+ * No function fails in another way, whatever bytes and numbers it is given; none allocates, keeps a pointer or has a state, so
+ * calls from several threads are safe as long as they do not share a buffer that is written to.
+ */
+#ifndef CHAINS_H
+#define CHAINS_H
+
+#include <stddef.h>
+#include <stdint.h>
+
+#ifdef __cplusplus
+extern "C" {
+#endif
+
+/* The question that was answered no. */
+enum chains_refusal {
+    CHAINS_NOT_REFUSED = 0,
+
+    /* The record, entry by entry. */
+    CHAINS_RECORD_TOO_LONG = 1,         /* the record has more than 40,964 bytes */
+    CHAINS_PLACES_OUT_OF_RANGE = 2,     /* it does not begin with 01 and a count of 1 to 1,024 places */
+    CHAINS_ENTRY_NOT_KNOWN = 3,         /* where a line (02) or the end (00) must stand, there is another byte or none */
+    CHAINS_LINE_CUT_SHORT = 4,          /* a line has fewer than its ten bytes */
+    CHAINS_LINE_PLACE_NOT_THERE = 5,    /* a line's place is not below the count of places */
+    CHAINS_LINE_KIND_OUT_OF_RANGE = 6,  /* a line's kind is not 1 to 15 */
+    CHAINS_BYTES_AFTER_END = 7,         /* there are bytes after the record's end byte */
+
+    /* The pattern, command by command. */
+    CHAINS_COMMAND_NOT_KNOWN = 8,       /* where a command (20 to 27) must stand, there is another byte or none */
+    CHAINS_TOO_MANY_COMMANDS = 9,       /* there are more than 63 commands */
+    CHAINS_OPERANDS_MISSING = 10,       /* a command's kind or slot is not there */
+    CHAINS_OPERAND_OUT_OF_RANGE = 11,   /* a command's kind is not 1 to 15, or its slot is not 0 to 3 */
+    CHAINS_SLOT_NOT_KEPT = 12,          /* same or other names a slot that no keep around it keeps */
+    CHAINS_KEEPS_TOO_DEEP = 13,         /* keeps are nested more than three deep */
+    CHAINS_BYTES_AFTER_PATTERN = 14,    /* there are bytes after the complete pattern */
+
+    /* The request. */
+    CHAINS_ASKED_PLACE_NOT_THERE = 15,  /* an asked place is not below the count of places */
+    CHAINS_SEARCH_TOO_LARGE = 16,       /* the search size is above 1,048,576 */
+    CHAINS_WORK_AREA_TOO_SMALL = 17,    /* the work area has fewer words than chains_words says */
+    CHAINS_LINE_NOT_THERE = 18,         /* a named line is not in the record */
+    CHAINS_OUTPUT_TOO_SMALL = 19,       /* the output has fewer entries than the shortest chain, whose length is the value */
+
+    /* Writing. */
+    CHAINS_LENGTH_BEYOND_BUFFER = 20,   /* the record's length is more than the buffer's */
+    CHAINS_SAIL_NUMBER_TOO_LARGE = 21,  /* the sail number is not below 16,777,216 */
+    CHAINS_RECORD_FULL = 22,            /* the record has 4,096 lines already */
+    CHAINS_BUFFER_TOO_SMALL = 23        /* the buffer does not hold the record after the act */
+};
+
+/* The value of chains_find where no chain is accepted. */
+#define CHAINS_NO_CHAIN UINT32_C(4294967295)
+
+/* No record is longer, in bytes: a buffer of this size holds every day. */
+#define CHAINS_LONGEST_RECORD 40964
+
+/* Where chains_read puts the fields of a line. */
+enum chains_field {
+    CHAINS_FIELD_FROM = 0,
+    CHAINS_FIELD_KIND = 1,
+    CHAINS_FIELD_CLASS = 2,
+    CHAINS_FIELD_SAIL = 3,
+    CHAINS_FIELD_TO = 4,
+    CHAINS_FIELDS = 5 /* how many there are */
+};
+
+/* The number of a reply: 0 (CHAINS_NOT_REFUSED), or that of the question that was answered no. */
+static inline uint32_t chains_number(uint64_t reply)
+{
+    return (uint32_t)(reply >> 32);
+}
+
+/* The value of a reply: what the function says, or a refusal's second number. */
+static inline uint32_t chains_value(uint64_t reply)
+{
+    return (uint32_t)(reply & UINT32_C(4294967295));
+}
+
+/*
+ * Begins a record of so many places, with no lines.
+ *
+ * Value: 4, the record's length.
+ * Refusals: 2, 23, in this order.
+ * buf: its first four bytes are written; all other bytes stay. A refusal leaves it untouched.
+ */
+uint64_t chains_begin(uint8_t *buf, size_t buf_len, uint16_t places);
+
+/*
+ * Adds a line to the record that is the first len bytes of the buffer.
+ *
+ * Value: the record's new length, len + 10.
+ * Refusals: 20, then 1 to 7 of the record, 5 and 6 of the new line, 21, 22, 23, in this order.
+ * buf: the line's ten bytes are written from the old end byte (at len - 1) on, and a new end byte after them; all other bytes
+ * stay. A refusal leaves it untouched.
+ */
+uint64_t chains_add(uint8_t *buf, size_t buf_len, size_t len, uint16_t from, uint8_t kind, uint8_t class_, uint32_t sail,
+                    uint16_t to);
+
+/*
+ * Reads a line back. Lines are numbered from 0.
+ *
+ * Value: 5; or 0 where fields_len is below 5, which is no refusal.
+ * Refusals: 1 to 7 of the whole record, then 18. They come before the count of fields is looked at.
+ * rec: only read. fields: from, kind, class, sail number, to are written to the first five words; all other words stay. A value of
+ * 0 and a refusal leave it untouched.
+ */
+uint64_t chains_read(const uint8_t *rec, size_t rec_len, uint16_t line, uint32_t *fields, size_t fields_len);
+
+/*
+ * How many words of 32 bits chains_check and chains_find need as their work area, for this record and this pattern.
+ *
+ * Value: the words, 8,200 to 4,202,496.
+ * Refusals: 1 to 14, then 16.
+ * rec, pat: only read.
+ */
+uint64_t chains_words(const uint8_t *rec, size_t rec_len, const uint8_t *pat, size_t pat_len);
+
+/*
+ * Does the chain lead from the first place to the second, and does the pattern accept it? The chain is a list, of any length, of
+ * numbers of lines.
+ *
+ * Value: 1 for yes, 0 for no.
+ * Refusals: 1 to 18. All entries of the chain are asked about (18) before yes or no.
+ * rec, pat, chain: only read. work: may hold anything before. A refusal from 1 to 17 leaves it untouched; after every other reply
+ * all of it is zeros, also what lies past the words that are needed.
+ */
+uint64_t chains_check(const uint8_t *rec, size_t rec_len, const uint8_t *pat, size_t pat_len, uint16_t from, uint16_t to,
+                      const uint16_t *chain, size_t chain_len, uint32_t *work, size_t work_len);
+
+/*
+ * Finds the shortest accepted chain from the first place to the second; of several, the one with the lower line number at the
+ * first difference.
+ *
+ * Value: the chain's length; or CHAINS_NO_CHAIN (4,294,967,295) where no chain, of any length, is accepted.
+ * Refusals: 1 to 17, then 19, whose value is the shortest length: lend so many entries and ask again.
+ * rec, pat: only read. work: as with chains_check; it is zeros after 19. out: the chain is written at its front when found; the
+ * rest of it, and all of it after none and after a refusal, is untouched.
+ */
+uint64_t chains_find(const uint8_t *rec, size_t rec_len, const uint8_t *pat, size_t pat_len, uint16_t from, uint16_t to,
+                     uint32_t *work, size_t work_len, uint16_t *out, size_t out_len);
+
+#ifdef __cplusplus
+}
+#endif
+
+#endif

@@ -1,0 +1,304 @@
+//! Planted faults: copies of this program, each wrong in one way that a reader of document 01
+//! could fall into. The comparison must tell every one of them from this program, so that its
+//! silence about the library says something.
+
+mod faulty;
+mod reading;
+mod searching;
+
+use crate::cases::{Bench, ALL};
+use crate::library::{Ask, Library};
+use crate::random::Random;
+use crate::record::Line;
+use crate::rounds::{Round, SORTS};
+use faulty::Faulty;
+use std::cell::Cell;
+use Fault::*;
+
+/// The seed of the rounds that faults are looked for with.
+pub const SEED: u64 = 1;
+/// So many rounds of a sort at most.
+pub const MOST_ROUNDS: usize = 20_000;
+
+#[derive(Clone, Copy, Debug, PartialEq, Eq)]
+pub enum Fault {
+    /// None: the copy itself, which the comparison must not find.
+    NoFault,
+    // Reading records.
+    QuestionByQuestion,
+    NoPlacesPass,
+    MorePlacesPass,
+    AsksFromOnly,
+    // Reading patterns.
+    Asks9Before8,
+    SixtyFourPass,
+    NeverAsks14,
+    NineAfterTheEnd,
+    AsksByOperand,
+    SlotByKeptOnly,
+    KeptEarlier,
+    CountsAllKeeps,
+    CountsSlots,
+    // Sizes.
+    SizeByAllKeeps,
+    SizeBySlots,
+    SizeByLines,
+    SizeByBytes,
+    SizeWithoutOne,
+    SizeWraps,
+    // The order of questions.
+    Asks16Before15,
+    Asks17Before15,
+    Asks17Before16,
+    Asks18Before17,
+    // The language.
+    NoClass,
+    InnerBoatStays,
+    RepeatOnce,
+    OtherAnyKind,
+    // The checker.
+    AnyStart,
+    AnyEnd,
+    NoForMissingLine,
+    NoAtBadJoin,
+    YesToEmpty,
+    OneStateChecked,
+    // The search.
+    MarksWithoutBoats,
+    MarksPlaces,
+    CutAtPlaces,
+    CutAt65535,
+    DepthFirst,
+    WalkingOrder,
+    OneStateFollowed,
+    SilentStepsQueued,
+    LastChain,
+    // The work area.
+    TrustsArea,
+    NeverClears,
+    ClearsNeeded,
+    LeavesArea,
+    ClearsAt16,
+    ClearsAt17,
+    CountsInArea,
+    PastArea,
+    // The output.
+    ClearsOutput,
+    WritesPrefix,
+    InventsLength,
+    RefusesExact,
+    NoneWhenShort,
+    NoneWhenEmpty,
+    // Writing and reading back.
+    BeginLowFirst,
+    BeginClears,
+    AddAsks1OfBuffer,
+    AddAsks7OfBuffer,
+    AddsAfterEnd,
+    NoEndByte,
+    SailTurned,
+    OnlyReports,
+    WritesBefore23,
+    OneLineMore,
+    ReadsToLine,
+    ShortFields,
+}
+
+/// A fault, in words, and the sorts of rounds that meet it.
+pub struct Planted {
+    pub fault: Fault,
+    pub wrong: &'static str,
+    /// Names of `SORTS`; none where only the cases written by hand meet it.
+    pub sorts: &'static [&'static str],
+}
+
+const fn planted(fault: Fault, sorts: &'static [&'static str], wrong: &'static str) -> Planted {
+    Planted {
+        fault,
+        wrong,
+        sorts,
+    }
+}
+
+const B: &[&str] = &["bytes"];
+const W: &[&str] = &["writes"];
+const C: &[&str] = &["checks"];
+const F: &[&str] = &["finds"];
+const BW: &[&str] = &["bytes", "writes"];
+const BCF: &[&str] = &["bytes", "checks", "finds"];
+const CF: &[&str] = &["checks", "finds"];
+
+/// Every fault.
+#[rustfmt::skip]
+pub const PLANTED: &[Planted] = &[
+    planted(QuestionByQuestion, B, "asks a record 5 of all lines before 6 of any"),
+    planted(NoPlacesPass, BW, "lets a count of 0 places pass"),
+    planted(MorePlacesPass, BW, "lets a count of 1,025 places pass"),
+    planted(AsksFromOnly, BW, "asks 5 only of the place that a line is from"),
+    planted(Asks9Before8, B, "asks 9 before 8"),
+    planted(SixtyFourPass, BCF, "lets 64 commands pass"),
+    planted(NeverAsks14, BCF, "does not ask 14"),
+    planted(NineAfterTheEnd, B, "counts bytes after a complete pattern as commands"),
+    planted(AsksByOperand, B, "asks 10 and 11 of each operand in turn"),
+    planted(SlotByKeptOnly, B, "gives 12 for a slot above 3"),
+    planted(KeptEarlier, BCF, "12 by a keep of the slot anywhere before"),
+    planted(CountsAllKeeps, BCF, "13 by the count of all keeps so far"),
+    planted(CountsSlots, BCF, "13 by the different slots around"),
+    planted(SizeByAllKeeps, BCF, "takes all keeps of the pattern for the power in the search size"),
+    planted(SizeBySlots, BCF, "takes the different slots for the power in the search size"),
+    planted(SizeByLines, BCF, "counts lines, not boats, in the search size"),
+    planted(SizeByBytes, BCF, "counts bytes of the pattern, not commands, in the search size"),
+    planted(SizeWithoutOne, BCF, "leaves out the one in boats + 1"),
+    planted(SizeWraps, &[], "multiplies the search size in 32 bits"),
+    planted(Asks16Before15, CF, "asks 16 before 15"),
+    planted(Asks17Before15, CF, "asks 17 before 15"),
+    planted(Asks17Before16, CF, "asks 17 before 16"),
+    planted(Asks18Before17, C, "asks 18 before 17"),
+    planted(NoClass, CF, "compares sail numbers without the class"),
+    planted(InnerBoatStays, CF, "an inner keep's boat stays in its slot; the outer keep's is lost"),
+    planted(RepeatOnce, CF, "wants at least one round of a repeat"),
+    planted(OtherAnyKind, CF, "other takes a line of any kind"),
+    planted(AnyStart, C, "says yes wherever the chain begins"),
+    planted(AnyEnd, C, "says yes wherever the chain ends"),
+    planted(NoForMissingLine, C, "says no where a line does not exist"),
+    planted(NoAtBadJoin, C, "stops asking 18 at the first line that does not join"),
+    planted(YesToEmpty, C, "says yes to an empty chain between two places"),
+    planted(OneStateChecked, C, "the checker follows one state only"),
+    planted(MarksWithoutBoats, F, "marks place and position without the kept boats"),
+    planted(MarksPlaces, F, "marks places only"),
+    planted(CutAtPlaces, F, "finds no chain with more lines than places"),
+    planted(CutAt65535, &[], "finds no chain of more than 65,535 lines"),
+    planted(DepthFirst, F, "the first chain met going deep first, in line order"),
+    planted(WalkingOrder, F, "the first shortest chain in the walking order of the states"),
+    planted(OneStateFollowed, F, "the lowest line of each step, following one state only"),
+    planted(SilentStepsQueued, F, "steps that take no line wait in the queue like the others"),
+    planted(LastChain, F, "of shortest chains, the one with the higher line numbers"),
+    planted(TrustsArea, CF, "takes what the area held before for its own marks"),
+    planted(NeverClears, CF, "does not clear the area"),
+    planted(ClearsNeeded, CF, "clears only the words that are needed"),
+    planted(LeavesArea, CF, "leaves the area after 18 and 19"),
+    planted(ClearsAt16, CF, "clears the area at 16"),
+    planted(ClearsAt17, CF, "clears the area at 17"),
+    planted(CountsInArea, CF, "counts boats in the area and then refuses with 16"),
+    planted(PastArea, CF, "writes one word past the area"),
+    planted(ClearsOutput, F, "clears the rest of the output"),
+    planted(WritesPrefix, F, "writes what fits and then refuses with 19"),
+    planted(InventsLength, F, "19 with the output's length and one"),
+    planted(RefusesExact, F, "refuses an output that fits exactly"),
+    planted(NoneWhenShort, F, "says none when the output is too short"),
+    planted(NoneWhenEmpty, F, "says none when the output is empty"),
+    planted(BeginLowFirst, W, "begin writes the count's low byte first"),
+    planted(BeginClears, W, "begin clears the whole buffer"),
+    planted(AddAsks1OfBuffer, W, "add asks 1 of the buffer's length"),
+    planted(AddAsks7OfBuffer, W, "add wants the end byte to be the buffer's last"),
+    planted(AddsAfterEnd, W, "adds the line after the end byte"),
+    planted(NoEndByte, W, "add writes no new end byte"),
+    planted(SailTurned, W, "add writes the sail number's low byte first"),
+    planted(OnlyReports, W, "add reports a longer record and writes nothing"),
+    planted(WritesBefore23, W, "add writes what fits and then refuses with 23"),
+    planted(OneLineMore, W, "lets a 4,097th line pass 22"),
+    planted(ReadsToLine, B, "reads a line back without asking about those after it"),
+    planted(ShortFields, BW, "writes fields where fewer than five words are lent"),
+];
+
+/// What found a fault, and after how many requests.
+pub struct Finding {
+    pub by: String,
+    pub after: usize,
+}
+
+/// The request of each sort of rounds that finds a fault, and that of the cases by hand.
+pub fn findings(planted: &Planted) -> Vec<Finding> {
+    let sorts = SORTS.into_iter();
+    sorts
+        .filter(|(sort, _)| planted.sorts.contains(sort))
+        .filter_map(|(sort, round)| found_by_rounds(planted.fault, sort, round))
+        .chain(found_by_cases(planted.fault))
+        .collect()
+}
+
+/// Was it found by the cases, and by every sort of rounds that meets it?
+pub fn is_found(planted: &Planted, findings: &[Finding]) -> bool {
+    let expected = planted.sorts.iter().chain(&["cases"]);
+    findings.iter().map(|finding| &finding.by).eq(expected)
+}
+
+/// The first difference in rounds of one sort.
+pub fn found_by_rounds(fault: Fault, sort: &str, round: Round) -> Option<Finding> {
+    let library = Counted::new(fault);
+    let mut random = Random::new(SEED);
+    (0..MOST_ROUNDS).find(|_| round(&library, &mut random).is_err())?;
+    Some(Finding {
+        by: sort.to_string(),
+        after: library.requests.get(),
+    })
+}
+
+/// The first difference in the cases by hand.
+pub fn found_by_cases(fault: Fault) -> Option<Finding> {
+    let library = Counted::new(fault);
+    let bench = Bench { library: &library };
+    ALL.iter().find(|case| (case.run)(&bench).is_err())?;
+    Some(Finding {
+        by: "cases".to_string(),
+        after: library.requests.get(),
+    })
+}
+
+/// One row of the table: fault, found by, after how many requests.
+pub fn row(planted: &Planted, findings: &[Finding]) -> String {
+    let joined = |show: fn(&Finding) -> String| {
+        let shown: Vec<String> = findings.iter().map(show).collect();
+        shown.join(", ")
+    };
+    format!(
+        "| {} | {} | {} |",
+        planted.wrong,
+        joined(|finding| finding.by.clone()),
+        joined(|finding| finding.after.to_string())
+    )
+}
+
+/// A faulty program, and how many requests it was given.
+struct Counted {
+    faulty: Faulty,
+    requests: Cell<usize>,
+}
+
+impl Counted {
+    fn new(fault: Fault) -> Counted {
+        Counted {
+            faulty: Faulty(fault),
+            requests: Cell::new(0),
+        }
+    }
+
+    fn asked(&self) -> &Faulty {
+        self.requests.set(self.requests.get() + 1);
+        &self.faulty
+    }
+}
+
+impl Library for Counted {
+    fn begin(&self, buf: &mut [u8], places: u16) -> u64 {
+        self.asked().begin(buf, places)
+    }
+    fn add(&self, buf: &mut [u8], len: usize, line: Line) -> u64 {
+        self.asked().add(buf, len, line)
+    }
+    fn read(&self, rec: &[u8], number: u16, fields: &mut [u32]) -> u64 {
+        self.asked().read(rec, number, fields)
+    }
+    fn words(&self, rec: &[u8], pat: &[u8]) -> u64 {
+        self.asked().words(rec, pat)
+    }
+    fn check(&self, ask: Ask, chain: &[u16], work: &mut [u32]) -> u64 {
+        self.asked().check(ask, chain, work)
+    }
+    fn find(&self, ask: Ask, work: &mut [u32], out: &mut [u16]) -> u64 {
+        self.asked().find(ask, work, out)
+    }
+    fn has_finder(&self) -> bool {
+        true
+    }
+}

@@ -1,0 +1,333 @@
+//! This program once more behind the six functions, with one fault in it.
+
+use super::reading::{self, asked_of_line, misread, nesting, places_pass};
+use super::searching;
+use super::Fault::{self, *};
+use crate::chains::{search, Asked};
+use crate::library::{Ask, Library};
+use crate::pattern::{Pattern, DEEPEST};
+use crate::record::{Line, Record, LONGEST, MOST_LINES, SAIL_LIMIT};
+use crate::request::{refused, search_size, LARGEST, NO_CHAIN};
+
+pub struct Faulty(pub Fault);
+
+impl Faulty {
+    fn is(&self, fault: Fault) -> bool {
+        self.0 == fault
+    }
+
+    fn both(&self, rec: &[u8], pat: &[u8]) -> Result<(Record, Pattern), u8> {
+        let record = reading::read_record(self.0, rec)?;
+        let pattern = reading::read_pattern(self.0, pat)?;
+        Ok((record, pattern))
+    }
+
+    fn size(&self, record: &Record, pattern: &Pattern, pattern_bytes: usize) -> u128 {
+        let right = search_size(record, pattern);
+        let power = |base: usize| (base as u128).pow(pattern.keeps as u32);
+        let spots = record.places as u128 * (pattern.commands as u128 + 1);
+        match self.0 {
+            SizeByLines => spots * power(record.lines.len() + 1),
+            SizeByBytes => right / (pattern.commands as u128 + 1) * (pattern_bytes as u128 + 1),
+            SizeWithoutOne => spots * power(boats(record)),
+            SizeWraps => right as u32 as u128,
+            _ => right,
+        }
+    }
+
+    /// Questions 1 to 17.
+    fn ask(&self, ask: Ask, work: &mut [u32]) -> Result<Asked, u8> {
+        let (mut record, mut pattern) = self.both(ask.rec, ask.pat)?;
+        let size = self.size(&record, &pattern, ask.pat.len());
+        let order = match self.0 {
+            Asks16Before15 => [16, 15, 17],
+            Asks17Before15 => [16, 17, 15],
+            Asks17Before16 => [15, 17, 16],
+            _ => [15, 16, 17],
+        };
+        let fails = |question: &u8| match question {
+            15 => ask.from >= record.places || ask.to >= record.places,
+            16 => size > LARGEST,
+            _ => (work.len() as u128) < 4 * size + 8_192,
+        };
+        if let Some(number) = order.into_iter().find(fails) {
+            match (self.0, number) {
+                (ClearsAt16, 16) | (ClearsAt17, 17) => work.fill(0),
+                (CountsInArea, 16) => {
+                    for (word, line) in work.iter_mut().zip(&record.lines) {
+                        *word = line.sail;
+                    }
+                }
+                _ => {}
+            }
+            return Err(number);
+        }
+        if self.is(NoClass) {
+            record.lines.iter_mut().for_each(|line| line.class = 0);
+        }
+        pattern.root = misread(self.0, pattern.root);
+        Ok(Asked {
+            record,
+            pattern,
+            from: ask.from,
+            to: ask.to,
+        })
+    }
+
+    /// Yes or no, or 18.
+    fn checked(&self, mut asked: Asked, chain: &[u16], dirty: bool) -> u64 {
+        let line = |number: &u16| asked.record.lines.get(*number as usize).copied();
+        if let Some(missing) = chain.iter().position(|number| line(number).is_none()) {
+            let mut place = asked.from;
+            let joins = chain[..missing].iter().filter_map(line).all(|line| {
+                let joins = line.from == place;
+                place = line.to;
+                joins
+            });
+            let no = self.is(NoForMissingLine) || (self.is(NoAtBadJoin) && !joins);
+            return if no { 0 } else { refused(18, 0) };
+        }
+        let (first, last) = (chain.first().and_then(line), chain.last().and_then(line));
+        match (self.0, first, last) {
+            (AnyStart, Some(first), _) => asked.from = first.from,
+            (AnyEnd, _, Some(last)) => asked.to = last.to,
+            (YesToEmpty, None, _) => asked.to = asked.from,
+            _ => {}
+        }
+        let accepted = match self.0 {
+            _ if nesting(&asked.pattern.root) > DEEPEST => false,
+            TrustsArea if dirty => false,
+            OneStateChecked => searching::one_state_checked(&asked, chain),
+            _ => asked.accepted_by_machine(chain),
+        };
+        accepted as u64
+    }
+
+    fn first(&self, asked: &Asked, dirty: bool) -> Option<Vec<u16>> {
+        let no_longer = |most: usize| search(asked).filter(|chain| chain.len() <= most);
+        match self.0 {
+            _ if nesting(&asked.pattern.root) > DEEPEST => None,
+            TrustsArea if dirty => None,
+            MarksWithoutBoats => searching::marked_by(asked, |(place, state)| (*place, state.spot)),
+            MarksPlaces => searching::marked_by(asked, |(place, _)| *place),
+            CutAtPlaces => no_longer(asked.record.places as usize),
+            CutAt65535 => no_longer(65_535),
+            DepthFirst => searching::depth_first(asked),
+            WalkingOrder => searching::walking_order(asked),
+            OneStateFollowed => searching::one_state_followed(asked),
+            SilentStepsQueued => searching::silent_steps_queued(asked),
+            LastChain => last_chain(asked),
+            _ => search(asked),
+        }
+    }
+
+    /// Found, none or 19, and the output.
+    fn fitted(&self, first: Option<Vec<u16>>, out: &mut [u16]) -> u64 {
+        let Some(chain) = first else {
+            return NO_CHAIN;
+        };
+        let length = chain.len();
+        if length > out.len() || (self.is(RefusesExact) && length == out.len()) {
+            match self.0 {
+                WritesPrefix => out.copy_from_slice(&chain[..out.len()]),
+                InventsLength => return refused(19, out.len() as u64 + 1),
+                NoneWhenShort => return NO_CHAIN,
+                NoneWhenEmpty if out.is_empty() => return NO_CHAIN,
+                _ => {}
+            }
+            return refused(19, length as u64);
+        }
+        out[..length].copy_from_slice(&chain);
+        if self.is(ClearsOutput) {
+            out[length..].fill(0);
+        }
+        length as u64
+    }
+
+    /// Clears the area after a reply that is not a refusal from 1 to 17.
+    fn clear(&self, ask: Ask, work: &mut [u32], reply: u64) {
+        match self.0 {
+            NeverClears => {}
+            LeavesArea if reply >> 32 != 0 => {}
+            ClearsNeeded => {
+                let needed = self.words(ask.rec, ask.pat) as usize;
+                work[..needed].fill(0);
+            }
+            _ => work.fill(0),
+        }
+        if self.is(PastArea) {
+            // The comparison lends a part of a longer buffer, so the word exists.
+            unsafe { *work.as_mut_ptr().add(work.len()) = 0 }
+        }
+    }
+
+    fn added(&self, buf: &mut [u8], len: usize, line: Line) -> Result<usize, u8> {
+        if len > buf.len() {
+            return Err(20);
+        }
+        if self.is(AddAsks1OfBuffer) && buf.len() > LONGEST {
+            return Err(1);
+        }
+        let record = reading::read_record(self.0, &buf[..len])?;
+        if self.is(AddAsks7OfBuffer) && len != buf.len() {
+            return Err(7);
+        }
+        asked_of_line(self.0, &line, record.places)?;
+        if line.sail >= SAIL_LIMIT {
+            return Err(21);
+        }
+        if record.lines.len() >= MOST_LINES + self.is(OneLineMore) as usize {
+            return Err(22);
+        }
+        let mut bytes = line.bytes();
+        if self.is(SailTurned) {
+            bytes.swap(5, 7);
+        }
+        let mut at = len - 1;
+        if len + 10 > buf.len() {
+            if self.is(WritesBefore23) {
+                let fits = buf.len() - at;
+                buf[at..].copy_from_slice(&bytes[..fits]);
+            }
+            return Err(23);
+        }
+        if self.is(AddsAfterEnd) && len + 10 < buf.len() {
+            at = len;
+        }
+        if !self.is(OnlyReports) {
+            buf[at..at + 10].copy_from_slice(&bytes);
+            if !self.is(NoEndByte) {
+                buf[at + 10] = 0;
+            }
+        }
+        Ok(len + 10)
+    }
+}
+
+/// How many different boats a record has.
+fn boats(record: &Record) -> usize {
+    let mut boats: Vec<_> = record.lines.iter().map(Line::boat).collect();
+    boats.sort_unstable();
+    boats.dedup();
+    boats.len()
+}
+
+/// The first shortest chain of the lines in the opposite order.
+fn last_chain(asked: &Asked) -> Option<Vec<u16>> {
+    let mut lines = asked.record.lines.clone();
+    lines.reverse();
+    let last = lines.len().wrapping_sub(1) as u16;
+    let turned = Asked {
+        record: Record {
+            places: asked.record.places,
+            lines,
+        },
+        pattern: asked.pattern.clone(),
+        ..*asked
+    };
+    let chain = search(&turned)?;
+    Some(chain.into_iter().map(|number| last - number).collect())
+}
+
+impl Library for Faulty {
+    fn begin(&self, buf: &mut [u8], places: u16) -> u64 {
+        if !places_pass(self.0, places) {
+            return refused(2, 0);
+        }
+        if buf.len() < 4 {
+            return refused(23, 0);
+        }
+        if self.is(BeginClears) {
+            buf.fill(0);
+        }
+        let [mut high, mut low] = places.to_be_bytes();
+        if self.is(BeginLowFirst) {
+            (high, low) = (low, high);
+        }
+        buf[..4].copy_from_slice(&[0x01, high, low, 0x00]);
+        4
+    }
+
+    fn add(&self, buf: &mut [u8], len: usize, line: Line) -> u64 {
+        match self.added(buf, len, line) {
+            Ok(length) => length as u64,
+            Err(number) => refused(number, 0),
+        }
+    }
+
+    fn read(&self, rec: &[u8], number: u16, fields: &mut [u32]) -> u64 {
+        let mut asked = rec.to_vec();
+        let end = 13 + 10 * number as usize;
+        if self.is(ReadsToLine) && end < rec.len() && rec.len() <= LONGEST {
+            asked.truncate(end);
+            asked.push(0);
+        }
+        let record = match reading::read_record(self.0, &asked) {
+            Ok(record) => record,
+            Err(number) => return refused(number, 0),
+        };
+        let Some(line) = record.lines.get(number as usize) else {
+            return refused(18, 0);
+        };
+        let values = [
+            line.from as u32,
+            line.kind as u32,
+            line.class as u32,
+            line.sail,
+            line.to as u32,
+        ];
+        if fields.len() < 5 && !self.is(ShortFields) {
+            return 0;
+        }
+        for (field, value) in fields.iter_mut().zip(values) {
+            *field = value;
+        }
+        if fields.len() < 5 {
+            0
+        } else {
+            5
+        }
+    }
+
+    fn words(&self, rec: &[u8], pat: &[u8]) -> u64 {
+        let (record, pattern) = match self.both(rec, pat) {
+            Ok(both) => both,
+            Err(number) => return refused(number, 0),
+        };
+        match self.size(&record, &pattern, pat.len()) {
+            size if size > LARGEST => refused(16, 0),
+            size => 4 * size as u64 + 8_192,
+        }
+    }
+
+    fn check(&self, ask: Ask, chain: &[u16], work: &mut [u32]) -> u64 {
+        let dirty = work.iter().any(|&word| word != 0);
+        let asked = match self.ask(ask, work) {
+            Ok(asked) => asked,
+            Err(17) if self.is(Asks18Before17) => {
+                let lines = reading::read_record(self.0, ask.rec).map_or(0, |r| r.lines.len());
+                let missing = chain.iter().any(|&number| number as usize >= lines);
+                return refused(if missing { 18 } else { 17 }, 0);
+            }
+            Err(number) => return refused(number, 0),
+        };
+        let reply = self.checked(asked, chain, dirty);
+        self.clear(ask, work, reply);
+        reply
+    }
+
+    fn find(&self, ask: Ask, work: &mut [u32], out: &mut [u16]) -> u64 {
+        let dirty = work.iter().any(|&word| word != 0);
+        let asked = match self.ask(ask, work) {
+            Ok(asked) => asked,
+            Err(number) => return refused(number, 0),
+        };
+        let reply = self.fitted(self.first(&asked, dirty), out);
+        self.clear(ask, work, reply);
+        reply
+    }
+
+    fn has_finder(&self) -> bool {
+        true
+    }
+}

@@ -1,0 +1,263 @@
+//! Wrong ways to search, and the wrong way to check.
+
+use crate::chains::Asked;
+use crate::machine::{boat_numbers, Machine, Spot, State};
+use std::collections::hash_map::Entry;
+use std::collections::{HashMap, HashSet, VecDeque};
+use std::hash::Hash;
+
+/// A place and a state of the machine.
+pub type Standing = (u16, State);
+
+/// What a search walks over.
+struct Course<'a> {
+    asked: &'a Asked,
+    machine: Machine,
+    boats: Vec<u16>,
+    lines_from: Vec<Vec<u16>>,
+}
+
+impl Course<'_> {
+    fn of(asked: &Asked) -> Course<'_> {
+        Course {
+            asked,
+            machine: Machine::new(&asked.pattern.root),
+            boats: boat_numbers(&asked.record),
+            lines_from: asked.lines_from(),
+        }
+    }
+
+    fn begin(&self) -> Vec<Standing> {
+        let states = self.machine.begin().into_iter();
+        states.map(|state| (self.asked.from, state)).collect()
+    }
+
+    fn lines_at(&self, place: u16) -> &[u16] {
+        &self.lines_from[place as usize]
+    }
+
+    /// The standings after a line.
+    fn after(&self, standing: Standing, number: u16) -> Vec<Standing> {
+        let line = &self.asked.record.lines[number as usize];
+        let mut states = Vec::new();
+        let boat = self.boats[number as usize];
+        self.machine.take(standing.1, line, boat, &mut states);
+        states.into_iter().map(|state| (line.to, state)).collect()
+    }
+
+    fn accepting(&self, standing: &Standing) -> bool {
+        standing.0 == self.asked.to && self.machine.is_done(standing.1)
+    }
+}
+
+/// Chains, each as the chain without its last line, and that line; the empty one first.
+struct Chains(Vec<(usize, u16)>);
+
+impl Chains {
+    fn new() -> Chains {
+        Chains(vec![(0, 0)])
+    }
+
+    fn longer(&mut self, chain: usize, number: u16) -> usize {
+        self.0.push((chain, number));
+        self.0.len() - 1
+    }
+
+    fn written_out(&self, mut chain: usize) -> Vec<u16> {
+        let mut numbers = Vec::new();
+        while chain != 0 {
+            let (before, number) = self.0[chain];
+            numbers.push(number);
+            chain = before;
+        }
+        numbers.reverse();
+        numbers
+    }
+}
+
+/// Layer by layer and chain by chain, as the right search does, but a standing counts as met
+/// when one with the same mark was.
+pub fn marked_by<M: Eq + Hash>(asked: &Asked, mark: fn(&Standing) -> M) -> Option<Vec<u16>> {
+    let course = Course::of(asked);
+    let begin = course.begin();
+    if begin.iter().any(|standing| course.accepting(standing)) {
+        return Some(Vec::new());
+    }
+    let mut met: HashSet<M> = begin.iter().map(mark).collect();
+    let mut chains = Chains::new();
+    let mut layer = vec![(0, asked.from, begin)];
+    while !layer.is_empty() {
+        let mut next_layer = Vec::new();
+        for (chain, place, standings) in &layer {
+            for &number in course.lines_at(*place) {
+                let mut fresh = Vec::new();
+                for &standing in standings {
+                    for after in course.after(standing, number) {
+                        if met.insert(mark(&after)) {
+                            fresh.push(after);
+                        }
+                    }
+                }
+                if fresh.is_empty() {
+                    continue;
+                }
+                let longer = chains.longer(*chain, number);
+                if fresh.iter().any(|standing| course.accepting(standing)) {
+                    return Some(chains.written_out(longer));
+                }
+                next_layer.push((longer, fresh[0].0, fresh));
+            }
+        }
+        layer = next_layer;
+    }
+    None
+}
+
+/// One queue of standings: a shortest chain, but not the first of them.
+pub fn walking_order(asked: &Asked) -> Option<Vec<u16>> {
+    let course = Course::of(asked);
+    let mut chains = Chains::new();
+    let mut met: HashSet<Standing> = HashSet::new();
+    let mut waiting: VecDeque<(usize, Standing)> =
+        course.begin().into_iter().map(|begin| (0, begin)).collect();
+    while let Some((chain, standing)) = waiting.pop_front() {
+        if !met.insert(standing) {
+            continue;
+        }
+        if course.accepting(&standing) {
+            return Some(chains.written_out(chain));
+        }
+        for &number in course.lines_at(standing.0) {
+            for after in course.after(standing, number) {
+                waiting.push_back((chains.longer(chain, number), after));
+            }
+        }
+    }
+    None
+}
+
+/// A stack in place of the queue, the lowest line on top.
+pub fn depth_first(asked: &Asked) -> Option<Vec<u16>> {
+    let course = Course::of(asked);
+    let mut chains = Chains::new();
+    let mut met: HashSet<Standing> = HashSet::new();
+    let mut waiting: Vec<(usize, Standing)> =
+        course.begin().into_iter().map(|begin| (0, begin)).collect();
+    while let Some((chain, standing)) = waiting.pop() {
+        if !met.insert(standing) {
+            continue;
+        }
+        if course.accepting(&standing) {
+            return Some(chains.written_out(chain));
+        }
+        for &number in course.lines_at(standing.0).iter().rev() {
+            for after in course.after(standing, number) {
+                waiting.push((chains.longer(chain, number), after));
+            }
+        }
+    }
+    None
+}
+
+/// One queue in which a step that takes no line waits as long as one that takes a line.
+pub fn silent_steps_queued(asked: &Asked) -> Option<Vec<u16>> {
+    let course = Course::of(asked);
+    let mut chains = Chains::new();
+    let mut met: HashSet<Standing> = HashSet::new();
+    let at = |spot: usize, stack| State {
+        spot: spot as u8,
+        stack,
+    };
+    let start = at(course.machine.start, Default::default());
+    let mut waiting = VecDeque::from([(0, (asked.from, start))]);
+    while let Some((chain, standing)) = waiting.pop_front() {
+        if !met.insert(standing) {
+            continue;
+        }
+        let (place, State { spot, stack }) = standing;
+        match course.machine.spots[spot as usize] {
+            Spot::Fork { one, two } => {
+                waiting.push_back((chain, (place, at(one, stack))));
+                waiting.push_back((chain, (place, at(two, stack))));
+            }
+            Spot::Leave { next } => waiting.push_back((chain, (place, at(next, stack.popped())))),
+            Spot::Done if place == asked.to => return Some(chains.written_out(chain)),
+            Spot::Done => {}
+            Spot::Take { test, next } => {
+                for &number in course.lines_at(place) {
+                    let line = &asked.record.lines[number as usize];
+                    let boat = course.boats[number as usize];
+                    if let Some(stack) = test.passed(stack, line, boat) {
+                        let longer = chains.longer(chain, number);
+                        waiting.push_back((longer, (line.to, at(next, stack))));
+                    }
+                }
+            }
+        }
+    }
+    None
+}
+
+/// The right distances, and then the lowest line of each step, but from one state only.
+pub fn one_state_followed(asked: &Asked) -> Option<Vec<u16>> {
+    let course = Course::of(asked);
+    let begin = course.begin();
+    // Every standing that can be met, and the standings before it.
+    let mut before: HashMap<Standing, Vec<Standing>> = HashMap::new();
+    let mut met: HashSet<Standing> = begin.iter().copied().collect();
+    let mut waiting = begin.clone();
+    while let Some(standing) = waiting.pop() {
+        for &number in course.lines_at(standing.0) {
+            for after in course.after(standing, number) {
+                before.entry(after).or_default().push(standing);
+                if met.insert(after) {
+                    waiting.push(after);
+                }
+            }
+        }
+    }
+    // The distance of each to acceptance.
+    let mut distance: HashMap<Standing, usize> = HashMap::new();
+    let mut waiting: VecDeque<Standing> = VecDeque::new();
+    for standing in met
+        .into_iter()
+        .filter(|standing| course.accepting(standing))
+    {
+        distance.insert(standing, 0);
+        waiting.push_back(standing);
+    }
+    while let Some(standing) = waiting.pop_front() {
+        let next = distance[&standing] + 1;
+        for &earlier in before.get(&standing).into_iter().flatten() {
+            if let Entry::Vacant(unknown) = distance.entry(earlier) {
+                unknown.insert(next);
+                waiting.push_back(earlier);
+            }
+        }
+    }
+    let nearest = begin.into_iter().filter(|s| distance.contains_key(s));
+    let mut standing = nearest.min_by_key(|standing| distance[standing])?;
+    let mut chain = Vec::new();
+    while distance[&standing] > 0 {
+        let left = distance[&standing] - 1;
+        let step = course.lines_at(standing.0).iter().find_map(|&number| {
+            let next = course.after(standing, number).into_iter();
+            let mut nearer = next.filter(|after| distance.get(after) == Some(&left));
+            nearer.next().map(|after| (number, after))
+        });
+        let (number, after) = step.expect("a step leads nearer");
+        chain.push(number);
+        standing = after;
+    }
+    Some(chain)
+}
+
+/// Is the chain accepted by the first state after each line?
+pub fn one_state_checked(asked: &Asked, chain: &[u16]) -> bool {
+    let course = Course::of(asked);
+    let mut standing = course.begin().first().copied();
+    for &number in chain {
+        standing = standing.and_then(|standing| course.after(standing, number).first().copied());
+    }
+    asked.leads(chain) && standing.is_some_and(|standing| course.accepting(&standing))
+}

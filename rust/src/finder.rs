@@ -1,0 +1,112 @@
+//! Finding and checking, with buffers that are kept from one request to the next.
+
+use crate::lent::{self, CheckReply, FindReply, WordsReply};
+use crate::Refusal;
+
+/// What is asked: a record and a pattern, as bytes, and two places.
+#[derive(Clone, Copy, PartialEq, Eq, Debug)]
+pub struct Question<'a> {
+    /// The day's record.
+    pub record: &'a [u8],
+    /// The pattern.
+    pub pattern: &'a [u8],
+    /// The place that a chain must lead from.
+    pub from: u16,
+    /// The place that it must lead to.
+    pub to: u16,
+}
+
+/// Finds and checks chains.
+///
+/// It has the work area and the output that the library wants to be lent. Both grow when a
+/// request needs more and are kept for the next one, so one `Finder` for many requests
+/// allocates seldom. Its replies never depend on the requests before.
+///
+/// ```
+/// use chains::{Finder, Line, Question, Record};
+///
+/// let mut day = Record::begin(2)?;
+/// day.add(Line { from: 0, kind: 1, class: 2, sail: 150, to: 1 })?;
+/// // One line of kind 1.
+/// let question = Question { record: day.bytes(), pattern: &[0x21, 1], from: 0, to: 1 };
+/// let mut finder = Finder::new();
+/// assert_eq!(finder.find(&question)?, Some(&[0][..]));
+/// assert!(finder.check(&question, &[0])?);
+/// # Ok::<(), chains::Refusal>(())
+/// ```
+#[derive(Clone, Debug, Default)]
+pub struct Finder {
+    work: Vec<u32>,
+    out: Vec<u16>,
+}
+
+impl Finder {
+    /// A finder with no buffers yet.
+    pub fn new() -> Finder {
+        Finder::default()
+    }
+
+    /// The shortest accepted chain from the first place to the second, as numbers of lines; of
+    /// several, the one with the lower number at the first difference. `None` says that no
+    /// chain, of any length, is accepted.
+    ///
+    /// Refusals: 1 to 16. Question 17 never fails here, since the work area is as large as
+    /// [`lent::words`] says. Nor does 19: where the output is too short for the chain, it is
+    /// made long enough and the library is asked once more. A `Finder` that meets a chain
+    /// longer than any before thus searches twice.
+    pub fn find(&mut self, question: &Question) -> Result<Option<&[u16]>, Refusal> {
+        let mut reply = self.find_once(question);
+        if let FindReply::Refused(Refusal::OutputTooSmall { length }) = reply {
+            self.out.resize(length, 0);
+            reply = self.find_once(question);
+        }
+        match reply {
+            FindReply::Found(length) => Ok(Some(&self.out[..length])),
+            FindReply::NoChain => Ok(None),
+            FindReply::Refused(refusal) => Err(refusal),
+        }
+    }
+
+    fn find_once(&mut self, question: &Question) -> FindReply {
+        let Question {
+            record,
+            pattern,
+            from,
+            to,
+        } = *question;
+        let work = area(&mut self.work, question);
+        lent::find(record, pattern, from, to, work, &mut self.out)
+    }
+
+    /// Does the chain lead from the first place to the second, and does the pattern accept it?
+    ///
+    /// Refusals: 1 to 16, and 18.
+    pub fn check(&mut self, question: &Question, chain: &[u16]) -> Result<bool, Refusal> {
+        let Question {
+            record,
+            pattern,
+            from,
+            to,
+        } = *question;
+        let work = area(&mut self.work, question);
+        match lent::check(record, pattern, from, to, chain, work) {
+            CheckReply::Yes => Ok(true),
+            CheckReply::No => Ok(false),
+            CheckReply::Refused(refusal) => Err(refusal),
+        }
+    }
+}
+
+/// As many words as the question needs and no more: the library clears all that it is lent.
+/// Where it is not told how many, none: it then asks the same questions again and refuses,
+/// and a place that is not there (15) comes before a search that is too large (16).
+fn area<'a>(work: &'a mut Vec<u32>, question: &Question) -> &'a mut [u32] {
+    let words = match lent::words(question.record, question.pattern) {
+        WordsReply::Words(words) => words,
+        WordsReply::Refused(_) => 0,
+    };
+    if work.len() < words {
+        work.resize(words, 0);
+    }
+    &mut work[..words]
+}

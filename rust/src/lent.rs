@@ -1,0 +1,167 @@
+//! The library's functions as they are, on buffers that the caller lends: one function for
+//! each, and an enum for each sort of reply. Nothing is allocated.
+//!
+//! What becomes of each lent buffer is said with each function. [`Record`](crate::Record)
+//! and [`Finder`](crate::Finder) do the lending for you.
+
+use crate::{linked, Line, Refusal};
+
+/// The reply of [`begin`] and [`add`].
+#[derive(Clone, Copy, PartialEq, Eq, Debug)]
+#[must_use]
+pub enum WriteReply {
+    /// The record's new length in bytes.
+    Length(usize),
+    /// A question was answered no; no byte was altered.
+    Refused(Refusal),
+}
+
+/// The reply of [`read`].
+#[derive(Clone, Copy, PartialEq, Eq, Debug)]
+#[must_use]
+pub enum LineReply {
+    /// The line.
+    Line(Line),
+    /// A question was answered no.
+    Refused(Refusal),
+}
+
+/// The reply of [`words`].
+#[derive(Clone, Copy, PartialEq, Eq, Debug)]
+#[must_use]
+pub enum WordsReply {
+    /// How many words of work area are needed.
+    Words(usize),
+    /// A question was answered no.
+    Refused(Refusal),
+}
+
+/// The reply of [`check`].
+#[derive(Clone, Copy, PartialEq, Eq, Debug)]
+#[must_use]
+pub enum CheckReply {
+    /// The chain leads from the first place to the second, and the pattern accepts it.
+    Yes,
+    /// It does not, or the pattern does not.
+    No,
+    /// A question was answered no.
+    Refused(Refusal),
+}
+
+/// The reply of [`find`].
+#[derive(Clone, Copy, PartialEq, Eq, Debug)]
+#[must_use]
+pub enum FindReply {
+    /// The first shortest chain has so many lines; they stand at the front of the output.
+    Found(usize),
+    /// No chain, of any length, is accepted.
+    NoChain,
+    /// A question was answered no.
+    Refused(Refusal),
+}
+
+/// The value that stands for none.
+const NO_CHAIN: u32 = u32::MAX;
+
+/// A reply's value, or its refusal: the reply is value + 2^32 × number.
+fn taken_apart(reply: u64) -> Result<u32, Refusal> {
+    let (number, value) = ((reply >> 32) as u32, reply as u32);
+    if number == 0 {
+        Ok(value)
+    } else {
+        Err(Refusal::of(number, value))
+    }
+}
+
+fn write_reply(reply: u64) -> WriteReply {
+    match taken_apart(reply) {
+        Ok(length) => WriteReply::Length(length as usize),
+        Err(refusal) => WriteReply::Refused(refusal),
+    }
+}
+
+/// Begins a record of so many places, with no lines.
+///
+/// Refusals: 2, 23. The buffer's first four bytes are written; all others stay.
+pub fn begin(buf: &mut [u8], places: u16) -> WriteReply {
+    write_reply(linked::begin(buf, places))
+}
+
+/// Adds a line to the record that is the first `len` bytes of the buffer.
+///
+/// Refusals: 20, then 1 to 7 of the record, 5 and 6 of the line, 21, 22, 23. The line's ten
+/// bytes are written from the old end byte on, and a new end byte; all others stay.
+pub fn add(buf: &mut [u8], len: usize, line: Line) -> WriteReply {
+    write_reply(linked::add(buf, len, line))
+}
+
+/// Reads a line back.
+///
+/// Refusals: 1 to 7 of the whole record, then 18.
+pub fn read(record: &[u8], number: u16) -> LineReply {
+    let mut fields = [0u32; 5];
+    match taken_apart(linked::read(record, number, &mut fields)) {
+        Ok(_) => {
+            let [from, kind, class, sail, to] = fields;
+            // The library widens the fields to 32 bits and no further.
+            LineReply::Line(Line {
+                from: from as u16,
+                kind: kind as u8,
+                class: class as u8,
+                sail,
+                to: to as u16,
+            })
+        }
+        Err(refusal) => LineReply::Refused(refusal),
+    }
+}
+
+/// How many words of work area [`check`] and [`find`] need, for this record and pattern.
+///
+/// Refusals: 1 to 14, then 16.
+pub fn words(record: &[u8], pattern: &[u8]) -> WordsReply {
+    match taken_apart(linked::words(record, pattern)) {
+        Ok(words) => WordsReply::Words(words as usize),
+        Err(refusal) => WordsReply::Refused(refusal),
+    }
+}
+
+/// Does the chain lead from the first place to the second, and does the pattern accept it?
+///
+/// Refusals: 1 to 18. The work area may hold anything before; a refusal from 1 to 17 leaves
+/// it untouched, and after every other reply all of it is zeros.
+pub fn check(
+    record: &[u8],
+    pattern: &[u8],
+    from: u16,
+    to: u16,
+    chain: &[u16],
+    work: &mut [u32],
+) -> CheckReply {
+    match taken_apart(linked::check(record, pattern, from, to, chain, work)) {
+        Ok(0) => CheckReply::No,
+        Ok(_) => CheckReply::Yes,
+        Err(refusal) => CheckReply::Refused(refusal),
+    }
+}
+
+/// Finds the shortest accepted chain from the first place to the second; of several, the one
+/// with the lower line number at the first difference.
+///
+/// Refusals: 1 to 17, then 19 with the shortest length. The work area is left as with
+/// [`check`], and is zeros after 19. A chain that is found stands at the front of the output;
+/// the rest of it, and all of it after every other reply, is untouched.
+pub fn find(
+    record: &[u8],
+    pattern: &[u8],
+    from: u16,
+    to: u16,
+    work: &mut [u32],
+    out: &mut [u16],
+) -> FindReply {
+    match taken_apart(linked::find(record, pattern, from, to, work, out)) {
+        Ok(NO_CHAIN) => FindReply::NoChain,
+        Ok(length) => FindReply::Found(length as usize),
+        Err(refusal) => FindReply::Refused(refusal),
+    }
+}

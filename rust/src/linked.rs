@@ -1,0 +1,161 @@
+//! The proved library's functions, called with slices. All of this crate's `unsafe` is here.
+//!
+//! The library wants of every slice a pointer that is not null and is aligned, and so many
+//! entries behind it; of those it writes to, that nothing else uses them meanwhile. Rust's
+//! slices have all of this, empty ones too, so every function here may be called with any.
+//! The declarations are those of `include/chains.h`; nothing but the tests compares them
+//! with the library's source.
+#![allow(unsafe_code)]
+
+use crate::Line;
+
+#[link(name = "exports", kind = "static")]
+extern "C" {
+    fn chains_begin(buf: *mut u8, buf_len: usize, places: u16) -> u64;
+    fn chains_add(
+        buf: *mut u8,
+        buf_len: usize,
+        len: usize,
+        from: u16,
+        kind: u8,
+        class_: u8,
+        sail: u32,
+        to: u16,
+    ) -> u64;
+    fn chains_read(
+        rec: *const u8,
+        rec_len: usize,
+        line: u16,
+        fields: *mut u32,
+        fields_len: usize,
+    ) -> u64;
+    fn chains_words(rec: *const u8, rec_len: usize, pat: *const u8, pat_len: usize) -> u64;
+    fn chains_check(
+        rec: *const u8,
+        rec_len: usize,
+        pat: *const u8,
+        pat_len: usize,
+        from: u16,
+        to: u16,
+        chain: *const u16,
+        chain_len: usize,
+        work: *mut u32,
+        work_len: usize,
+    ) -> u64;
+    fn chains_find(
+        rec: *const u8,
+        rec_len: usize,
+        pat: *const u8,
+        pat_len: usize,
+        from: u16,
+        to: u16,
+        work: *mut u32,
+        work_len: usize,
+        out: *mut u16,
+        out_len: usize,
+    ) -> u64;
+}
+
+pub fn begin(buf: &mut [u8], places: u16) -> u64 {
+    // SAFETY: pointer and length of a slice that is borrowed for writing.
+    unsafe { chains_begin(buf.as_mut_ptr(), buf.len(), places) }
+}
+
+pub fn add(buf: &mut [u8], len: usize, line: Line) -> u64 {
+    let Line {
+        from,
+        kind,
+        class,
+        sail,
+        to,
+    } = line;
+    // SAFETY: pointer and length of a slice that is borrowed for writing; `len` may be any
+    // number.
+    unsafe {
+        chains_add(
+            buf.as_mut_ptr(),
+            buf.len(),
+            len,
+            from,
+            kind,
+            class,
+            sail,
+            to,
+        )
+    }
+}
+
+pub fn read(record: &[u8], number: u16, fields: &mut [u32]) -> u64 {
+    // SAFETY: pointers and lengths of slices, the second borrowed for writing.
+    unsafe {
+        chains_read(
+            record.as_ptr(),
+            record.len(),
+            number,
+            fields.as_mut_ptr(),
+            fields.len(),
+        )
+    }
+}
+
+pub fn words(record: &[u8], pattern: &[u8]) -> u64 {
+    // SAFETY: pointers and lengths of slices.
+    unsafe {
+        chains_words(
+            record.as_ptr(),
+            record.len(),
+            pattern.as_ptr(),
+            pattern.len(),
+        )
+    }
+}
+
+pub fn check(
+    record: &[u8],
+    pattern: &[u8],
+    from: u16,
+    to: u16,
+    chain: &[u16],
+    work: &mut [u32],
+) -> u64 {
+    // SAFETY: pointers and lengths of slices, the last borrowed for writing.
+    unsafe {
+        chains_check(
+            record.as_ptr(),
+            record.len(),
+            pattern.as_ptr(),
+            pattern.len(),
+            from,
+            to,
+            chain.as_ptr(),
+            chain.len(),
+            work.as_mut_ptr(),
+            work.len(),
+        )
+    }
+}
+
+pub fn find(
+    record: &[u8],
+    pattern: &[u8],
+    from: u16,
+    to: u16,
+    work: &mut [u32],
+    out: &mut [u16],
+) -> u64 {
+    // SAFETY: pointers and lengths of slices, the last two borrowed for writing and so apart.
+    unsafe {
+        chains_find(
+            record.as_ptr(),
+            record.len(),
+            pattern.as_ptr(),
+            pattern.len(),
+            from,
+            to,
+            work.as_mut_ptr(),
+            work.len(),
+            out.as_mut_ptr(),
+            out.len(),
+        )
+    }
+}

@@ -1,0 +1,202 @@
+//! Records: one that grows, and one in a buffer that is given.
+
+use crate::lent::{self, LineReply, WriteReply};
+use crate::Refusal;
+use std::fmt;
+
+/// A written line of the day's record.
+#[derive(Clone, Copy, PartialEq, Eq, Hash, Debug)]
+pub struct Line {
+    /// The place that it is from.
+    pub from: u16,
+    /// 1 to 15: 1 entered, 2 started, 3 rounded, 4 finished, 5 retired are used.
+    pub kind: u8,
+    /// The boat's class. Class and sail number together are the boat.
+    pub class: u8,
+    /// The boat's sail number, below 16,777,216.
+    pub sail: u32,
+    /// The place that it leads to.
+    pub to: u16,
+}
+
+impl fmt::Display for Line {
+    fn fmt(&self, f: &mut fmt::Formatter<'_>) -> fmt::Result {
+        write!(
+            f,
+            "from {}, kind {}, class {}, sail number {}, to {}",
+            self.from, self.kind, self.class, self.sail, self.to
+        )
+    }
+}
+
+/// How many bytes a line takes.
+const LINE: usize = 10;
+/// How many bytes a record without lines takes.
+const EMPTY: usize = 4;
+/// A line's number that no record has: a record has 4,096 lines at most.
+const NO_LINE: u16 = u16::MAX;
+
+fn written(reply: WriteReply) -> Result<usize, Refusal> {
+    match reply {
+        WriteReply::Length(length) => Ok(length),
+        WriteReply::Refused(refusal) => Err(refusal),
+    }
+}
+
+fn line_of(record: &[u8], number: u16) -> Result<Line, Refusal> {
+    match lent::read(record, number) {
+        LineReply::Line(line) => Ok(line),
+        LineReply::Refused(refusal) => Err(refusal),
+    }
+}
+
+/// Questions 1 to 7 of a record. Reading a line asks them of the whole record first, so a
+/// line that no record has is refused with 18 exactly when they pass.
+fn asked_about(record: &[u8]) -> Result<(), Refusal> {
+    match line_of(record, NO_LINE) {
+        Ok(_) | Err(Refusal::LineNotThere) => Ok(()),
+        Err(refusal) => Err(refusal),
+    }
+}
+
+/// How many lines a record of this length has; it has passed questions 1 to 7.
+fn line_count(length: usize) -> u16 {
+    // At most 4,096.
+    ((length - EMPTY) / LINE) as u16
+}
+
+/// A day's record that grows with its lines.
+///
+/// ```
+/// use chains::{Line, Record};
+///
+/// let mut day = Record::begin(2)?;
+/// let number = day.add(Line { from: 0, kind: 1, class: 2, sail: 150, to: 1 })?;
+/// assert_eq!(number, 0);
+/// assert_eq!(day.line(number)?.sail, 150);
+/// assert_eq!(day.bytes().len(), 14);
+/// # Ok::<(), chains::Refusal>(())
+/// ```
+#[derive(Clone, PartialEq, Eq, Debug)]
+pub struct Record {
+    /// Passes questions 1 to 7.
+    bytes: Vec<u8>,
+}
+
+impl Record {
+    /// Begins a record of so many places, 1 to 1,024, with no lines. Refusal: 2.
+    pub fn begin(places: u16) -> Result<Record, Refusal> {
+        let mut bytes = vec![0; EMPTY];
+        written(lent::begin(&mut bytes, places))?;
+        Ok(Record { bytes })
+    }
+
+    /// A record from its bytes, those of a file for example. Refusals: 1 to 7.
+    pub fn from_bytes(bytes: impl Into<Vec<u8>>) -> Result<Record, Refusal> {
+        let bytes = bytes.into();
+        asked_about(&bytes)?;
+        Ok(Record { bytes })
+    }
+
+    /// Adds a line and gives its number. Refusals: 5, 6, 21, 22; the record is then as it was.
+    pub fn add(&mut self, line: Line) -> Result<u16, Refusal> {
+        let length = self.bytes.len();
+        self.bytes.resize(length + LINE, 0);
+        let reply = written(lent::add(&mut self.bytes, length, line));
+        if reply.is_err() {
+            self.bytes.truncate(length);
+        }
+        reply.map(|_| line_count(length))
+    }
+
+    /// The line with this number. Refusal: 18.
+    pub fn line(&self, number: u16) -> Result<Line, Refusal> {
+        line_of(&self.bytes, number)
+    }
+
+    /// How many lines there are; they are numbered from 0.
+    pub fn lines(&self) -> u16 {
+        line_count(self.bytes.len())
+    }
+
+    /// The record's bytes.
+    pub fn bytes(&self) -> &[u8] {
+        &self.bytes
+    }
+
+    /// The record's bytes, to keep.
+    pub fn into_bytes(self) -> Vec<u8> {
+        self.bytes
+    }
+}
+
+impl AsRef<[u8]> for Record {
+    fn as_ref(&self) -> &[u8] {
+        &self.bytes
+    }
+}
+
+/// A day's record at the front of a buffer that is given and does not grow. A line that it
+/// has no room for is refused with 23.
+///
+/// ```
+/// use chains::{Line, RecordIn, Refusal};
+///
+/// let mut buffer = [0; 14];
+/// let mut day = RecordIn::begin(&mut buffer, 2)?;
+/// let line = Line { from: 0, kind: 1, class: 2, sail: 150, to: 1 };
+/// day.add(line)?;
+/// assert_eq!(day.add(line), Err(Refusal::BufferTooSmall));
+/// # Ok::<(), chains::Refusal>(())
+/// ```
+#[derive(Debug)]
+pub struct RecordIn<'a> {
+    buf: &'a mut [u8],
+    /// The buffer's first `length` bytes pass questions 1 to 7.
+    length: usize,
+}
+
+impl<'a> RecordIn<'a> {
+    /// Begins a record of so many places, 1 to 1,024, with no lines. Refusals: 2, 23.
+    pub fn begin(buf: &'a mut [u8], places: u16) -> Result<RecordIn<'a>, Refusal> {
+        let length = written(lent::begin(buf, places))?;
+        Ok(RecordIn { buf, length })
+    }
+
+    /// Goes on with the record that is the first `length` bytes of the buffer. Refusals: 20,
+    /// then 1 to 7.
+    pub fn open(buf: &'a mut [u8], length: usize) -> Result<RecordIn<'a>, Refusal> {
+        let record = buf.get(..length).ok_or(Refusal::LengthBeyondBuffer)?;
+        asked_about(record)?;
+        Ok(RecordIn { buf, length })
+    }
+
+    /// Adds a line and gives its number. Refusals: 5, 6, 21, 22, 23; no byte of the buffer is
+    /// altered then.
+    pub fn add(&mut self, line: Line) -> Result<u16, Refusal> {
+        let number = line_count(self.length);
+        self.length = written(lent::add(self.buf, self.length, line))?;
+        Ok(number)
+    }
+
+    /// The line with this number. Refusal: 18.
+    pub fn line(&self, number: u16) -> Result<Line, Refusal> {
+        line_of(self.bytes(), number)
+    }
+
+    /// How many lines there are; they are numbered from 0.
+    pub fn lines(&self) -> u16 {
+        line_count(self.length)
+    }
+
+    /// The record's bytes.
+    pub fn bytes(&self) -> &[u8] {
+        &self.buf[..self.length]
+    }
+}
+
+impl AsRef<[u8]> for RecordIn<'_> {
+    fn as_ref(&self) -> &[u8] {
+        self.bytes()
+    }
+}

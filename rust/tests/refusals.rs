@@ -1,0 +1,252 @@
+//! Every refusal number that each function can give, and the lent buffers afterwards.
+
+mod common;
+
+use chains::lent::{self, CheckReply, FindReply, LineReply, WordsReply, WriteReply};
+use chains::{Finder, Question, Record, RecordIn, Refusal};
+use common::*;
+
+/// Bytes of records that questions 1 to 7 refuse.
+fn refused_records() -> Vec<(u8, Vec<u8>)> {
+    let one = record(1, &[line(0, 1, 1, 1, 0)]).into_bytes();
+    let with = |at: usize, byte: u8| {
+        let mut bytes = one.clone();
+        bytes[at] = byte;
+        bytes
+    };
+    vec![
+        (1, vec![1; 40_965]),
+        (2, vec![]),
+        (2, vec![1, 0, 0, 0]),
+        (3, vec![1, 0, 1]),
+        (3, with(3, 7)),
+        (4, one[..12].to_vec()),
+        (5, with(5, 1)),
+        (5, with(12, 1)),
+        (6, with(6, 0)),
+        (6, with(6, 16)),
+        (7, [&one[..], &[0]].concat()),
+    ]
+}
+
+/// Patterns that questions 8 to 14 refuse.
+fn refused_patterns() -> Vec<(u8, Vec<u8>)> {
+    vec![
+        (8, vec![]),
+        (8, vec![0x28]),
+        (9, repeats(63, &[0x20])),
+        (10, vec![0x21]),
+        (11, vec![0x21, 0]),
+        (11, vec![0x27, 1, 4, 0x20]),
+        (12, vec![0x22, 1, 0]),
+        (
+            13,
+            vec![0x27, 1, 0, 0x27, 1, 1, 0x27, 1, 2, 0x27, 1, 3, 0x20],
+        ),
+        (14, vec![0x20, 0x20]),
+    ]
+}
+
+/// Every request that 1 to 16 refuse, whatever is lent.
+fn refused_requests() -> Vec<(u8, Vec<u8>, Vec<u8>, u16)> {
+    let mut requests = Vec::new();
+    for (number, bytes) in refused_records() {
+        requests.push((number, bytes, NOTHING.to_vec(), 0));
+    }
+    for (number, pattern) in refused_patterns() {
+        requests.push((number, e().into_bytes(), pattern, 0));
+    }
+    requests.push((15, r().into_bytes(), P.to_vec(), 4));
+    requests.push((16, boats(64).into_bytes(), fifteen_commands(), 0));
+    requests
+}
+
+const DIRT: u32 = 0xA5A5_A5A5;
+const OUT_DIRT: u16 = 0xA5A5;
+
+#[test]
+fn of_begin() {
+    let begin = |length: usize, places: u16| {
+        let mut buf = vec![9; length];
+        let reply = lent::begin(&mut buf, places);
+        if matches!(reply, WriteReply::Refused(_)) {
+            assert_eq!(buf, vec![9; length]);
+        }
+        reply
+    };
+    let refused = WriteReply::Refused;
+    assert_eq!(begin(9, 0), refused(Refusal::PlacesOutOfRange));
+    assert_eq!(begin(0, 1_025), refused(Refusal::PlacesOutOfRange));
+    assert_eq!(begin(3, 1), refused(Refusal::BufferTooSmall));
+    assert_eq!(begin(0, 1), refused(Refusal::BufferTooSmall));
+    assert_eq!(begin(4, 1_024), WriteReply::Length(4));
+    assert_eq!(Record::begin(0), Err(Refusal::PlacesOutOfRange));
+    let short = RecordIn::begin(&mut [0; 3], 1).map(|_| ());
+    assert_eq!(short, Err(Refusal::BufferTooSmall));
+}
+
+#[test]
+fn of_add() {
+    let good = line(0, 1, 1, 1, 0);
+    for (number, bytes) in refused_records() {
+        let mut buf = [&bytes[..], &[9; 20]].concat();
+        let before = buf.clone();
+        let WriteReply::Refused(refusal) = lent::add(&mut buf, bytes.len(), good) else {
+            panic!("{number} passes");
+        };
+        assert_eq!(refusal.number(), number);
+        assert_eq!(buf, before);
+        let opened = RecordIn::open(&mut buf, bytes.len()).map(|_| ());
+        assert_eq!(opened, Err(refusal));
+    }
+    let mut buf = [1, 0, 1, 0, 9, 9, 9, 9, 9, 9, 9, 9, 9, 9, 9];
+    let before = buf;
+    let beyond = Refusal::LengthBeyondBuffer;
+    assert_eq!(lent::add(&mut buf, 16, good), WriteReply::Refused(beyond));
+    assert_eq!(
+        lent::add(&mut buf, usize::MAX, good),
+        WriteReply::Refused(beyond)
+    );
+    assert_eq!(RecordIn::open(&mut buf, 16).map(|_| ()), Err(beyond));
+    assert_eq!(
+        lent::add(&mut buf[..13], 4, good),
+        WriteReply::Refused(Refusal::BufferTooSmall)
+    );
+    assert_eq!(buf, before);
+    assert_eq!(lent::add(&mut buf, 4, good), WriteReply::Length(14));
+    assert_eq!(buf, [1, 0, 1, 2, 0, 0, 1, 1, 0, 0, 1, 0, 0, 0, 9]);
+
+    let mut day = e();
+    let before = day.clone();
+    let place = Refusal::LinePlaceNotThere;
+    assert_eq!(day.add(line(1, 1, 1, 1, 0)), Err(place));
+    assert_eq!(day.add(line(0, 1, 1, 1, 1)), Err(place));
+    let kind = Refusal::LineKindOutOfRange;
+    assert_eq!(day.add(line(0, 0, 1, 1, 0)), Err(kind));
+    assert_eq!(day.add(line(0, 16, 1, 1, 0)), Err(kind));
+    let sail = Refusal::SailNumberTooLarge;
+    assert_eq!(day.add(line(0, 1, 1, 16_777_216, 0)), Err(sail));
+    assert_eq!(day, before);
+    // A full record, built by its bytes: adding asks about the whole record each time.
+    let mut bytes = vec![1, 0, 1];
+    for _ in 0..4_096 {
+        bytes.extend([2, 0, 0, 1, 1, 0, 0, 1, 0, 0]);
+    }
+    bytes.push(0);
+    let mut full = Record::from_bytes(bytes).expect("4,096 lines");
+    assert_eq!(full.lines(), 4_096);
+    let before = full.clone();
+    assert_eq!(full.add(good), Err(Refusal::RecordFull));
+    assert_eq!(full, before);
+}
+
+#[test]
+fn of_read() {
+    for (number, bytes) in refused_records() {
+        let LineReply::Refused(refusal) = lent::read(&bytes, 0) else {
+            panic!("{number} passes");
+        };
+        assert_eq!(refusal.number(), number);
+        assert_eq!(Record::from_bytes(bytes), Err(refusal));
+    }
+    for number in [7, 4_096, u16::MAX] {
+        assert_eq!(r().line(number), Err(Refusal::LineNotThere));
+    }
+}
+
+#[test]
+fn of_words() {
+    for (number, rec, pat, to) in refused_requests() {
+        let reply = lent::words(&rec, &pat);
+        if to != 0 {
+            // The two places are not given to it.
+            assert_eq!(reply, WordsReply::Words(8_704));
+            continue;
+        }
+        let WordsReply::Refused(refusal) = reply else {
+            panic!("{number} passes");
+        };
+        assert_eq!(refusal.number(), number);
+    }
+}
+
+#[test]
+fn of_check_and_find() {
+    let mut finder = Finder::new();
+    for (number, rec, pat, to) in refused_requests() {
+        let mut work = vec![DIRT; 9_000];
+        let mut out = vec![OUT_DIRT; 5];
+        let CheckReply::Refused(checked) = lent::check(&rec, &pat, 0, to, &[0], &mut work) else {
+            panic!("{number} passes");
+        };
+        let FindReply::Refused(found) = lent::find(&rec, &pat, 0, to, &mut work, &mut out) else {
+            panic!("{number} passes");
+        };
+        assert_eq!((checked.number(), found.number()), (number, number));
+        assert_eq!(work, vec![DIRT; 9_000]);
+        assert_eq!(out, vec![OUT_DIRT; 5]);
+        let question = Question {
+            record: &rec,
+            pattern: &pat,
+            from: 0,
+            to,
+        };
+        assert_eq!(finder.check(&question, &[]), Err(checked));
+        assert_eq!(finder.find(&question), Err(found));
+    }
+}
+
+/// 17 leaves the area, 18 and 19 clear it, and none of them writes to the output.
+#[test]
+fn of_areas_and_outputs() {
+    let day = r();
+    let rec = day.bytes();
+    assert_eq!(lent::words(rec, &P), WordsReply::Words(8_704));
+    let small = Refusal::WorkAreaTooSmall;
+    for words in [0, 8_703] {
+        let mut work = vec![DIRT; words];
+        let mut out = [OUT_DIRT; 3];
+        let reply = lent::check(rec, &P, 0, 3, &[9_999], &mut work);
+        assert_eq!(reply, CheckReply::Refused(small));
+        let reply = lent::find(rec, &P, 0, 3, &mut work, &mut out);
+        assert_eq!(reply, FindReply::Refused(small));
+        assert_eq!(work, vec![DIRT; words]);
+        assert_eq!(out, [OUT_DIRT; 3]);
+    }
+    let dirty = || vec![DIRT; 8_800];
+
+    let mut work = dirty();
+    let reply = lent::check(rec, &P, 0, 3, &[5, 0, 7], &mut work);
+    assert_eq!(reply, CheckReply::Refused(Refusal::LineNotThere));
+    assert_eq!(work, vec![0; 8_800]);
+    let missing = Finder::new().check(&ask(&day, &P, 0, 3), &[7]);
+    assert_eq!(missing, Err(Refusal::LineNotThere));
+
+    for entries in [0, 2] {
+        let (mut work, mut out) = (dirty(), vec![OUT_DIRT; entries]);
+        let reply = lent::find(rec, &P, 0, 3, &mut work, &mut out);
+        let short = Refusal::OutputTooSmall { length: 3 };
+        assert_eq!(reply, FindReply::Refused(short));
+        assert_eq!(short.number(), 19);
+        assert_eq!(work, vec![0; 8_800]);
+        assert_eq!(out, vec![OUT_DIRT; entries]);
+    }
+
+    let (mut work, mut out) = (dirty(), [OUT_DIRT; 4]);
+    let reply = lent::find(rec, &P, 0, 3, &mut work, &mut out);
+    assert_eq!(reply, FindReply::Found(3));
+    assert_eq!(out, [1, 2, 5, OUT_DIRT]);
+    assert_eq!(work, vec![0; 8_800]);
+
+    let (mut work, mut out) = (dirty(), [OUT_DIRT; 4]);
+    let reply = lent::find(rec, &P, 3, 0, &mut work, &mut out);
+    assert_eq!(reply, FindReply::NoChain);
+    assert_eq!(out, [OUT_DIRT; 4]);
+    assert_eq!(work, vec![0; 8_800]);
+
+    for (chain, expected) in [([1, 2, 5], CheckReply::Yes), ([0, 2, 5], CheckReply::No)] {
+        let mut work = dirty();
+        assert_eq!(lent::check(rec, &P, 0, 3, &chain, &mut work), expected);
+        assert_eq!(work, vec![0; 8_800]);
+    }
+}

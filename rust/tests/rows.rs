@@ -1,0 +1,132 @@
+//! Document 01's worked rows, by way of `Record` and `Finder`.
+
+mod common;
+
+use chains::{Finder, Line, Record, RecordIn, Refusal};
+use common::*;
+
+/// One finder for all rows, so that its buffers come dirty and of other sizes to each.
+#[test]
+fn rows_of_the_finder() -> Result<(), Refusal> {
+    let mut finder = Finder::new();
+    let (r, t, e) = (r(), t(), e());
+    let mut more = r.clone();
+    assert_eq!(more.add(line(2, 4, 1, 150, 3)), Ok(7));
+    let mut fewer = lines_of_r();
+    fewer.remove(5);
+    let fewer = record(4, &fewer);
+    for _ in 0..2 {
+        assert_eq!(finder.find(&ask(&r, &P, 0, 3))?, Some(&[1, 2, 5][..]));
+        assert_eq!(finder.find(&ask(&more, &P, 0, 3))?, Some(&[0, 3, 7][..]));
+        assert_eq!(finder.find(&ask(&fewer, &P, 0, 3))?, None);
+        assert_eq!(finder.find(&ask(&t, &S, 0, 0))?, Some(&[0, 0, 1, 0][..]));
+        assert_eq!(finder.find(&ask(&e, &NOTHING, 0, 0))?, Some(&[][..]));
+        assert_eq!(finder.find(&ask(&e, &[0x21, 3], 0, 0))?, None);
+        assert_eq!(finder.find(&ask(&r, &[0x26, 0x20], 0, 1))?, None);
+    }
+    Ok(())
+}
+
+#[test]
+fn rows_of_the_checker() -> Result<(), Refusal> {
+    let mut finder = Finder::new();
+    let (r, t, e) = (r(), t(), e());
+    for _ in 0..2 {
+        assert!(!finder.check(&ask(&r, &P, 0, 3), &[0, 2, 5])?);
+        assert!(finder.check(&ask(&r, &P, 0, 3), &[1, 2, 5])?);
+        assert!(finder.check(&ask(&t, &S, 0, 0), &[0, 1, 0, 0])?);
+        assert!(!finder.check(&ask(&t, &S, 0, 0), &[0, 1, 0, 1])?);
+        assert!(finder.check(&ask(&e, &NOTHING, 0, 0), &[])?);
+        assert!(!finder.check(&ask(&r, &NOTHING, 0, 1), &[])?);
+    }
+    Ok(())
+}
+
+#[test]
+fn rows_of_questions() {
+    let mut finder = Finder::new();
+    let number = |bytes: &[u8]| Record::from_bytes(bytes).map_err(Refusal::number);
+    assert_eq!(number(&[1, 0, 0, 0]), Err(2));
+    assert_eq!(number(&[1, 4, 1, 0]), Err(2));
+    assert!(number(&[1, 4, 0, 0]).is_ok());
+    assert_eq!(number(&[1, 0, 1]), Err(3));
+    let e = e();
+    let mut refused = |pattern: &[u8]| {
+        finder
+            .find(&ask(&e, pattern, 0, 0))
+            .map(|found| found.map(<[u16]>::len))
+            .map_err(Refusal::number)
+    };
+    assert_eq!(refused(&[]), Err(8));
+    assert_eq!(refused(&[0x21]), Err(10));
+    assert_eq!(refused(&[0x21, 0]), Err(11));
+    assert_eq!(refused(&[0x22, 1, 0]), Err(12));
+    assert_eq!(refused(&[0x20, 0x20]), Err(14));
+    assert_eq!(refused(&repeats(62, &[0x20])), Ok(Some(0)));
+    assert_eq!(refused(&repeats(63, &[0x20])), Err(9));
+}
+
+#[test]
+fn rows_of_the_largest_size() -> Result<(), Refusal> {
+    let mut finder = Finder::new();
+    let pattern = fifteen_commands();
+    let (fits, over) = (boats(63), boats(64));
+    assert_eq!(finder.find(&ask(&fits, &pattern, 0, 0))?, Some(&[0][..]));
+    assert_eq!(finder.find(&ask(&fits, &pattern, 0, 1))?, None);
+    let question = ask(&over, &pattern, 0, 0);
+    assert_eq!(finder.find(&question), Err(Refusal::SearchTooLarge));
+    assert_eq!(finder.check(&question, &[0]), Err(Refusal::SearchTooLarge));
+    // A place that is not there is asked about before the size.
+    let question = ask(&over, &pattern, 0, 1_024);
+    assert_eq!(finder.find(&question), Err(Refusal::AskedPlaceNotThere));
+    Ok(())
+}
+
+/// A chain that is longer than any output so far: the library is asked twice, and the reply is
+/// the chain all the same.
+#[test]
+fn outputs_grow() -> Result<(), Refusal> {
+    let mut finder = Finder::new();
+    let lap = record(1, &[line(0, 1, 1, 1, 0)]);
+    for laps in [3, 31, 7, 16] {
+        let mut pattern = [0x25, 0x21, 1].repeat(laps - 1);
+        pattern.extend([0x21, 1]);
+        let found = finder.find(&ask(&lap, &pattern, 0, 0))?;
+        assert_eq!(found, Some(&vec![0; laps][..]));
+    }
+    Ok(())
+}
+
+#[test]
+fn records_are_read_back() -> Result<(), Refusal> {
+    let r = r();
+    assert_eq!(r.lines(), 7);
+    let lines: Result<Vec<Line>, Refusal> = (0..r.lines()).map(|number| r.line(number)).collect();
+    assert_eq!(lines?, lines_of_r());
+    assert_eq!(Record::from_bytes(r.bytes())?, r);
+
+    let mut buffer = [0xA5; 80];
+    let mut given = RecordIn::begin(&mut buffer, 4)?;
+    for line in lines_of_r() {
+        given.add(line)?;
+    }
+    assert_eq!(given.bytes(), r.bytes());
+    assert_eq!(given.lines(), 7);
+    assert_eq!(given.line(5)?, lines_of_r()[5]);
+    assert_eq!(given.add(line(0, 1, 1, 1, 1)), Err(Refusal::BufferTooSmall));
+    assert_eq!(given.bytes(), r.bytes());
+    assert_eq!(buffer[74..], [0xA5; 6]);
+    let given = RecordIn::open(&mut buffer, 74)?;
+    assert_eq!(given.lines(), 7);
+    Ok(())
+}
+
+/// The files of the worked day are record R, places 0 and 3, and pattern P.
+#[test]
+fn files_of_the_worked_day() {
+    let day = include_bytes!("../../examples/day/day.rec");
+    let ask = include_bytes!("../../examples/day/ask.pat");
+    assert_eq!(&day[..], r().bytes());
+    assert_eq!(ask[..4], [0, 0, 0, 3]);
+    assert_eq!(ask[4..], P);
+}

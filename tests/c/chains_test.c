@@ -1,0 +1,418 @@
+/*
+ * Every function of chains.h, called from C: document 01's worked rows, every refusal number, and each lent buffer afterwards.
+ * Prints what fails; the status is 1 if something did.
+ *
+ *     gcc -std=c11 -Wall -Wextra -Werror -pedantic -Iinclude tests/c/chains_test.c target/staticlib/libexports.a -o target/chains_test
+ *     target/chains_test
+ */
+#include "chains.h"
+
+#include <stdio.h>
+#include <stdlib.h>
+#include <string.h>
+
+/* ---- what fails is counted and printed */
+
+static int tests = 0;
+static int failures = 0;
+
+static void expect(const char *what, int holds)
+{
+    tests++;
+    if (!holds) {
+        failures++;
+        printf("fails: %s\n", what);
+    }
+}
+
+static void expect_reply(const char *what, uint64_t reply, uint32_t number, uint32_t value)
+{
+    tests++;
+    if (chains_number(reply) != number || chains_value(reply) != value) {
+        failures++;
+        printf("fails: %s: number %u with %u, expected %u with %u\n", what, (unsigned)chains_number(reply),
+               (unsigned)chains_value(reply), (unsigned)number, (unsigned)value);
+    }
+}
+
+/* ---- lent buffers, with words before and after them that no call may touch */
+
+enum { WORDS = 20000, ENTRIES = 12, EDGE = 4 };
+
+static const uint32_t DIRT = 0xA5A5A5A5u;
+static const uint16_t OUT_DIRT = 0xA5A5u;
+
+static uint32_t area[EDGE + WORDS + EDGE];
+static uint16_t output[EDGE + ENTRIES + EDGE];
+
+static void make_dirty(void)
+{
+    for (size_t i = 0; i < EDGE + WORDS + EDGE; i++) {
+        area[i] = DIRT;
+    }
+    for (size_t i = 0; i < EDGE + ENTRIES + EDGE; i++) {
+        output[i] = OUT_DIRT;
+    }
+}
+
+/* Is the lent area all zeros, or all as it was? And is what stands around it as it was? */
+static void expect_area(const char *what, size_t words, int zeros)
+{
+    int holds = 1;
+    for (size_t i = 0; i < EDGE + WORDS + EDGE; i++) {
+        int lent = i >= EDGE && i < EDGE + words;
+        holds = holds && area[i] == (lent && zeros ? 0 : DIRT);
+    }
+    tests++;
+    if (!holds) {
+        failures++;
+        printf("fails: %s: the work area afterwards\n", what);
+    }
+}
+
+/* Does the output begin with the chain, and is all else in it as it was? */
+static void expect_output(const char *what, const uint16_t *chain, size_t length)
+{
+    int holds = 1;
+    for (size_t i = 0; i < EDGE + ENTRIES + EDGE; i++) {
+        int written = i >= EDGE && i < EDGE + length;
+        holds = holds && output[i] == (written ? chain[i - EDGE] : OUT_DIRT);
+    }
+    tests++;
+    if (!holds) {
+        failures++;
+        printf("fails: %s: the output afterwards\n", what);
+    }
+}
+
+/* ---- 01's records and patterns */
+
+struct line {
+    uint16_t from;
+    uint8_t kind;
+    uint8_t class_;
+    uint32_t sail;
+    uint16_t to;
+};
+
+struct record {
+    uint8_t at[CHAINS_LONGEST_RECORD + 1];
+    size_t len;
+};
+
+static const struct line LINES_OF_R[7] = {
+    {0, 1, 1, 150, 1}, {0, 1, 2, 150, 1}, {1, 2, 2, 150, 2}, {1, 2, 1, 150, 2},
+    {2, 3, 1, 150, 2}, {2, 4, 2, 150, 3}, {2, 4, 1, 151, 3},
+};
+
+static const uint8_t P[15] = {0x27, 1, 0, 0x25, 0x22, 2, 0, 0x25, 0x26, 0x22, 3, 0, 0x22, 4, 0};
+static const uint8_t S[13] = {0x27, 1, 0, 0x25, 0x27, 1, 0, 0x23, 1, 0, 0x22, 1, 0};
+static const uint8_t NOTHING[1] = {0x20};
+
+static struct record r, r_with_7, r_without_5, t, e;
+
+static void begin(struct record *rec, uint16_t places)
+{
+    uint64_t reply = chains_begin(rec->at, sizeof rec->at, places);
+    expect_reply("begin", reply, 0, 4);
+    rec->len = chains_value(reply);
+}
+
+static uint64_t add_to(struct record *rec, struct line l)
+{
+    return chains_add(rec->at, sizeof rec->at, rec->len, l.from, l.kind, l.class_, l.sail, l.to);
+}
+
+static void add(struct record *rec, struct line l)
+{
+    uint64_t reply = add_to(rec, l);
+    expect_reply("add", reply, 0, (uint32_t)rec->len + 10);
+    rec->len = chains_value(reply);
+}
+
+static void write_records(void)
+{
+    begin(&r, 4);
+    begin(&r_without_5, 4);
+    for (size_t i = 0; i < 7; i++) {
+        add(&r, LINES_OF_R[i]);
+        if (i != 5) {
+            add(&r_without_5, LINES_OF_R[i]);
+        }
+    }
+    r_with_7 = r;
+    add(&r_with_7, (struct line){2, 4, 1, 150, 3});
+    begin(&t, 1);
+    add(&t, (struct line){0, 1, 1, 1, 0});
+    add(&t, (struct line){0, 1, 1, 2, 0});
+    begin(&e, 1);
+}
+
+/* ---- begin, add, read */
+
+static void test_begin(void)
+{
+    uint8_t buf[6] = {9, 9, 9, 9, 9, 9};
+    const uint8_t same[6] = {9, 9, 9, 9, 9, 9};
+    expect_reply("begin, no places", chains_begin(buf, 6, 0), CHAINS_PLACES_OUT_OF_RANGE, 0);
+    expect_reply("begin, 1,025 places", chains_begin(buf, 6, 1025), CHAINS_PLACES_OUT_OF_RANGE, 0);
+    expect_reply("begin, three bytes", chains_begin(buf, 3, 4), CHAINS_BUFFER_TOO_SMALL, 0);
+    expect_reply("begin, no bytes", chains_begin(buf, 0, 4), CHAINS_BUFFER_TOO_SMALL, 0);
+    expect_reply("begin, no places and no bytes", chains_begin(buf, 0, 0), CHAINS_PLACES_OUT_OF_RANGE, 0);
+    expect("begin: a refusal alters no byte", memcmp(buf, same, 6) == 0);
+    const uint8_t begun[6] = {1, 4, 0, 0, 9, 9};
+    expect_reply("begin, 1,024 places", chains_begin(buf, 6, 1024), 0, 4);
+    expect("begin: four bytes are written", memcmp(buf, begun, 6) == 0);
+}
+
+static void test_add(void)
+{
+    uint8_t buf[16] = {1, 0, 2, 0, 9, 9, 9, 9, 9, 9, 9, 9, 9, 9, 9, 9};
+    uint8_t same[16];
+    memcpy(same, buf, 16);
+    expect_reply("add, length 17 of 16", chains_add(buf, 16, 17, 0, 1, 1, 1, 1), CHAINS_LENGTH_BEYOND_BUFFER, 0);
+    expect_reply("add, no record", chains_add(buf, 16, 0, 0, 1, 1, 1, 1), CHAINS_PLACES_OUT_OF_RANGE, 0);
+    expect_reply("add, no end byte", chains_add(buf, 16, 3, 0, 1, 1, 1, 1), CHAINS_ENTRY_NOT_KNOWN, 0);
+    expect_reply("add, bytes after the end", chains_add(buf, 16, 5, 0, 1, 1, 1, 1), CHAINS_BYTES_AFTER_END, 0);
+    expect_reply("add, from place 2 of 2", chains_add(buf, 16, 4, 2, 1, 1, 1, 1), CHAINS_LINE_PLACE_NOT_THERE, 0);
+    expect_reply("add, to place 2 of 2", chains_add(buf, 16, 4, 0, 1, 1, 1, 2), CHAINS_LINE_PLACE_NOT_THERE, 0);
+    expect_reply("add, kind 16", chains_add(buf, 16, 4, 0, 16, 1, 1, 1), CHAINS_LINE_KIND_OUT_OF_RANGE, 0);
+    expect_reply("add, sail number 2^24", chains_add(buf, 16, 4, 0, 1, 1, 16777216, 1), CHAINS_SAIL_NUMBER_TOO_LARGE, 0);
+    expect_reply("add, 13 bytes", chains_add(buf, 13, 4, 0, 1, 1, 1, 1), CHAINS_BUFFER_TOO_SMALL, 0);
+    expect("add: a refusal alters no byte", memcmp(buf, same, 16) == 0);
+    const uint8_t added[16] = {1, 0, 2, 2, 0, 1, 15, 255, 1, 2, 3, 0, 0, 0, 9, 9};
+    expect_reply("add", chains_add(buf, 16, 4, 1, 15, 255, 0x010203, 0), 0, 14);
+    expect("add: eleven bytes are written", memcmp(buf, added, 16) == 0);
+
+    static struct record full;
+    full.at[0] = 1;
+    full.at[1] = 0;
+    full.at[2] = 1;
+    for (size_t i = 0; i < 4096; i++) {
+        const uint8_t bytes[10] = {2, 0, 0, 1, 1, 0, 0, 1, 0, 0};
+        memcpy(full.at + 3 + 10 * i, bytes, 10);
+    }
+    full.len = CHAINS_LONGEST_RECORD;
+    full.at[full.len - 1] = 0;
+    expect_reply("add to 4,096 lines", add_to(&full, (struct line){0, 1, 1, 1, 0}), CHAINS_RECORD_FULL, 0);
+    full.len++;
+    expect_reply("add to 40,965 bytes", add_to(&full, (struct line){0, 1, 1, 1, 0}), CHAINS_RECORD_TOO_LONG, 0);
+}
+
+static void test_read(void)
+{
+    uint32_t fields[7] = {9, 9, 9, 9, 9, 9, 9};
+    const uint32_t same[7] = {9, 9, 9, 9, 9, 9, 9};
+    expect_reply("read, line 7 of 7", chains_read(r.at, r.len, 7, fields, 7), CHAINS_LINE_NOT_THERE, 0);
+    expect_reply("read, line 65,535", chains_read(r.at, r.len, 65535, fields, 7), CHAINS_LINE_NOT_THERE, 0);
+    expect_reply("read, no record", chains_read(r.at, 0, 0, fields, 7), CHAINS_PLACES_OUT_OF_RANGE, 0);
+    expect_reply("read, a line cut short", chains_read(r.at, 10, 0, fields, 7), CHAINS_LINE_CUT_SHORT, 0);
+    expect_reply("read, four fields", chains_read(r.at, r.len, 0, fields, 4), 0, 0);
+    expect_reply("read, no fields", chains_read(r.at, r.len, 0, fields, 0), 0, 0);
+    expect_reply("read, no fields and no such line", chains_read(r.at, r.len, 7, fields, 0), CHAINS_LINE_NOT_THERE, 0);
+    expect("read: nothing is written", memcmp(fields, same, sizeof fields) == 0);
+    for (uint16_t i = 0; i < 7; i++) {
+        const struct line l = LINES_OF_R[i];
+        const uint32_t shown[7] = {l.from, l.kind, l.class_, l.sail, l.to, 9, 9};
+        expect_reply("read", chains_read(r.at, r.len, i, fields, 7), 0, CHAINS_FIELDS);
+        expect("read: the five fields, and no other word", memcmp(fields, shown, sizeof fields) == 0);
+    }
+}
+
+/* ---- words */
+
+static void expect_words(const char *what, const uint8_t *rec, size_t rec_len, const uint8_t *pat, size_t pat_len, uint32_t number,
+                         uint32_t value)
+{
+    expect_reply(what, chains_words(rec, rec_len, pat, pat_len), number, value);
+}
+
+static void expect_pattern(const char *what, const uint8_t *pat, size_t pat_len, uint32_t number)
+{
+    expect_words(what, e.at, e.len, pat, pat_len, number, 0);
+}
+
+static void test_words(void)
+{
+    expect_words("words of R, P", r.at, r.len, P, 15, 0, 8704);
+    expect_words("words of E, 20", e.at, e.len, NOTHING, 1, 0, 8200);
+
+    const uint8_t none[4] = {1, 0, 0, 0}, over[4] = {1, 4, 1, 0}, most[4] = {1, 4, 0, 0};
+    expect_words("01 00 00 00", none, 4, NOTHING, 1, CHAINS_PLACES_OUT_OF_RANGE, 0);
+    expect_words("01 04 01 00", over, 4, NOTHING, 1, CHAINS_PLACES_OUT_OF_RANGE, 0);
+    expect_words("01 04 00 00", most, 4, NOTHING, 1, 0, 4 * 2048 + 8192);
+    expect_words("01 00 01", e.at, 3, NOTHING, 1, CHAINS_ENTRY_NOT_KNOWN, 0);
+    const uint8_t kind_0[14] = {1, 0, 1, 2, 0, 0, 0, 1, 0, 0, 1, 0, 0, 0};
+    const uint8_t place_1[14] = {1, 0, 1, 2, 0, 0, 1, 1, 0, 0, 1, 0, 1, 0};
+    expect_words("a line of kind 0", kind_0, 14, NOTHING, 1, CHAINS_LINE_KIND_OUT_OF_RANGE, 0);
+    expect_words("a line to place 1 of 1", place_1, 14, NOTHING, 1, CHAINS_LINE_PLACE_NOT_THERE, 0);
+    static uint8_t long_record[CHAINS_LONGEST_RECORD + 1];
+    expect_words("40,965 bytes", long_record, sizeof long_record, NOTHING, 1, CHAINS_RECORD_TOO_LONG, 0);
+
+    uint8_t repeats[64];
+    memset(repeats, 0x26, 64);
+    repeats[62] = 0x20;
+    expect_words("62 times 26, then 20", e.at, e.len, repeats, 63, 0, 4 * 64 + 8192);
+    repeats[62] = 0x26;
+    repeats[63] = 0x20;
+    expect_pattern("63 times 26, then 20", repeats, 64, CHAINS_TOO_MANY_COMMANDS);
+    const uint8_t line_0[2] = {0x21, 0}, unkept[3] = {0x22, 1, 0}, two[2] = {0x20, 0x20};
+    const uint8_t four_keeps[13] = {0x27, 1, 0, 0x27, 1, 1, 0x27, 1, 2, 0x27, 1, 3, 0x20};
+    expect_pattern("an empty pattern", NOTHING, 0, CHAINS_COMMAND_NOT_KNOWN);
+    expect_pattern("21", line_0, 1, CHAINS_OPERANDS_MISSING);
+    expect_pattern("21 00", line_0, 2, CHAINS_OPERAND_OUT_OF_RANGE);
+    expect_pattern("22 01 00", unkept, 3, CHAINS_SLOT_NOT_KEPT);
+    expect_pattern("four keeps nested", four_keeps, 13, CHAINS_KEEPS_TOO_DEEP);
+    expect_pattern("20 20", two, 2, CHAINS_BYTES_AFTER_PATTERN);
+}
+
+/* 1,024 places, 15 commands, one keep, and so many boats. */
+static void test_sizes(void)
+{
+    static struct record day;
+    uint8_t pattern[18] = {0x27, 1, 0};
+    memset(pattern + 3, 0x26, 13);
+    pattern[16] = 0x21;
+    pattern[17] = 1;
+    begin(&day, 1024);
+    for (uint32_t boat = 0; boat < 63; boat++) {
+        add(&day, (struct line){0, 1, (uint8_t)(boat % 2), boat / 2, 0});
+    }
+    expect_words("63 boats", day.at, day.len, pattern, 18, 0, 4202496);
+    uint32_t *large = calloc(4202496, sizeof *large);
+    if (large == NULL) {
+        expect("memory for the largest area", 0);
+        return;
+    }
+    uint16_t found[2] = {OUT_DIRT, OUT_DIRT};
+    uint64_t reply = chains_find(day.at, day.len, pattern, 18, 0, 0, large, 4202496, found, 2);
+    expect_reply("63 boats, found", reply, 0, 1);
+    expect("63 boats: line 0, and no other entry", found[0] == 0 && found[1] == OUT_DIRT);
+    add(&day, (struct line){0, 1, 9, 9, 0});
+    expect_words("64 boats", day.at, day.len, pattern, 18, CHAINS_SEARCH_TOO_LARGE, 0);
+    reply = chains_find(day.at, day.len, pattern, 18, 0, 0, large, 4202496, found, 2);
+    expect_reply("64 boats", reply, CHAINS_SEARCH_TOO_LARGE, 0);
+    reply = chains_check(day.at, day.len, pattern, 18, 0, 0, found, 1, large, 4202496);
+    expect_reply("64 boats", reply, CHAINS_SEARCH_TOO_LARGE, 0);
+    free(large);
+}
+
+/* ---- check and find */
+
+struct ask {
+    const struct record *rec;
+    const uint8_t *pat;
+    size_t pat_len;
+    uint16_t from;
+    uint16_t to;
+};
+
+static const struct ask R_P = {&r, P, 15, 0, 3};
+static const struct ask T_S = {&t, S, 13, 0, 0};
+
+static uint32_t needed(struct ask a)
+{
+    return chains_value(chains_words(a.rec->at, a.rec->len, a.pat, a.pat_len));
+}
+
+/* A check in so many words; its reply, and the area, which is zeros unless a question up to 17 was answered no. */
+static void check_in(const char *what, struct ask a, const uint16_t *chain, size_t length, size_t words, uint32_t number,
+                     uint32_t value)
+{
+    make_dirty();
+    uint64_t reply =
+        chains_check(a.rec->at, a.rec->len, a.pat, a.pat_len, a.from, a.to, chain, length, area + EDGE, words);
+    expect_reply(what, reply, number, value);
+    expect_area(what, words, number == 0 || number > 17);
+}
+
+static void check(const char *what, struct ask a, const uint16_t *chain, size_t length, uint32_t yes)
+{
+    check_in(what, a, chain, length, needed(a), 0, yes);
+    check_in(what, a, chain, length, needed(a) + 100, 0, yes);
+}
+
+static void test_check(void)
+{
+    const uint16_t c025[3] = {0, 2, 5}, c125[3] = {1, 2, 5}, c0100[4] = {0, 1, 0, 0}, c0101[4] = {0, 1, 0, 1};
+    check("check R, P, 0 2 5", R_P, c025, 3, 0);
+    check("check R, P, 1 2 5", R_P, c125, 3, 1);
+    check("check T, S, 0 1 0 0", T_S, c0100, 4, 1);
+    check("check T, S, 0 1 0 1", T_S, c0101, 4, 0);
+    check("check E, 20, the empty chain", (struct ask){&e, NOTHING, 1, 0, 0}, c025, 0, 1);
+    check("check R, 20, the empty chain, 0 to 1", (struct ask){&r, NOTHING, 1, 0, 1}, c025, 0, 0);
+
+    const uint16_t bad_join[3] = {5, 0, 7};
+    const struct ask no_place = {&r, P, 15, 0, 4}, no_pattern = {&r, P, 14, 0, 3};
+    check_in("check, line 7 of 7 after a bad join", R_P, bad_join, 3, 8704, CHAINS_LINE_NOT_THERE, 0);
+    check_in("check, place 4 of 4", no_place, c125, 3, 8704, CHAINS_ASKED_PLACE_NOT_THERE, 0);
+    check_in("check, a word too few", R_P, c125, 3, 8703, CHAINS_WORK_AREA_TOO_SMALL, 0);
+    check_in("check, no words", R_P, c125, 3, 0, CHAINS_WORK_AREA_TOO_SMALL, 0);
+    check_in("check, a pattern cut short", no_pattern, c125, 3, 8704, CHAINS_OPERANDS_MISSING, 0);
+}
+
+/* A find in so many words and entries; its reply, the area, and the output, which is as it was unless a chain was found. */
+static void find_in(const char *what, struct ask a, size_t words, size_t entries, uint32_t number, uint32_t value,
+                    const uint16_t *chain)
+{
+    make_dirty();
+    uint64_t reply = chains_find(a.rec->at, a.rec->len, a.pat, a.pat_len, a.from, a.to, area + EDGE, words, output + EDGE, entries);
+    expect_reply(what, reply, number, value);
+    expect_area(what, words, number == 0 || number > 17);
+    expect_output(what, chain, number == 0 && value != CHAINS_NO_CHAIN ? value : 0);
+}
+
+/* The chain is found, in an exact output and in a longer one; one entry fewer is refused with its length. */
+static void found(const char *what, struct ask a, const uint16_t *chain, uint32_t length)
+{
+    find_in(what, a, needed(a), length, 0, length, chain);
+    find_in(what, a, needed(a) + 100, ENTRIES, 0, length, chain);
+    if (length > 0) {
+        find_in(what, a, needed(a), length - 1, CHAINS_OUTPUT_TOO_SMALL, length, chain);
+        find_in(what, a, needed(a), 0, CHAINS_OUTPUT_TOO_SMALL, length, chain);
+    }
+}
+
+static void no_chain(const char *what, struct ask a)
+{
+    find_in(what, a, needed(a), 0, 0, CHAINS_NO_CHAIN, output);
+    find_in(what, a, needed(a), ENTRIES, 0, CHAINS_NO_CHAIN, output);
+}
+
+static void test_find(void)
+{
+    const uint16_t c125[3] = {1, 2, 5}, c037[3] = {0, 3, 7}, c0010[4] = {0, 0, 1, 0};
+    const uint8_t line_3[2] = {0x21, 3}, repeat_nothing[2] = {0x26, 0x20};
+    found("R, P, 0 to 3", R_P, c125, 3);
+    found("R with line 7, P, 0 to 3", (struct ask){&r_with_7, P, 15, 0, 3}, c037, 3);
+    no_chain("R without line 5, P, 0 to 3", (struct ask){&r_without_5, P, 15, 0, 3});
+    found("T, S, 0 to 0", T_S, c0010, 4);
+    found("E, 20, 0 to 0", (struct ask){&e, NOTHING, 1, 0, 0}, c125, 0);
+    no_chain("E, 21 03, 0 to 0", (struct ask){&e, line_3, 2, 0, 0});
+    no_chain("R, 26 20, 0 to 1", (struct ask){&r, repeat_nothing, 2, 0, 1});
+    find_in("R, P, output of 2", R_P, 8704, 2, CHAINS_OUTPUT_TOO_SMALL, 3, c125);
+
+    const struct ask no_place = {&r, P, 15, 4, 0}, no_pattern = {&r, P, 0, 0, 3};
+    find_in("find, place 4 of 4", no_place, 8704, 3, CHAINS_ASKED_PLACE_NOT_THERE, 0, c125);
+    find_in("find, place 4 of 4 and no words", no_place, 0, 3, CHAINS_ASKED_PLACE_NOT_THERE, 0, c125);
+    find_in("find, a word too few", R_P, 8703, 3, CHAINS_WORK_AREA_TOO_SMALL, 0, c125);
+    find_in("find, an empty pattern", no_pattern, 8704, 3, CHAINS_COMMAND_NOT_KNOWN, 0, c125);
+}
+
+int main(void)
+{
+    write_records();
+    test_begin();
+    test_add();
+    test_read();
+    test_words();
+    test_sizes();
+    test_check();
+    test_find();
+    if (failures > 0) {
+        printf("%d of %d tests fail\n", failures, tests);
+        return 1;
+    }
+    printf("%d tests pass\n", tests);
+    return 0;
+}
