@@ -13,26 +13,12 @@ use std::time::Instant;
 /// A named group of requests.
 pub struct Case {
     pub name: &'static str,
-    /// Whether it calls the finder.
-    pub finder: bool,
     /// Gives a note to print, or says where the two programs differ.
     pub run: fn(&Bench) -> Result<String, String>,
 }
 
 const fn case(name: &'static str, run: fn(&Bench) -> Result<String, String>) -> Case {
-    Case {
-        name,
-        finder: false,
-        run,
-    }
-}
-
-const fn finder_case(name: &'static str, run: fn(&Bench) -> Result<String, String>) -> Case {
-    Case {
-        name,
-        finder: true,
-        run,
-    }
+    Case { name, run }
 }
 
 pub const ALL: &[Case] = &[
@@ -53,14 +39,14 @@ pub const ALL: &[Case] = &[
     case("A 31-34: add and read", add_traps),
     case("001, Example 2", example_2),
     case("V1-V12: the chains, checked", vectors_checked),
-    finder_case("01: rows of the finder", find_rows),
-    finder_case("A 17-20: the finder's questions", finder_order),
-    finder_case("A 23, 24, 27: outputs", outputs),
-    finder_case("A 22: the finder's areas", finder_areas),
-    finder_case("V1-V7, V12", vectors),
-    finder_case("V11: a chain of 92,400 lines", vector_11),
-    finder_case("the largest size, found and none", largest),
-    finder_case("001, Proposition 3", proposition_3),
+    case("01: rows of the finder", find_rows),
+    case("A 17-20: the finder's questions", finder_order),
+    case("A 23, 24, 27: outputs", outputs),
+    case("A 22: the finder's areas", finder_areas),
+    case("V1-V7, V12", vectors),
+    case("V11: a chain of 92,400 lines", vector_11),
+    case("the largest size, found and none", largest),
+    case("001, Proposition 3", proposition_3),
 ];
 
 /// A library, and the calls that the cases are made of.

@@ -298,7 +298,4 @@ impl Library for Counted {
     fn find(&self, ask: Ask, work: &mut [u32], out: &mut [u16]) -> u64 {
         self.asked().find(ask, work, out)
     }
-    fn has_finder(&self) -> bool {
-        true
-    }
 }

@@ -12,6 +12,7 @@
 //! - `program`: the line that the small program prints.
 //! - `library`: the six functions that scoring software calls, as a trait.
 //! - `compare`, `cases`, `rounds`, `generator`, `random`: a library compared with this one.
+//! - `rows`: the rows of the test program `find_random`.
 //! - `faults`: copies of this program with one fault each, which the comparison must find.
 
 pub mod cases;
@@ -30,3 +31,4 @@ pub mod random;
 pub mod record;
 pub mod request;
 pub mod rounds;
+pub mod rows;

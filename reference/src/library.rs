@@ -13,8 +13,6 @@ pub trait Library {
     fn words(&self, rec: &[u8], pat: &[u8]) -> u64;
     fn check(&self, ask: Ask, chain: &[u16], work: &mut [u32]) -> u64;
     fn find(&self, ask: Ask, work: &mut [u32], out: &mut [u16]) -> u64;
-    /// Whether `find` may be called.
-    fn has_finder(&self) -> bool;
 }
 
 /// What checker and finder are both given.
@@ -59,10 +57,6 @@ impl Library for Own {
         work.copy_from_slice(&reply.work_after(work));
         out.copy_from_slice(&reply.out_after(out));
         reply.number()
-    }
-
-    fn has_finder(&self) -> bool {
-        true
     }
 }
 

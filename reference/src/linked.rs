@@ -37,7 +37,6 @@ extern "C" {
         work: *mut u32,
         work_len: usize,
     ) -> u64;
-    #[cfg(feature = "finder")]
     fn chains_find(
         rec: *const u8,
         rec_len: usize,
@@ -110,7 +109,6 @@ impl Library for Linked {
         }
     }
 
-    #[cfg(feature = "finder")]
     fn find(&self, ask: Ask, work: &mut [u32], out: &mut [u16]) -> u64 {
         unsafe {
             chains_find(
@@ -126,14 +124,5 @@ impl Library for Linked {
                 out.len(),
             )
         }
-    }
-
-    #[cfg(not(feature = "finder"))]
-    fn find(&self, _: Ask, _: &mut [u32], _: &mut [u16]) -> u64 {
-        unreachable!("this build has no finder")
-    }
-
-    fn has_finder(&self) -> bool {
-        cfg!(feature = "finder")
     }
 }

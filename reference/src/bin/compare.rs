@@ -29,16 +29,10 @@ fn main() {
         }
     };
     let library = Linked;
-    if !library.has_finder() {
-        println!("this build has no finder: its cases and rounds are left out");
-    }
     run_cases(&library);
     println!("seeds: fixed {FIXED_SEEDS:?}, fresh {fresh}");
     let mut compared = 0;
     for ((sort, round), count) in SORTS.into_iter().zip(counts) {
-        if sort == "finds" && !library.has_finder() {
-            continue;
-        }
         compared += run_rounds(&library, sort, round, count, fresh);
     }
     println!("compared: {compared} random rounds and all cases, no difference");
@@ -52,9 +46,6 @@ fn fresh_seed() -> u64 {
 fn run_cases(library: &dyn Library) {
     let bench = Bench { library };
     for case in ALL {
-        if case.finder && !library.has_finder() {
-            continue;
-        }
         match (case.run)(&bench) {
             Ok(note) if note.is_empty() => println!("{}: as expected", case.name),
             Ok(note) => println!("{}: as expected ({note})", case.name),

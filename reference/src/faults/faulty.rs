@@ -326,8 +326,4 @@ impl Library for Faulty {
         self.clear(ask, work, reply);
         reply
     }
-
-    fn has_finder(&self) -> bool {
-        true
-    }
 }

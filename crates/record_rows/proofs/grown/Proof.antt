@@ -1,25 +1,28 @@
--- `record_rows::grown` is safe and ends: i goes up to b, and the buffer keeps its length. Assumes nothing.
-use mathlib.Core.Path.{_≡_}
+-- `record_rows::grown` is safe and ends: each turn leaves fewer bytes of the lines. Assumes nothing.
 use Prim.Native.Nat.{_-_}
+use mathlib.Core.Path.{_≡_}
 use lib.ListN.{length}
 use borrow.Author.Needs.{needs}
 use Rattle.record_rows.proofs.grown.Statement.{statement}
 use Rattle.record_rows.proofs.grown.Tie as tie
 
 abbrev Inv-loop : tie.InvT-loop
-Inv-loop buf₀ start a b len₀ i₀ buf len i = length buf ≡ length buf₀
+Inv-loop buf₀ start lines len₀ at₀ buf len at = length buf ≡ length buf₀
 
 abbrev μ-loop : tie.MeasureT-loop
-μ-loop buf₀ start a b len₀ i₀ buf len i = b - i
+μ-loop buf₀ start lines len₀ at₀ buf len at = length lines - at
 
 loop-holds : tie.Need-loop-holds Inv-loop μ-loop
 loop-holds c = search needs
 
+field-at-requires : tie.Need-field-at-requires Inv-loop μ-loop
+field-at-requires c κs = search needs
+
 longer-requires : tie.Need-longer-requires Inv-loop μ-loop
 longer-requires c κs = search needs
 
-add-i : tie.Need-add-i Inv-loop μ-loop
-add-i c = search needs
+end-of-requires : tie.Need-end-of-requires Inv-loop μ-loop
+end-of-requires c κs = search needs
 
 loop-less : tie.Need-loop-less Inv-loop μ-loop
 loop-less c = search needs
@@ -40,8 +43,9 @@ grown-spec =
     Inv-loop
     μ-loop
     loop-holds
+    field-at-requires
     longer-requires
-    add-i
+    end-of-requires
     loop-less
     loop-again
     same-length

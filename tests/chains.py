@@ -1,0 +1,96 @@
+#!/usr/bin/env python3
+"""The small program: its data sets and the line that each prints, from document 01's text alone.
+
+Run from the repository's root:
+python3 tests/chains.py write FOLDER    writes crates/*/data, crates/*/stdout and examples/ under the folder
+python3 tests/chains.py run             runs ./chains on these data sets and on others that are too large to keep"""
+import os
+import subprocess
+import sys
+import tempfile
+from chains01 import E, P, R, R_LINES, S, T, find, record, line
+
+
+def question(a, b, pattern): return a.to_bytes(2, "big") + b.to_bytes(2, "big") + bytes(pattern)
+
+
+def said(day, ask):
+    """The line that the program prints, the files' bytes being given, or None for a missing file."""
+    day, ask = bytes(day or b""), bytes(ask or b"")
+    if len(ask) < 4: return "no question"
+    word, n, chain = find(day, ask[4:], ask[0] * 256 + ask[1], ask[2] * 256 + ask[3], 16384, 2048)
+    if word == "found": return "found %d:" % n + "".join(" %d" % i for i in chain)
+    return word if word == "none" else "refused %d" % n
+
+
+LAPS = record(2, (0, 3, 1, 7, 0), (0, 4, 1, 7, 1))
+
+# name: the record and the question.
+KEPT = {
+    "chains": (R, question(0, 3, P)),
+    "chains_none": (record(4, *(R_LINES[:5] + R_LINES[6:])), question(0, 3, P)),
+    "chains_empty": (E, question(0, 0, [0x20])),
+    "chains_damaged": (R[:-1], question(0, 3, P)),
+    "chains_short": (None, question(0, 3, P)[:3]),
+}
+
+LONG = [1, 4, 0] + line(0, 1, 1, 1, 1) * 4096
+TIMES = [0x25, 0x21, 3] * 31
+OTHERS = {
+    "area too small": (R, question(0, 3, [0x27, 1, 1, 0x27, 1, 2] + P)),
+    "seventh line": (record(4, *(R_LINES + [(2, 4, 1, 150, 3)])), question(0, 3, P)),
+    "T, S": (T, question(0, 0, S)),
+    "places swapped": (R, question(3, 0, P)),
+    "place 256": (R, question(256, 3, P)),
+    "no record": (None, question(0, 3, P)),
+    "empty record": (b"", question(0, 0, [0x20])),
+    "no question": (R, None),
+    "no files": (None, None),
+    "three bytes": (R, question(0, 3, P)[:3]),
+    "four bytes": (R, question(0, 3, [])),
+    "31 laps and home": (LAPS, question(0, 1, TIMES + [0x21, 4])),
+    "4,096 lines": (LONG + [0], question(0, 1, [0x21, 1])),
+    "4,096 lines and no end": (LONG, question(0, 1, [0x21, 1])),
+    "40,965 bytes": (LONG + [0, 0], question(0, 1, [0x21, 1])),
+    "40,966 bytes": (LONG + [0, 0, 0], question(0, 1, [0x21, 1])),
+    "60,000 bytes": (LONG + [0] * 19037, question(0, 1, [0x21, 1])),
+    "62 commands, 126 bytes": (E, question(0, 0, [0x27, 1, 0] + [0x24, 0x22, 1, 0] * 30 + [0x22, 1, 0])),
+    "309 bytes, complete after 12": (E, question(0, 0, [0x27, 1, 0] * 3 + [0x22, 1, 0] * 100)),
+    "bytes after the end": (E, question(0, 0, [0x20] * 190)),
+    "300 bytes after the end": (E, question(0, 0, [0x21, 1] + [0x20] * 300)),
+    "repeats only": (E, question(0, 0, [0x26] * 400)),
+    "thens only": (E, question(0, 0, [0x25, 0x21, 1] * 200)),
+}
+
+
+def put(folder, day, ask):
+    """The files of a data set in a folder."""
+    os.makedirs(folder, exist_ok=True)
+    for name, data in (("day.rec", day), ("ask.pat", ask)):
+        if data is not None:
+            with open(folder + "/" + name, "wb") as out: out.write(bytes(data))
+
+
+def write(folder):
+    for name, (day, ask) in KEPT.items():
+        if day is not None or ask is not None: put("%s/crates/%s/data" % (folder, name), day, ask)
+        os.makedirs("%s/crates/%s" % (folder, name), exist_ok=True)
+        with open("%s/crates/%s/stdout" % (folder, name), "w") as out: out.write(said(day, ask) + "\n")
+    put(folder + "/examples/day", *KEPT["chains"])
+
+
+def run():
+    failed = 0
+    for name, (day, ask) in {**KEPT, **OTHERS}.items():
+        with tempfile.TemporaryDirectory() as folder:
+            put(folder, day, ask)
+            wrote = subprocess.run(["./chains", folder], capture_output=True, text=True).stdout
+        if wrote != said(day, ask) + "\n":
+            failed += 1
+            print("%s: %r, and not %r" % (name, wrote, said(day, ask)))
+    print("%d passed, %d failed" % (len(KEPT) + len(OTHERS) - failed, failed))
+    sys.exit(failed > 0)
+
+
+if sys.argv[1] == "write": write(sys.argv[2])
+else: run()

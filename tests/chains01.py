@@ -1,0 +1,166 @@
+"""Document 01's text as Python, for the tests' expected outputs: reading records and patterns, membership clause by clause, questions
+1 to 17 of a request, and the worked records and patterns."""
+
+TABLE = {0x20: (0, 0), 0x21: (1, 0), 0x22: (2, 0), 0x23: (2, 0), 0x24: (0, 2), 0x25: (0, 2), 0x26: (0, 1), 0x27: (2, 1)}
+
+
+class Refused(Exception):
+    """A question that is answered no stops the walk and gives its number."""
+
+
+def ask(answer, number):
+    if not answer: raise Refused(number)
+
+
+def read_record(data):
+    ask(len(data) <= 40964, 1)
+    ask(len(data) >= 3 and data[0] == 1 and 1 <= data[1] * 256 + data[2] <= 1024, 2)
+    places, at, lines = data[1] * 256 + data[2], 3, []
+    while True:
+        ask(at < len(data) and data[at] in (0, 2), 3)
+        if data[at] == 0:
+            ask(at == len(data) - 1, 7)
+            return places, lines
+        ask(len(data) - at >= 10, 4)
+        b = data[at + 1:at + 10]
+        line = (b[0] * 256 + b[1], b[2], (b[3], (b[4] * 256 + b[5]) * 256 + b[6]), b[7] * 256 + b[8])
+        ask(line[0] < places and line[3] < places, 5)
+        ask(1 <= line[1] <= 15, 6)
+        lines.append(line)
+        at += 10
+
+
+def read_pattern(data):
+    counted = [0]
+
+    def part(at, kept):
+        ask(at < len(data) and data[at] in TABLE, 8)
+        counted[0] += 1
+        ask(counted[0] <= 63, 9)
+        code, (width, after) = data[at], TABLE[data[at]]
+        operands = data[at + 1:at + 1 + width]
+        ask(len(operands) == width, 10)
+        ask((width < 1 or 1 <= operands[0] <= 15) and (width < 2 or operands[1] <= 3), 11)
+        ask(code not in (0x22, 0x23) or operands[1] in kept, 12)
+        ask(code != 0x27 or len(kept) < 3, 13)
+        inside = kept + [operands[1]] if code == 0x27 else kept
+        at, inner = at + 1 + width, []
+        for _ in range(after):
+            p, at = part(at, inside)
+            inner.append(p)
+        return (code, operands, inner), at
+
+    p, at = part(0, [])
+    ask(at == len(data), 14)
+    return p, counted[0]
+
+
+def keeps(p): return (p[0] == 0x27) + max([keeps(q) for q in p[2]] or [0])
+
+
+def accepts(p, word, slots):
+    """Is the word, a tuple of kinds and boats, in the pattern's language, the slots having these boats?"""
+    code, operands, inner = p
+    one = len(word) == 1 and operands and word[0][0] == operands[0]
+    if code == 0x20: return not word
+    if code == 0x21: return one
+    if code == 0x22: return one and slots[operands[1]] == word[0][1]
+    if code == 0x23: return one and slots[operands[1]] != word[0][1]
+    if code == 0x24: return any(accepts(q, word, slots) for q in inner)
+    if code == 0x25: return any(accepts(inner[0], word[:i], slots) and accepts(inner[1], word[i:], slots) for i in range(len(word) + 1))
+    if code == 0x26: return not word or any(accepts(inner[0], word[:i], slots) and accepts(p, word[i:], slots) for i in range(1, len(word) + 1))
+    return bool(word) and word[0][0] == operands[0] and accepts(inner[0], word[1:], {**slots, operands[1]: word[0][1]})
+
+
+def asked(day, pattern, a, b, words):
+    """Questions 1 to 17: the lines and the pattern, or the exception Refused."""
+    places, lines = read_record(day)
+    p, commands = read_pattern(pattern)
+    ask(a < places and b < places, 15)
+    size = places * (commands + 1) * (len({line[2] for line in lines}) + 1) ** keeps(p)
+    ask(size <= 1048576, 16)
+    ask(words >= 4 * size + 8192, 17)
+    return lines, p
+
+
+def line(a, kind, boat_class, sail, b):
+    return [2, a >> 8, a & 255, kind, boat_class, sail >> 16, sail >> 8 & 255, sail & 255, b >> 8, b & 255]
+
+
+def record(places, *lines): return [1, places >> 8, places & 255] + sum((line(*fields) for fields in lines), []) + [0]
+
+
+R_LINES = [(0, 1, 1, 150, 1), (0, 1, 2, 150, 1), (1, 2, 2, 150, 2), (1, 2, 1, 150, 2), (2, 3, 1, 150, 2), (2, 4, 2, 150, 3),
+           (2, 4, 1, 151, 3)]
+R = record(4, *R_LINES)
+P = [0x27, 1, 0, 0x25, 0x22, 2, 0, 0x25, 0x26, 0x22, 3, 0, 0x22, 4, 0]
+T = record(1, (0, 1, 1, 1, 0), (0, 1, 1, 2, 0))
+S = [0x27, 1, 0, 0x25, 0x27, 1, 0, 0x23, 1, 0, 0x22, 1, 0]
+E = record(1)
+
+
+# ---- the first shortest chain
+# What is still to be read of a word is a list of patterns, each with its slots' boats: a keep's inner pattern has its own, and those of
+# the patterns after it stay as they were.
+
+
+def heads(todo):
+    """The lists that begin with a line, same, other or keep, or are empty, to which a list comes without reading a line."""
+    found, met, left = [], {todo}, [todo]
+    while left:
+        todo = left.pop()
+        if not todo or todo[0][0][0] in (0x21, 0x22, 0x23, 0x27):
+            found.append(todo)
+            continue
+        (code, _, inner), slots = todo[0]
+        rest = todo[1:]
+        after = {0x20: [rest],
+                 0x24: [((q, slots),) + rest for q in inner],
+                 0x25: [tuple((q, slots) for q in inner) + rest],
+                 0x26: [rest] + [((q, slots),) + todo for q in inner]}[code]
+        for t in after:
+            if t not in met:
+                met.add(t)
+                left.append(t)
+    return found
+
+
+def read_one(todo, kind, boat):
+    """What is left after a line of this kind and boat, the list beginning with a command that reads one; or None."""
+    ((code, operands, inner), slots), rest = todo[0], todo[1:]
+    if operands[0] != kind: return None
+    kept = dict(slots).get(operands[1]) if code != 0x21 else None
+    if code == 0x22 and kept != boat or code == 0x23 and kept == boat: return None
+    if code == 0x27: return ((inner[0], tuple(sorted({**dict(slots), operands[1]: boat}.items()))),) + rest
+    return rest
+
+
+def frozen(p): return (p[0], tuple(p[1]), tuple(frozen(q) for q in p[2]))
+
+
+def first_shortest(lines, p, a, b):
+    """The first shortest accepted chain from a to b, or None: chains in order of length, and then of line numbers. Of two chains
+    that end at one place with the same left to read, what follows the later one follows the earlier one too."""
+    start = (a, frozenset(heads(((frozen(p), ()),))))
+    waiting, met = [(start, [])], {start}
+    for (place, lists), chain in waiting:
+        if place == b and () in lists: return chain
+        for i, (come, kind, boat, go) in enumerate(lines):
+            if come != place: continue
+            after = frozenset(h for t in lists if t for left in [read_one(t, kind, boat)] if left is not None for h in heads(left))
+            if after and (go, after) not in met:
+                met.add((go, after))
+                waiting.append(((go, after), chain + [i]))
+    return None
+
+
+def find(day, pattern, a, b, words, room):
+    """The finder: the reply as a pair of a word and a number, and the chain."""
+    try:
+        lines, p = asked(day, pattern, a, b, words)
+    except Refused as refused:
+        return "refused", refused.args[0], []
+    chain = first_shortest(lines, p, a, b)
+    if chain is None: return "none", 0, []
+    if len(chain) > room: return "refused", 19, chain
+    return "found", len(chain), chain
