@@ -174,6 +174,42 @@ pub fn command_at(src: &[u8], at: usize, before: usize, kept: [u8; 4], depth: us
     }
 }
 
+// ---- the reader
+
+// It stays on the caller's bytes: the slice that was lent, and a place in it.
+pub struct Reader<'a> {
+    pub src: &'a [u8],
+    pub at: usize,
+}
+
+// A reader at a place of the bytes.
+pub fn begin_at<'a>(src: &'a [u8], at: usize) -> Reader<'a>
+    ensures { λ r. ⌜ (r .src ≡ src .entry) × (r .at ≡ at) ⌝ }
+{
+    Reader { src, at }
+}
+
+// The reader's place.
+pub fn position<'a>(r: Reader<'a>) -> usize
+    ensures { λ n. ⌜ n ≡ r .entry .at ⌝ }
+{
+    r.at
+}
+
+// The command at the reader's place, asked what `command_at` asks.
+pub fn next_command<'a>(r: Reader<'a>, before: usize, kept: [u8; 4], depth: usize) -> Command
+    ensures { λ c. ⌜ commandShown c ≡ commandAt (now (r .entry .src)) (r .entry .at) before kept depth ⌝ }
+{
+    command_at(r.src, r.at, before, kept, depth)
+}
+
+// The command at a place, by a reader that begins there: `read_at` reads every command so.
+pub fn command_from(src: &[u8], at: usize, before: usize, kept: [u8; 4], depth: usize) -> Command
+    ensures { λ r. ⌜ commandShown r ≡ commandAt (now (src .entry)) at before kept depth ⌝ }
+{
+    next_command(begin_at(src, at), before, kept, depth)
+}
+
 // The number of the question that a command was refused at.
 fn command_number(c: Command) -> u8
     ensures { λ r. ⌜ r ≡ numberOf (commandShown c) ⌝ }
@@ -288,7 +324,7 @@ pub fn read_at(src: &[u8], at: usize, before: usize, kept: [u8; 4], depth: usize
     requires { ⌜ depth ≤ 3 ⌝ }
     ensures { λ r. ⌜ readingShown r ≡ extentAt (now (src .entry)) at before kept depth ⌝ }
 {
-    let c = command_at(src, at, before, kept, depth);
+    let c = command_from(src, at, before, kept, depth);
     let Command::Is {
         code,
         kind: _,

@@ -19,7 +19,7 @@ use Rattle.pattern.proofs.read_at.Reads as read-at
 use Rattle.pattern.proofs.read_at.Kinds as read-at-kinds
 use Rattle.pattern.proofs.+read_at.Lts-read_at as read-at-lts
 use Rattle.pattern.proofs.around.Reads as around-reads
-use Rattle.pattern.proofs.command_at.Reads as command-at-reads
+use Rattle.pattern.proofs.command_from.Reads as command-from-reads
 use Rattle.pattern.proofs.command_number.Reads as command-number-reads
 use Rattle.pattern.proofs.depth_in.Reads as depth-in-reads
 use Rattle.pattern.proofs.joined.Reads as joined-reads
@@ -39,11 +39,11 @@ read-at-below t = and 1 read-at-kinds.ps (falls 1 read-at-kinds.ps _<_ μ-read-a
 
 -- what the functions that are called ask and promise
 abbrev calls : ℕ → read-at-lts.Claims
-calls t = (command-at-reads.Asked, command-at-reads.Learnt, command-number-reads.Asked, command-number-reads.Learnt, kept-in-reads.Asked, kept-in-reads.Learnt, depth-in-reads.Asked, depth-in-reads.Learnt, read-at-below t, read-at.Post, around-reads.Asked, around-reads.Learnt, joined-reads.Asked, joined-reads.Learnt)
+calls t = (command-from-reads.Asked, command-from-reads.Learnt, command-number-reads.Asked, command-number-reads.Learnt, kept-in-reads.Asked, kept-in-reads.Learnt, depth-in-reads.Asked, depth-in-reads.Learnt, read-at-below t, read-at.Post, around-reads.Asked, around-reads.Learnt, joined-reads.Asked, joined-reads.Learnt)
 
 module _ (t : ℕ) where
-  command-at-requires : read-at-lts.Need-command-at-requires (calls t) (read-at-at t) read-at.Post
-  command-at-requires c κs = search needs
+  command-from-requires : read-at-lts.Need-command-from-requires (calls t) (read-at-at t) read-at.Post
+  command-from-requires c κs = search needs
 
   enum-known-c : read-at-lts.Need-enum-known-c (calls t) (read-at-at t) read-at.Post
   enum-known-c c = search needs
@@ -59,7 +59,7 @@ module _ (t : ℕ) where
       let a = c .before .before .before .before .before .args in
       let told = c .before .enum-told .given .1 in
       let number = c .command-number .ensures ∙ ap (λ x. numberOf (commandShown x)) told in
-      refused-command (a .src .now) (a .at) (a .before) (a .kept) (a .depth) (c .command-number .result) (sym (c .before .before .before .command-at .ensures) ∙ (ap commandShown told ∙ ap refused (sym number)))
+      refused-command (a .src .now) (a .at) (a .before) (a .kept) (a .depth) (c .command-number .result) (sym (c .before .before .before .command-from .ensures) ∙ (ap commandShown told ∙ ap refused (sym number)))
 
   -- ---- where a command has passed its questions
 
@@ -88,7 +88,7 @@ module _ (t : ℕ) where
       record { code = g .0; kind = g .1 .0; slot = g .1 .1 .0; patterns = g .1 .1 .1 .0; next = g .1 .1 .1 .1 .0 }
 
   ok : (c : At-command) → Passed (src c) (at c) (before c) (kept c) (depth c) (command c)
-  ok c = command-passed (src c) (at c) (before c) (kept c) (depth c) (command c) (sym (c .before .before .before .command-at .ensures) ∙ ap commandShown (c .before .c .given .1))
+  ok c = command-passed (src c) (at c) (before c) (kept c) (depth c) (command c) (sym (c .before .before .before .command-from .ensures) ∙ ap commandShown (c .before .c .given .1))
 
   depth-is : (c : At-command) → depth c ≤ 3
   depth-is c = c .before .before .before .before .before .pre .1
@@ -213,7 +213,7 @@ pub +read-at-spec : {M : Type 1} → statement M
 +read-at-spec = close μ-read-at λ t. read-at-lts.spec (calls t)
     (read-at-at t)
     read-at.Post
-    (command-at-requires t)
+    (command-from-requires t)
     (enum-known-c t)
     (enum-told t)
     (command-number-requires t)
