@@ -1,0 +1,634 @@
+/* Times the library's finder and checker, the same by hand in C, and the second program, on the same requests in one run.
+   Before anything is timed, each program's reply, output and cleared work area are compared with the others'. Work area and
+   output are dirtied before every call, outside the clock. The calls of a sample alternate between the programs; each program
+   makes as many as last at least BATCH together.
+
+   bench [ROW...]                    the table, or these rows of it, numbered from 0
+   bench --slowest                   the slowest requests, one call each
+   bench --call ROW PROGRAM TIMES    calls alone, for a profiler; programs are 0 library, 1 C, 2 C grouped, 3 second */
+#include "hand.h"
+
+#include <stdio.h>
+#include <stdlib.h>
+#include <string.h>
+#include <time.h>
+
+uint64_t chains_words(const uint8_t *, size_t, const uint8_t *, size_t);
+uint64_t chains_find(const uint8_t *, size_t, const uint8_t *, size_t, uint16_t, uint16_t, uint32_t *, size_t, uint16_t *, size_t);
+uint64_t chains_check(const uint8_t *, size_t, const uint8_t *, size_t, uint16_t, uint16_t, const uint16_t *, size_t, uint32_t *,
+                      size_t);
+uint64_t second_find(const uint8_t *, size_t, const uint8_t *, size_t, uint16_t, uint16_t, uint32_t *, size_t, uint16_t *, size_t);
+uint64_t second_check(const uint8_t *, size_t, const uint8_t *, size_t, uint16_t, uint16_t, const uint16_t *, size_t, uint32_t *,
+                      size_t);
+size_t second_proposition_3_day(uint16_t n, uint8_t *buf);
+size_t second_proposition_3_pattern(uint8_t keeps, uint8_t *buf);
+
+enum { MOST_BYTES = 40964, MOST_WORDS = 4 * 1048576 + 8192, MOST_CHAIN = 1048576, MOST_SAMPLES = 15 };
+
+static const double BATCH = 0.004; /* seconds of one program's calls in a sample */
+static const double LONG = 1.5;    /* seconds of one call that is not repeated */
+
+/* ---- programs */
+
+enum { LIBRARY, HAND, GROUPED, SECOND, PROGRAMS };
+
+static uint32_t work[MOST_WORDS];
+static uint16_t out[MOST_CHAIN];
+
+/* A request: to check a chain, or to find one. `left_out` has the bit of each program that would take too long. */
+struct request {
+    char name[96];
+    uint8_t rec[MOST_BYTES], pat[256];
+    size_t rec_len, pat_len;
+    uint16_t from, to;
+    int check;
+    uint16_t *chain;
+    size_t chain_len, words;
+    unsigned left_out;
+};
+
+static uint64_t call(const struct request *r, int program, uint32_t *reached)
+{
+    if (r->check)
+        switch (program) {
+        case LIBRARY:
+            return chains_check(r->rec, r->rec_len, r->pat, r->pat_len, r->from, r->to, r->chain, r->chain_len, work, r->words);
+        case HAND:
+            return hand_check(r->rec, r->rec_len, r->pat, r->pat_len, r->from, r->to, r->chain, r->chain_len, work, r->words);
+        default:
+            return second_check(r->rec, r->rec_len, r->pat, r->pat_len, r->from, r->to, r->chain, r->chain_len, work, r->words);
+        }
+    switch (program) {
+    case LIBRARY:
+        return chains_find(r->rec, r->rec_len, r->pat, r->pat_len, r->from, r->to, work, r->words, out, MOST_CHAIN);
+    case HAND:
+        return hand_find(r->rec, r->rec_len, r->pat, r->pat_len, r->from, r->to, work, r->words, out, MOST_CHAIN, reached);
+    case GROUPED:
+        return hand_find_grouped(r->rec, r->rec_len, r->pat, r->pat_len, r->from, r->to, work, r->words, out, MOST_CHAIN, reached);
+    default:
+        return second_find(r->rec, r->rec_len, r->pat, r->pat_len, r->from, r->to, work, r->words, out, MOST_CHAIN);
+    }
+}
+
+/* ---- the clock */
+
+/* This thread's time on the processor, in seconds, so that other programs on the machine disturb it little. */
+static double now(void)
+{
+    struct timespec t;
+    clock_gettime(CLOCK_THREAD_CPUTIME_ID, &t);
+    return t.tv_sec + t.tv_nsec * 1e-9;
+}
+
+/* What it costs to read the clock: taken off each call's time. */
+static double clock_cost;
+
+static void read_clock_cost(void)
+{
+    clock_cost = 1;
+    for (int i = 0; i < 10000; i++) {
+        double start = now(), cost = now() - start;
+        clock_cost = cost < clock_cost ? cost : clock_cost;
+    }
+}
+
+static double timed(const struct request *r, int program, uint64_t *reply, uint32_t *reached)
+{
+    memset(work, 0xA5, sizeof work[0] * r->words);
+    if (!r->check)
+        memset(out, 0xA5, sizeof out[0] * (r->chain_len + 16));
+    double start = now();
+    *reply = call(r, program, reached);
+    return now() - start - clock_cost;
+}
+
+/* ---- one row of the table */
+
+static int by_size(const void *a, const void *b)
+{
+    double x = *(const double *)a, y = *(const double *)b;
+    return (x > y) - (x < y);
+}
+
+static void fail(const struct request *r, const char *what)
+{
+    printf("%s: %s\n", r->name, what);
+    exit(1);
+}
+
+/* One call of each program, the replies and lent words compared. Gives each one's time. */
+static void compared(struct request *r, uint64_t *reply, uint32_t *reached, double time[PROGRAMS])
+{
+    static uint16_t expected[MOST_CHAIN];
+    size_t length = 0;
+    *reached = 0;
+    for (int p = PROGRAMS - 1; p >= 0; p--) {
+        if (r->left_out >> p & 1)
+            continue;
+        uint64_t got;
+        time[p] = timed(r, p, &got, reached);
+        for (size_t i = 0; i < r->words; i++)
+            if (work[i] != 0)
+                fail(r, "the work area is not cleared");
+        if (length == 0) { /* the first program called */
+            *reply = got;
+            length = r->check || got >= 4294967295u ? 1 : got + 1;
+            if (!r->check && got < 4294967295u)
+                memcpy(expected, out, sizeof out[0] * got);
+            r->chain_len = r->check ? r->chain_len : length - 1;
+        } else if (got != *reply || (!r->check && memcmp(out, expected, sizeof out[0] * (length - 1)) != 0))
+            fail(r, "the programs differ");
+    }
+}
+
+static void show_ratio(double x)
+{
+    if (x == 0)
+        printf(" | %9s", "-");
+    else
+        printf(" | %9.2f", x);
+}
+
+static void measure(struct request *r)
+{
+    double time[PROGRAMS] = {0}, sample[PROGRAMS][MOST_SAMPLES], least[PROGRAMS] = {0}, middle[PROGRAMS] = {0};
+    uint64_t reply;
+    uint32_t reached;
+    unsigned calls[PROGRAMS] = {0}, most = 0, samples = MOST_SAMPLES;
+    uint64_t words = chains_words(r->rec, r->rec_len, r->pat, r->pat_len);
+    if (words >> 32 != 0)
+        fail(r, "refused");
+    r->words = words;
+    if (r->check)
+        r->left_out |= 1 << GROUPED;
+    compared(r, &reply, &reached, time);
+    double round = 0;
+    for (int p = 0; p < PROGRAMS; p++) {
+        if (r->left_out >> p & 1)
+            continue;
+        calls[p] = time[p] >= BATCH ? 1 : (unsigned)(BATCH / time[p]) + 2;
+        most = calls[p] > most ? calls[p] : most;
+        round += time[p] >= LONG ? 0 : calls[p] * time[p];
+    }
+    /* Long rounds are few, and a program that takes seconds is not called again. */
+    if (round > 0.3)
+        samples = 5;
+    for (int p = 0; p < PROGRAMS; p++)
+        for (unsigned n = 0; n < samples; n++)
+            sample[p][n] = time[p] >= LONG ? time[p] : 0;
+    for (unsigned n = 0; n < samples; n++) {
+        for (unsigned i = 0; i < most; i++)
+            for (int p = 0; p < PROGRAMS; p++) {
+                uint64_t got;
+                if (time[p] >= LONG || (uint64_t)i * calls[p] / most == (uint64_t)(i + 1) * calls[p] / most)
+                    continue;
+                sample[p][n] += timed(r, p, &got, &reached);
+                if (got != reply)
+                    fail(r, "the reply changed");
+            }
+    }
+    for (int p = 0; p < PROGRAMS; p++)
+        if (calls[p] != 0) {
+            qsort(sample[p], samples, sizeof sample[p][0], by_size);
+            least[p] = sample[p][0] / calls[p];
+            middle[p] = (sample[p][(samples - 1) / 2] + sample[p][samples / 2]) / 2 / calls[p];
+        }
+    char said[32];
+    if (r->check)
+        snprintf(said, sizeof said, "%s", reply == 1 ? "yes" : "no");
+    else if (reply == 4294967295u)
+        snprintf(said, sizeof said, "none");
+    else
+        snprintf(said, sizeof said, "found %llu", (unsigned long long)reply);
+    char states[16] = "-";
+    if (!r->check)
+        snprintf(states, sizeof states, "%u", reached);
+    printf("| %-52s | %-11s | %7s | %10.1f", r->name, said, states, least[HAND] * 1e6);
+    show_ratio(least[LIBRARY] / least[HAND]);
+    show_ratio(middle[LIBRARY] / middle[HAND]);
+    show_ratio(least[GROUPED] / least[HAND]);
+    show_ratio(least[SECOND] / least[HAND]);
+    printf(" |\n");
+    fflush(stdout);
+}
+
+/* The slowest requests: one call of each program, not repeated. */
+static void measure_once(struct request *r)
+{
+    double time[PROGRAMS] = {0};
+    uint64_t reply;
+    uint32_t reached;
+    r->words = chains_words(r->rec, r->rec_len, r->pat, r->pat_len);
+    compared(r, &reply, &reached, time);
+    printf("| %-52s | %s | %7u | %9.2f | %9.2f | %9.2f |\n", r->name, reply == 4294967295u ? "none" : "found", reached, time[HAND],
+           time[GROUPED], time[LIBRARY]);
+    fflush(stdout);
+}
+
+/* ---- writing records and patterns */
+
+static uint64_t seed;
+
+static unsigned below(unsigned limit)
+{
+    seed = seed * 6364136223846793005u + 1442695040888963407u;
+    return (unsigned)((seed >> 33) % limit);
+}
+
+static void begin_day(struct request *r, unsigned places)
+{
+    const uint8_t empty[4] = {1, places >> 8, places, 0};
+    memcpy(r->rec, empty, 4);
+    r->rec_len = 4;
+}
+
+static void add(struct request *r, unsigned from, unsigned kind, unsigned class, unsigned sail, unsigned to)
+{
+    const uint8_t line[11] = {2, from >> 8, from, kind, class, sail >> 16, sail >> 8, sail, to >> 8, to, 0};
+    memcpy(r->rec + r->rec_len - 1, line, 11);
+    r->rec_len += 10;
+}
+
+static unsigned lines(const struct request *r) { return (r->rec_len - 4) / 10; }
+
+/* The lines of a day in another order: they are written as they come in. */
+static void shuffle(struct request *r)
+{
+    for (unsigned i = lines(r) - 1; i > 0; i--) {
+        uint8_t kept[10], *a = r->rec + 3 + 10 * i, *b = r->rec + 3 + 10 * below(i + 1);
+        memcpy(kept, a, 10);
+        memcpy(a, b, 10);
+        memcpy(b, kept, 10);
+    }
+}
+
+enum { NOTHING = 0x20, LINE, SAME, OTHER, EITHER, THEN, REPEAT, KEEP };
+
+static void byte(struct request *r, unsigned b) { r->pat[r->pat_len++] = b; }
+
+static void command(struct request *r, unsigned code, unsigned kind, unsigned slot)
+{
+    byte(r, code);
+    byte(r, kind);
+    if (code != LINE)
+        byte(r, slot);
+}
+
+/* One of `count` patterns, each `other` of the kind and one of the slots. */
+static void others(struct request *r, unsigned count, unsigned kind, unsigned slots)
+{
+    for (unsigned i = 0; i < count; i++) {
+        if (i + 1 < count)
+            byte(r, EITHER);
+        command(r, OTHER, kind, i % slots);
+    }
+}
+
+static struct request *fresh(const char *name)
+{
+    struct request *r = calloc(1, sizeof *r);
+    snprintf(r->name, sizeof r->name, "%s", name);
+    seed = 1;
+    return r;
+}
+
+/* ---- the cases */
+
+/* Desk 0, start 1, four of the marks 2 to 8 for each class, hut 9. 60 boats in three classes; a few do not start or finish. */
+static struct request *typical_day(void)
+{
+    static const uint8_t course[3][4] = {{2, 3, 4, 5}, {3, 5, 7, 8}, {6, 4, 2, 8}};
+    struct request *r = fresh("typical day");
+    begin_day(r, 10);
+    for (unsigned b = 0; b < 60; b++) {
+        unsigned class = b % 3, sail = 100 + b;
+        const uint8_t *mark = course[class];
+        add(r, 0, 1, class + 1, sail, 1);
+        if (b % 20 == 19)
+            continue;
+        add(r, 1, 2, class + 1, sail, mark[0]);
+        for (unsigned m = 0; m < 3; m++)
+            add(r, mark[m], 3, class + 1, sail, mark[m + 1]);
+        if (b % 10 != 4)
+            add(r, mark[3], 4, class + 1, sail, 9);
+        else
+            add(r, mark[3], 5, class + 1, sail, 0);
+    }
+    while (lines(r) < 400) /* roundings seen without a number */
+        add(r, 2 + below(7), 3, 0, 0, 2 + below(7));
+    shuffle(r);
+    r->from = 0;
+    r->to = 9;
+    /* Entered, that boat started, rounded or not, finished. */
+    command(r, KEEP, 1, 0);
+    byte(r, THEN);
+    command(r, SAME, 2, 0);
+    byte(r, THEN);
+    byte(r, REPEAT);
+    command(r, SAME, 3, 0);
+    command(r, SAME, 4, 0);
+    return r;
+}
+
+/* Desk 0, start 1, marks 2 to 18, hut 19. 299 boats in five classes sail two laps of their class's five marks. */
+static void full_record(struct request *r)
+{
+    static const uint8_t course[5][5] = {{2, 3, 4, 5, 6}, {7, 8, 9, 10, 11}, {12, 13, 14, 15, 16}, {17, 18, 2, 9, 14},
+                                         {4, 10, 16, 17, 7}};
+    begin_day(r, 20);
+    for (unsigned b = 0; b < 299; b++) {
+        unsigned class = b % 5, sail = 1000 + b;
+        const uint8_t *mark = course[class];
+        add(r, 0, 1, class + 1, sail, 1);
+        add(r, 1, 2, class + 1, sail, mark[0]);
+        for (unsigned m = 0; m < 10; m++)
+            add(r, mark[m % 5], 3, class + 1, sail, mark[(m + 1) % 5]);
+        add(r, mark[0], 4, class + 1, sail, 19);
+    }
+    while (lines(r) < 4096)
+        add(r, 2 + below(17), 3, 0, 0, 2 + below(17));
+    shuffle(r);
+    r->from = 0;
+    r->to = 19;
+}
+
+/* That boat rounded five times. */
+static void lap(struct request *r)
+{
+    for (unsigned m = 0; m < 5; m++) {
+        if (m < 4)
+            byte(r, THEN);
+        command(r, SAME, 3, 0);
+    }
+}
+
+static struct request *full_day_laps(void)
+{
+    struct request *r = fresh("full day, whole laps");
+    full_record(r);
+    /* Entered, that boat started, a lap, any more whole laps, finished. */
+    command(r, KEEP, 1, 0);
+    byte(r, THEN);
+    command(r, SAME, 2, 0);
+    byte(r, THEN);
+    lap(r);
+    byte(r, THEN);
+    byte(r, REPEAT);
+    lap(r);
+    command(r, SAME, 4, 0);
+    return r;
+}
+
+static struct request *full_day_twice(void)
+{
+    struct request *r = fresh("full day, started twice");
+    full_record(r);
+    /* Entered; twice: that boat started, anything rounded; that boat finished. */
+    command(r, KEEP, 1, 0);
+    for (unsigned start = 0; start < 2; start++) {
+        byte(r, THEN);
+        command(r, SAME, 2, 0);
+        byte(r, THEN);
+        byte(r, REPEAT);
+        command(r, LINE, 3, 0);
+    }
+    command(r, SAME, 4, 0);
+    return r;
+}
+
+/* The place that the first line into a place comes from. */
+static unsigned place_before(const struct request *r, unsigned place)
+{
+    const uint8_t *line = r->rec + 3;
+    while (line[8] * 256u + line[9] != place)
+        line += 10;
+    return line[1] * 256u + line[2];
+}
+
+/* 1,024 places in two halves that no line joins, 63 boats, one kind: size 1,048,576. */
+static struct request *largest_one_keep(int near, const char *name)
+{
+    struct request *r = fresh(name);
+    begin_day(r, 1024);
+    for (unsigned i = 0; i < 4096; i++) {
+        unsigned half = i % 2 * 512;
+        add(r, half + below(512), 1, 1, i % 63, half + below(512));
+    }
+    r->to = 512;
+    r->from = near ? place_before(r, place_before(r, 512)) : 0;
+    /* A boat kept, then others, and any line last. */
+    command(r, KEEP, 1, 0);
+    byte(r, THEN);
+    byte(r, REPEAT);
+    others(r, 6, 1, 1);
+    command(r, LINE, 1, 0);
+    return r;
+}
+
+/* Four places in two halves that no line joins, 63 boats, two keeps: size 1,048,576. */
+static struct request *largest_two_keeps(void)
+{
+    struct request *r = fresh("largest size, 4 places, two keeps");
+    begin_day(r, 4);
+    for (unsigned i = 0; i < 400; i++)
+        add(r, i % 2 * 2 + below(2), 1, 1, i % 63, i % 2 * 2 + below(2));
+    r->from = 0;
+    r->to = 2;
+    /* A boat kept, others, a boat kept, others than either. The repeats in front add nothing but positions. */
+    for (unsigned i = 0; i < 24; i++)
+        byte(r, REPEAT);
+    command(r, KEEP, 1, 0);
+    byte(r, THEN);
+    byte(r, REPEAT);
+    command(r, OTHER, 1, 0);
+    command(r, KEEP, 1, 1);
+    byte(r, REPEAT);
+    others(r, 17, 1, 2);
+    return r;
+}
+
+static struct request *proposition_3(unsigned n, unsigned keeps, const char *name)
+{
+    struct request *r = fresh(name);
+    r->rec_len = second_proposition_3_day(n, r->rec);
+    r->pat_len = second_proposition_3_pattern(keeps, r->pat);
+    r->from = 0;
+    r->to = n + 2;
+    return r;
+}
+
+/* Any number of laps of two lines, the boat of the first being that of the second. */
+static struct request *long_check(void)
+{
+    static const uint16_t lines[4] = {0, 1, 3, 2};
+    struct request *r = fresh("check, 1,000,000 entries");
+    begin_day(r, 2);
+    add(r, 0, 1, 1, 1, 1);
+    add(r, 1, 2, 1, 1, 0);
+    add(r, 1, 2, 2, 1, 0);
+    add(r, 0, 1, 2, 1, 1);
+    byte(r, REPEAT);
+    command(r, KEEP, 1, 0);
+    byte(r, EITHER);
+    command(r, SAME, 2, 0);
+    byte(r, THEN);
+    command(r, SAME, 2, 0);
+    byte(r, NOTHING);
+    r->check = 1;
+    r->chain_len = 1000000;
+    r->chain = malloc(sizeof r->chain[0] * r->chain_len);
+    for (size_t i = 0; i < r->chain_len; i++)
+        r->chain[i] = lines[i % 4];
+    return r;
+}
+
+/* Lines before, a boat kept, lines after, that boat again: each of 255 boats may be the kept one, at two positions, and two
+   states have none. */
+static struct request *wide_check(void)
+{
+    struct request *r = fresh("check, 20,000 entries, 512 states alive");
+    begin_day(r, 1);
+    for (unsigned i = 0; i < 255; i++)
+        add(r, 0, 1, 1, i, 0);
+    add(r, 0, 2, 1, 77, 0);
+    byte(r, THEN);
+    byte(r, REPEAT);
+    command(r, LINE, 1, 0);
+    command(r, KEEP, 1, 0);
+    byte(r, THEN);
+    byte(r, REPEAT);
+    command(r, LINE, 1, 0);
+    command(r, SAME, 2, 0);
+    r->check = 1;
+    r->chain_len = 20000;
+    r->chain = malloc(sizeof r->chain[0] * r->chain_len);
+    for (size_t i = 0; i < r->chain_len; i++)
+        r->chain[i] = i % 255;
+    r->chain[r->chain_len - 1] = 255;
+    return r;
+}
+
+/* Places in two halves that no line joins, so that all is gone through that leads to the goal, and all that the start leads to. */
+static struct request *growth(const char *name, unsigned places, unsigned count, unsigned boats, unsigned keeps)
+{
+    struct request *r = fresh("");
+    snprintf(r->name, sizeof r->name, "%s: %u lines, %u places, %u boats, keeps %u", name, count, places, boats, keeps);
+    begin_day(r, places);
+    for (unsigned i = 0; i < count; i++) {
+        unsigned half = i % 2 * (places / 2);
+        add(r, half + below(places / 2), 1, 1, i / 2 % boats, half + below(places / 2));
+    }
+    r->from = 0;
+    r->to = places / 2;
+    /* Boats kept one inside the other, with others after each. */
+    for (unsigned k = 0; k < keeps; k++) {
+        command(r, KEEP, 1, k);
+        byte(r, THEN);
+        byte(r, REPEAT);
+        command(r, OTHER, 1, k);
+    }
+    byte(r, REPEAT);
+    command(r, LINE, 1, 0);
+    return r;
+}
+
+/* One place, 4,096 lines, as many positions that follow each other as there can be, each with a test. The first keep is of a
+   kind that no line has. */
+static struct request *slowest(const char *name, unsigned boats, unsigned keeps)
+{
+    struct request *r = fresh(name);
+    begin_day(r, 1);
+    for (unsigned i = 0; i < 4096; i++)
+        add(r, 0, 1, 1, i % boats, 0);
+    for (unsigned k = 0; k < keeps; k++)
+        command(r, KEEP, k == 0 ? 2 : 1, k);
+    byte(r, REPEAT);
+    if (keeps == 2) /* to have 63 commands */
+        byte(r, REPEAT);
+    others(r, (63 - keeps) / 2, 1, keeps);
+    r->left_out = 1 << SECOND;
+    return r;
+}
+
+/* ---- the runs */
+
+enum { CASES = 10, ROWS = CASES + 16 };
+
+static struct request *row(unsigned i)
+{
+    switch (i) {
+    case 0:
+        return typical_day();
+    case 1:
+        return full_day_laps();
+    case 2:
+        return full_day_twice();
+    case 3:
+        return largest_one_keep(0, "largest size, 1,024 places, one keep");
+    case 4:
+        return largest_one_keep(1, "largest size, 1,024 places, a chain near by");
+    case 5:
+        return largest_two_keeps();
+    case 6:
+        return proposition_3(168, 1, "Proposition 3, largest size, one keep");
+    case 7:
+        return proposition_3(6, 3, "Proposition 3, largest size, three keeps");
+    case 8:
+        return long_check();
+    case 9:
+        return wide_check();
+    }
+    unsigned step = (i - CASES) % 4;
+    switch ((i - CASES) / 4) {
+    case 0:
+        return growth("lines", 32, 512 << step, 32, 1);
+    case 1:
+        return growth("boats", 32, 1024, 32 << step, 1);
+    case 2:
+        return growth("places", 16 << step, 1024, 32, 1);
+    default:
+        return growth("keeps", 8, 256, 15, step);
+    }
+}
+
+static int profiled(char **argument)
+{
+    struct request *r = row(atoi(argument[0]));
+    int program = atoi(argument[1]), times = atoi(argument[2]);
+    uint64_t reply = 0;
+    uint32_t reached = 0;
+    r->words = chains_words(r->rec, r->rec_len, r->pat, r->pat_len);
+    while (times-- > 0)
+        timed(r, program, &reply, &reached);
+    printf("%s: reply %llu\n", r->name, (unsigned long long)reply);
+    free(r->chain);
+    free(r);
+    return 0;
+}
+
+int main(int count, char **argument)
+{
+    read_clock_cost();
+    if (count == 5 && strcmp(argument[1], "--call") == 0)
+        return profiled(argument + 2);
+    if (count == 2 && strcmp(argument[1], "--slowest") == 0) {
+        printf("| case | reply | states reached | C, s | C grouped, s | library, s |\n|---|---|---|---|---|---|\n");
+        measure_once(slowest("one place, 4,096 lines, 4,096 boats, one keep", 4096, 1));
+        measure_once(slowest("one place, 4,096 lines, 127 boats, two keeps", 127, 2));
+        return 0;
+    }
+    for (int i = 1; i < count; i++)
+        if (strspn(argument[i], "0123456789") != strlen(argument[i]) || atoi(argument[i]) >= ROWS) {
+            fprintf(stderr, "bench [ROW... | --slowest | --call ROW PROGRAM TIMES], rows 0 to %d\n", ROWS - 1);
+            return 2;
+        }
+    printf("| case | reply | states reached | C, us | library / C | the same, medians | C grouped / C | second / C |\n");
+    printf("|---|---|---|---|---|---|---|---|\n");
+    for (int i = 0; i < (count > 1 ? count - 1 : ROWS); i++) {
+        struct request *r = row(count > 1 ? atoi(argument[i + 1]) : i);
+        measure(r);
+        free(r->chain);
+        free(r);
+    }
+    return 0;
+}

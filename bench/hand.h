@@ -1,0 +1,19 @@
+/* The finder and the checker by hand in C. Arguments, replies and what becomes of lent words are those of chains_find and
+   chains_check; the count of states that phase one reached goes to *reached, unless that is null. */
+#ifndef HAND_H
+#define HAND_H
+
+#include <stddef.h>
+#include <stdint.h>
+
+uint64_t hand_find(const uint8_t *rec, size_t rec_len, const uint8_t *pat, size_t pat_len, uint16_t from, uint16_t to,
+                   uint32_t *work, size_t work_len, uint16_t *out, size_t out_len, uint32_t *reached);
+
+/* The same with the second index: see hand.c. */
+uint64_t hand_find_grouped(const uint8_t *rec, size_t rec_len, const uint8_t *pat, size_t pat_len, uint16_t from, uint16_t to,
+                           uint32_t *work, size_t work_len, uint16_t *out, size_t out_len, uint32_t *reached);
+
+uint64_t hand_check(const uint8_t *rec, size_t rec_len, const uint8_t *pat, size_t pat_len, uint16_t from, uint16_t to,
+                    const uint16_t *chain, size_t chain_len, uint32_t *work, size_t work_len);
+
+#endif

@@ -1,0 +1,165 @@
+//! Compares the hand-written C with the second program: every reply, every lent word and the
+//! chains, on the cases written by hand and on requests made at random. Both indexes of
+//! lines are compared. Only finding and checking are in C.
+//!
+//! `compare_hand CHECKS FINDS SEED`. It ends with status 1 at the first difference.
+
+use reference::cases::{Bench, ALL};
+use reference::library::{Ask, Library, Own};
+use reference::random::Random;
+use reference::record::Line;
+use reference::rounds;
+use std::process::exit;
+use std::ptr;
+
+type Find = unsafe extern "C" fn(
+    rec: *const u8,
+    rec_len: usize,
+    pat: *const u8,
+    pat_len: usize,
+    from: u16,
+    to: u16,
+    work: *mut u32,
+    work_len: usize,
+    out: *mut u16,
+    out_len: usize,
+    reached: *mut u32,
+) -> u64;
+
+#[link(name = "hand", kind = "static")]
+extern "C" {
+    fn hand_find(
+        rec: *const u8,
+        rec_len: usize,
+        pat: *const u8,
+        pat_len: usize,
+        from: u16,
+        to: u16,
+        work: *mut u32,
+        work_len: usize,
+        out: *mut u16,
+        out_len: usize,
+        reached: *mut u32,
+    ) -> u64;
+    fn hand_find_grouped(
+        rec: *const u8,
+        rec_len: usize,
+        pat: *const u8,
+        pat_len: usize,
+        from: u16,
+        to: u16,
+        work: *mut u32,
+        work_len: usize,
+        out: *mut u16,
+        out_len: usize,
+        reached: *mut u32,
+    ) -> u64;
+    fn hand_check(
+        rec: *const u8,
+        rec_len: usize,
+        pat: *const u8,
+        pat_len: usize,
+        from: u16,
+        to: u16,
+        chain: *const u16,
+        chain_len: usize,
+        work: *mut u32,
+        work_len: usize,
+    ) -> u64;
+}
+
+struct Hand(Find);
+
+impl Library for Hand {
+    fn begin(&self, buf: &mut [u8], places: u16) -> u64 {
+        Own.begin(buf, places)
+    }
+
+    fn add(&self, buf: &mut [u8], len: usize, line: Line) -> u64 {
+        Own.add(buf, len, line)
+    }
+
+    fn read(&self, rec: &[u8], number: u16, fields: &mut [u32]) -> u64 {
+        Own.read(rec, number, fields)
+    }
+
+    fn words(&self, rec: &[u8], pat: &[u8]) -> u64 {
+        Own.words(rec, pat)
+    }
+
+    fn check(&self, ask: Ask, chain: &[u16], work: &mut [u32]) -> u64 {
+        unsafe {
+            hand_check(
+                ask.rec.as_ptr(),
+                ask.rec.len(),
+                ask.pat.as_ptr(),
+                ask.pat.len(),
+                ask.from,
+                ask.to,
+                chain.as_ptr(),
+                chain.len(),
+                work.as_mut_ptr(),
+                work.len(),
+            )
+        }
+    }
+
+    fn find(&self, ask: Ask, work: &mut [u32], out: &mut [u16]) -> u64 {
+        unsafe {
+            (self.0)(
+                ask.rec.as_ptr(),
+                ask.rec.len(),
+                ask.pat.as_ptr(),
+                ask.pat.len(),
+                ask.from,
+                ask.to,
+                work.as_mut_ptr(),
+                work.len(),
+                out.as_mut_ptr(),
+                out.len(),
+                ptr::null_mut(),
+            )
+        }
+    }
+
+    fn has_finder(&self) -> bool {
+        true
+    }
+}
+
+fn main() {
+    let numbers: Option<Vec<u64>> = std::env::args().skip(1).map(|a| a.parse().ok()).collect();
+    let Some(&[checks, finds, seed]) = numbers.as_deref() else {
+        eprintln!("compare_hand CHECKS FINDS SEED");
+        exit(2);
+    };
+    for (name, find) in [("by place", hand_find as Find), ("grouped", hand_find_grouped)] {
+        let hand = Hand(find);
+        let bench = Bench { library: &hand };
+        for case in ALL {
+            stop_at((case.run)(&bench).map(|_| ()), case.name);
+        }
+        let mut random = Random::new(seed);
+        let mut refused = 0;
+        let mut found = 0;
+        for _ in 0..checks {
+            stop_at(rounds::check(&hand, &mut random).map(|_| ()), "check");
+        }
+        for _ in 0..finds {
+            let replies = stop_at(rounds::find(&hand, &mut random), "find");
+            refused += u64::from(replies[0] >> 32 != 0);
+            found += u64::from(replies[0] < 4_294_967_295);
+        }
+        println!(
+            "hand-written C, lines {name}: {} cases, {checks} checks, {finds} finds ({found} found, {refused} refused), no difference",
+            ALL.len()
+        );
+    }
+}
+
+fn stop_at<T>(result: Result<T, String>, what: &str) -> T {
+    result.unwrap_or_else(|difference| {
+        println!("{what}: DIFFERENT\n{difference}");
+        exit(1)
+    })
+}
