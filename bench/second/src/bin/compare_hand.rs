@@ -121,10 +121,6 @@ impl Library for Hand {
             )
         }
     }
-
-    fn has_finder(&self) -> bool {
-        true
-    }
 }
 
 fn main() {
@@ -133,7 +129,10 @@ fn main() {
         eprintln!("compare_hand CHECKS FINDS SEED");
         exit(2);
     };
-    for (name, find) in [("by place", hand_find as Find), ("grouped", hand_find_grouped)] {
+    for (name, find) in [
+        ("by place", hand_find as Find),
+        ("grouped", hand_find_grouped),
+    ] {
         let hand = Hand(find);
         let bench = Bench { library: &hand };
         for case in ALL {
