@@ -42,6 +42,7 @@ fn both_phases(
     requires { ⌜ (from < plan .places) × (to < plan .places) ⌝ }
     ensures { λ r. ⌜ Searched (searchedIn (settingIn (columns (now (kinds .entry)) (now (tests .entry)) (now (levels .entry)) (now (depths .entry)) (now (pushes .entry)) (now (follow .entry))) plan (front plan (now (work .entry)))) plan (firstStates plan begin from) to) r (now (out .entry)) (now (out .exit)) ⌝ }
 {
+    linking::guide(work, plan, true);
     workspace::distances(work, plan, kinds, tests, levels, depths, pushes, follow, to);
     let nearest = workspace::nearest(work, plan, begin, from);
     if nearest == 0 {

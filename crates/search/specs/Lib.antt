@@ -12,6 +12,7 @@ pub mod Grows
 pub mod PhaseOne
 pub mod PhaseTwo
 pub mod Phases
+pub mod Early
 pub mod SmallGraph
 pub mod Digits
 pub mod Product
@@ -25,3 +26,4 @@ pub mod Same
 pub mod Front
 pub mod ReadBack
 pub mod Rows
+pub mod Linked

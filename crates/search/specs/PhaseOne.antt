@@ -148,7 +148,7 @@ module _ (preds : ℕ → List ℕ) (expand : ℕ → ℕ → Search → Search)
             rw (step-next preds f n x q e, advance-next expand u (x .0) (states q) (waits (x ∷ q) e), w, ← law (suc (suc (x .1))) (x .0) (u .table))
             record { count = ap suc (a .count); table = loop-holds N Ok low (preds (x .0)) (suc (x .1)) f (u .table) (λ p j. preds-ok p (x .0) o j) (a .table) }
 
-    advances-at : (k : ℕ) (x : List Entry × ℕ) (u : Progress) → At x u → At (steps preds k x) (advanceBy expand k u)
+    pub advances-at : (k : ℕ) (x : List Entry × ℕ) (u : Progress) → At x u → At (steps preds k x) (advanceBy expand k u)
     unfolding steps advanceBy
     advances-at zero x u a = a
     advances-at (suc k) x u a = advances-at k (step preds x) (advance expand u) (advance-at (x .0) (x .1) u a)

@@ -38,7 +38,7 @@ lesser-words (suc v) (suc w) =
     let least : min (suc v) (suc w) ≡ suc (min v w) = omega arith in
     rw (eqb·suc-zero v, eqb·suc-zero w, least)
 
-lesser-none : (a : Option ℕ) → lesser a none ≡ a
+pub lesser-none : (a : Option ℕ) → lesser a none ≡ a
 unfolding lesser
 lesser-none none = refl
 lesser-none (some a) = refl

@@ -255,6 +255,14 @@ module _ {base size : ℕ} where
     unfolding outside
     under-front k h = sym (take-take k base w h) ∙ ap (λ (o : Outside). take k (o .front)) (u .same) ∙ take-take k base w₀ h
 
+    -- and so are those after it
+    pub under-back : (k : ℕ) → base + size + t ≤ k → drop k w ≡ drop k w₀
+    unfolding outside
+    under-back k h =
+        let sum : base + size + t + (k - (base + size + t)) ≡ k = omega arith in
+        let f : (x : List ℕ) → drop k x ≡ drop (k - (base + size + t)) (drop (base + size + t) x) = λ x. rw (drop-drop, sum) in
+        rw (f w, f w₀) (ap (λ (o : Outside). drop (k - (base + size + t)) (o .back)) (u .same))
+
     pub under-stretch : (b n : ℕ) → b + n ≤ base → stretch b n w ≡ stretch b n w₀
     under-stretch b n h =
         sym (stretch-take base b n w h (omega (arith, u .ready .room)))

@@ -108,8 +108,9 @@ targetIn depths plan t =
       stack = t % plan .stacks % plan .radix ^ e;
     }
 
--- its position and depth are in range
+-- its place, position and depth are in range
 pub record Aimed (plan : Plan) (t : Target) : Type 0 where
+  pub place-low : t .place < plan .places
   pub position-low : t .position ≤ plan .done
   pub depth-low : t .depth ≤ plan .keeps
   pub weight-is : t .weight ≡ plan .radix ^ t .depth

@@ -2,8 +2,8 @@
 use mathlib.Core.Path.{_≡_, refl, sym, ap, _∙_, subst}
 use mathlib.Core.Bool.{true, false}
 use mathlib.Core.List.{List, _∷_}
-use Prim.Native.Nat.{ℕ, suc, _+_, _-_, _^_, _/_, _%_, _<_, _≤_}
-use native.Mathlib.Nat.{mod-lt}
+use Prim.Native.Nat.{ℕ, suc, _+_, _*_, _-_, _^_, _/_, _%_, _<_, _≤_}
+use native.Mathlib.Nat.{mod-lt, div-lt-iff-lt-mul}
 use native.Mathlib.Omega.{arith}
 use lib.Dec.{eqb}
 use lib.ListN.{length, getD, drop, drop-of-length-le}
@@ -20,10 +20,15 @@ use Rattle.search.specs.Product.{Setting}
 use Rattle.search.specs.Along.{goal}
 use Rattle.search.specs.Moves.{expand}
 use Rattle.search.specs.Loaded.{codeAt, wordAt}
+use Rattle.states.specs.Area.{Under}
+use Rattle.linking.specs.Links.{headsAt, placeIn}
+use Rattle.linking.proofs.Turns.{guided-same}
+use Rattle.workspace.specs.Backing.{Backing}
 use Rattle.states.specs.Spots.{front, Starts, Fit, spotIn, off, on, okay, boatOf, stateIn, stackAt, stackTurn, lineTurn, targetIn, Aimed, spotTurn, run, backward}
 use Rattle.states.specs.declared.Spot.{Spot}
 use Rattle.states.specs.declared.Target.{Target}
-use Rattle.states.proofs.Bounds.{power-pos}
+use Rattle.states.proofs.Changes.{under-front, under-back}
+use Rattle.states.proofs.Bounds.{power-pos, stacks-pos}
 
 -- ---- a stack undone, to u
 
@@ -56,6 +61,12 @@ module _ (plan : Plan) (g : List ℕ) (s : Spot) (t : Target) (d c count i : ℕ
         → lineTurn plan g s t d c count i st ≡ turns (stackTurn plan g s d home x b (t .weight) (t .stack)) 0 count st
     unfolding lineTurn
     line-taken k x b home ex eb eh = rw (← eb, ← ex, ← e, ← eh, eq-eqb _ _ h, eq-eqb _ _ k)
+
+-- ---- a line that leads elsewhere
+
+pub line-idle : (plan : Plan) (g : List ℕ) (sp : Spot) (t : Target) (d c count i : ℕ) → (placeIn true plan g i ≡ t .place → ⊥) → (st : Search) → lineTurn plan g sp t d c count i st ≡ st
+unfolding lineTurn placeIn
+line-idle plan g sp t d c count i n st = rw (ne-eqb (toIn (wordAt plan g i)) (t .place) n) refl
 
 -- ---- a position
 
@@ -107,11 +118,25 @@ fit-same {plan} l e f =
       leaves-low = f .leaves-low;
     }
 
-pub aimed : {plan : Plan} {a : Columns} {w : List ℕ} → Fit plan a w → (t : ℕ) (x : Target) → x ≡ targetIn (a .depths) plan t → Aimed plan x
+-- a state's place is one of the places
+place-at : {plan : Plan} {a : Columns} {w : List ℕ} → Fit plan a w → (t : ℕ) → t < plan .size → t / plan .stacks / (plan .done + 1) < plan .places
+place-at {plan} f t less =
+    let some : 0 < plan .done + 1 = omega arith in
+    let both : t / plan .stacks < plan .places * (plan .done + 1) = div-lt-iff-lt-mul (stacks-pos (f .laid)) .1 (subst (t <_) (f .laid .size-is) less) in
+    div-lt-iff-lt-mul some .1 both
+
+-- in a loop of phase one both the tables and the links stay
+pub backing-under : {plan : Plan} {a : Columns} {F : Search → Search} {t₀ : ℕ} {w₀ : List ℕ} {G : Search → Search} {t : ℕ} {w : List ℕ}
+    → Under (plan .base) (plan .size) F t₀ w₀ G t w → Backing plan a w₀ → Backing plan a w
+backing-under {plan} {t = t} u b =
+    let f = under-front u (plan .base) (omega arith) in
+    record { fit = fit-same (u .long) f (b .fit); guided = guided-same true (b .guided) f (under-back u (headsAt plan) (omega (arith, u .ready .fits))) (u .long) }
+
+pub aimed : {plan : Plan} {a : Columns} {w : List ℕ} → Fit plan a w → (t : ℕ) → t < plan .size → (x : Target) → x ≡ targetIn (a .depths) plan t → Aimed plan x
 unfolding targetIn
-aimed {plan} {a} f t x e =
+aimed {plan} {a} f t less x e =
     let k = t / plan .stacks % (plan .done + 1) in
     let low : k ≤ plan .done = omega (arith, mod-lt (t / plan .stacks) {m = plan .done + 1} (omega arith)) in
     let d = getD (a .depths) k 0 in
     subst (Aimed plan) (sym e)
-    (record { position-low = low; depth-low = f .depths-low k low; weight-is = refl; stack-low = mod-lt (t % plan .stacks) (power-pos (f .laid) d) })
+    (record { place-low = place-at f t less; position-low = low; depth-low = f .depths-low k low; weight-is = refl; stack-low = mod-lt (t % plan .stacks) (power-pos (f .laid) d) })

@@ -1,5 +1,6 @@
 // The loops of the search over a loaded record by an automaton's columns, inside one lent work area: both phases, and one line forward for the checker.
 ghost use mathlib.Core.Path.{_≡_};
+ghost use mathlib.Core.Bool.{true};
 ghost use Prim.Native.Nat.{ℕ, suc, _+_, _*_, _-_, _^_, _/_, _%_, _≤_, _<_};
 ghost use lib.Dec.{eqb};
 ghost use mathlib.Core.List.{_++_};
@@ -13,6 +14,8 @@ ghost use Rattle.states.specs.Area.{stretch, found, Ready, Step};
 ghost use Rattle.search.specs.Loaded.{settingIn};
 ghost use Rattle.search.specs.Moves.{visit, onward, expand, fromState};
 ghost use Rattle.search.specs.PhaseTwo.{lesserWord, nearestWord, put, gather, try, walk};
+ghost use Rattle.linking.specs.Links.{Room, Linked, Guided};
+ghost use Rattle.workspace.specs.Backing.{Backing};
 ghost use Rattle.workspace.specs.Chosen.{firstStates, nearTurn, tryTable};
 ghost use Rattle.states.specs.Spots.{front, Fit, Sane, on, stackAt, stackTurn, lineTurn, nextTurn, Aimed, Stacks, Starts, spotTurn, run, backward};
 use request::Plan;
@@ -230,8 +233,8 @@ pub fn one_line(
     tail
 }
 
-// Each line.
-pub fn over_lines(
+// Each line, one after the other.
+fn over_all(
     work: &mut [u32],
     plan: Plan,
     spot: Spot,
@@ -253,6 +256,60 @@ pub fn over_lines(
         t = one_line(work, plan, spot, target, d, c, count, i, t);
     }
     t
+}
+
+// Each line to the target's place, from link to link.
+fn over_linked(
+    work: &mut [u32],
+    plan: Plan,
+    spot: Spot,
+    target: Target,
+    d: u32,
+    c: usize,
+    count: usize,
+    tail: usize,
+) -> usize
+    requires { ⌜ Ready (plan .base) (plan .size) tail (now work) ⌝ }
+    requires { ⌜ Laid plan (length (now work)) × Starts plan (front plan (now work)) ⌝ }
+    requires { ⌜ Sane spot ⌝ }
+    requires { ⌜ (0 < d) × (d ≤ suc tail) × (c ≤ plan .done) × Stacks count (target .weight) (target .stack) (plan .stacks) ⌝ }
+    requires { ⌜ (target .place < plan .places) × Room plan (length (now work)) × Linked plan true (now work) ⌝ }
+    ensures { λ r. ⌜ Step (plan .base) (plan .size) (turns (lineTurn plan (front plan (now (work .entry))) spot target d c count) 0 (plan .lines)) tail (now (work .entry)) r (now (work .exit)) ⌝ }
+{
+    let heads = linking::heads_at(plan, work.len());
+    let mut h = states::word(work, heads + target.place) as usize;
+    let mut at = 0;
+    let mut t = tail;
+    while 0 < h {
+        at = h;
+        t = one_line(work, plan, spot, target, d, c, count, at - 1, t);
+        h = states::word(work, heads + plan.places + (at - 1)) as usize;
+    }
+    t
+}
+
+// Each line: only those to the target's place matter, and where there is room they are linked.
+pub fn over_lines(
+    work: &mut [u32],
+    plan: Plan,
+    spot: Spot,
+    target: Target,
+    d: u32,
+    c: usize,
+    count: usize,
+    tail: usize,
+) -> usize
+    requires { ⌜ Ready (plan .base) (plan .size) tail (now work) ⌝ }
+    requires { ⌜ Laid plan (length (now work)) × Starts plan (front plan (now work)) ⌝ }
+    requires { ⌜ Sane spot ⌝ }
+    requires { ⌜ (0 < d) × (d ≤ suc tail) × (c ≤ plan .done) × Stacks count (target .weight) (target .stack) (plan .stacks) ⌝ }
+    requires { ⌜ (target .place < plan .places) × Guided plan true (now work) ⌝ }
+    ensures { λ r. ⌜ Step (plan .base) (plan .size) (turns (lineTurn plan (front plan (now (work .entry))) spot target d c count) 0 (plan .lines)) tail (now (work .entry)) r (now (work .exit)) ⌝ }
+{
+    if linking::fits(plan, work.len()) {
+        return over_linked(work, plan, spot, target, d, c, count, tail);
+    }
+    over_all(work, plan, spot, target, d, c, count, tail)
 }
 
 // The stack's depth after a position.
@@ -294,7 +351,7 @@ pub fn one_spot(
     tail: usize,
 ) -> usize
     requires { ⌜ Ready (plan .base) (plan .size) tail (now work) ⌝ }
-    requires { ⌜ Fit plan (columns (now kinds) (now tests) (now levels) (now depths) (now pushes) (now follow)) (now work) ⌝ }
+    requires { ⌜ Backing plan (columns (now kinds) (now tests) (now levels) (now depths) (now pushes) (now follow)) (now work) ⌝ }
     requires { ⌜ Aimed plan target ⌝ }
     requires { ⌜ (0 < d) × (d ≤ suc tail) × (c < plan .done) ⌝ }
     ensures { λ r. ⌜ Step (plan .base) (plan .size) (spotTurn (columns (now (kinds .entry)) (now (tests .entry)) (now (levels .entry)) (now (depths .entry)) (now (pushes .entry)) (now (follow .entry))) plan (front plan (now (work .entry))) target d c) tail (now (work .entry)) r (now (work .exit)) ⌝ }
@@ -322,8 +379,8 @@ pub fn expand_state(
     tail: usize,
 ) -> usize
     requires { ⌜ Ready (plan .base) (plan .size) tail (now work) ⌝ }
-    requires { ⌜ Fit plan (columns (now kinds) (now tests) (now levels) (now depths) (now pushes) (now follow)) (now work) ⌝ }
-    requires { ⌜ (0 < d) × (d ≤ suc tail) ⌝ }
+    requires { ⌜ Backing plan (columns (now kinds) (now tests) (now levels) (now depths) (now pushes) (now follow)) (now work) ⌝ }
+    requires { ⌜ (0 < d) × (d ≤ suc tail) × (t < plan .size) ⌝ }
     ensures { λ r. ⌜ Step (plan .base) (plan .size) (expand (settingIn (columns (now (kinds .entry)) (now (tests .entry)) (now (levels .entry)) (now (depths .entry)) (now (pushes .entry)) (now (follow .entry))) plan (front plan (now (work .entry)))) d t) tail (now (work .entry)) r (now (work .exit)) ⌝ }
 {
     let target = states::target_of(depths, plan, t);
@@ -361,7 +418,7 @@ pub fn search_back(
     tail: usize,
 ) -> usize
     requires { ⌜ Ready (plan .base) (plan .size) tail (now work) ⌝ }
-    requires { ⌜ Fit plan (columns (now kinds) (now tests) (now levels) (now depths) (now pushes) (now follow)) (now work) ⌝ }
+    requires { ⌜ Backing plan (columns (now kinds) (now tests) (now levels) (now depths) (now pushes) (now follow)) (now work) ⌝ }
     ensures { λ r. ⌜ Step (plan .base) (plan .size) (run (expand (settingIn (columns (now (kinds .entry)) (now (tests .entry)) (now (levels .entry)) (now (depths .entry)) (now (pushes .entry)) (now (follow .entry))) plan (front plan (now (work .entry))))) (plan .size) 0) tail (now (work .entry)) r (now (work .exit)) ⌝ }
 {
     let mut t = tail;
@@ -399,7 +456,7 @@ pub fn distances(
     follow: &[u64; 64],
     to: usize,
 ) -> usize
-    requires { ⌜ Fit plan (columns (now kinds) (now tests) (now levels) (now depths) (now pushes) (now follow)) (now work) ⌝ }
+    requires { ⌜ Backing plan (columns (now kinds) (now tests) (now levels) (now depths) (now pushes) (now follow)) (now work) ⌝ }
     requires { ⌜ to < plan .places ⌝ }
     ensures { λ r. ⌜ Step (plan .base) (plan .size) (backward (settingIn (columns (now (kinds .entry)) (now (tests .entry)) (now (levels .entry)) (now (depths .entry)) (now (pushes .entry)) (now (follow .entry))) plan (front plan (now (work .entry)))) (plan .size) to) 0 (now (work .entry)) r (now (work .exit)) ⌝ }
 {

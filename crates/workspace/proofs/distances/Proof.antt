@@ -7,7 +7,7 @@ use Rattle.automaton.specs.Columns.{Columns, columns}
 use Rattle.states.specs.Spots.{front, Fit}
 use Rattle.states.proofs.Bounds.{stacks-pos}
 use Rattle.workspace.proofs.Bridge.{goal-is}
-use Rattle.workspace.proofs.Backs.{fit-same, backward-is}
+use Rattle.workspace.proofs.Backs.{backing-under, backward-is}
 use Rattle.states.proofs.Changes.{cleared-ready, step-cleared, step-as, step-then, step-under, under-front}
 use borrow.Author.Needs.{needs}
 use Rattle.workspace.proofs.distances.Statement.{statement}
@@ -17,7 +17,7 @@ abbrev cols : tie.Start → Columns
 cols c = columns (c .args .kinds .now) (c .args .tests .now) (c .args .levels .now) (c .args .depths .now) (c .args .pushes .now) (c .args .follow .now)
 
 fit : (c : tie.Start) → Fit (c .args .plan) (cols c) (c .args .work .now)
-fit c = c .pre .0
+fit c = c .pre .0 .fit
 
 -- the pair stands in the area
 room : (c : tie.Start) → c .args .plan .base + c .args .plan .size + c .args .plan .size ≤ length (c .args .work .now)
@@ -41,7 +41,7 @@ search-back-requires c κs =
     let p = a .args .plan in
     let first = rw (c .before .before .before .before .before .before .before .before .clear-stretch .ensures) at (c .before .before .before .push-if-new .ensures) in
     let step = step-cleared (p .base) (p .size) (a .args .work .now) (room a) _ _ _ first in
-    (step .ready, fit-same (step .long) (under-front (step-under step) (p .base) (omega arith)) (fit a))
+    (step .ready, backing-under (step-under step) (a .pre .0))
 
 same-length : tie.Need-same-length
 same-length c = search needs

@@ -11,7 +11,7 @@ use Rattle.search.specs.Moves.{expand}
 use Rattle.states.specs.Spots.{front, Fit, spotTurn}
 use Rattle.states.proofs.Bounds.{stacks-pos, power-small}
 use Rattle.workspace.proofs.Bridge.{expand-is}
-use Rattle.workspace.proofs.Backs.{fit-same, aimed}
+use Rattle.workspace.proofs.Backs.{backing-under, aimed}
 use Rattle.states.proofs.Changes.{under-as, loop-turn, loop-end, under-front}
 use borrow.Author.Needs.{needs}
 use Rattle.workspace.proofs.expand_state.Statement.{statement}
@@ -27,7 +27,7 @@ abbrev cols : tie.Start Inv-loop μ-loop → Columns
 cols c = columns (c .args .kinds .now) (c .args .tests .now) (c .args .levels .now) (c .args .depths .now) (c .args .pushes .now) (c .args .follow .now)
 
 fit : (c : tie.Start Inv-loop μ-loop) → Fit (c .args .plan) (cols c) (c .args .work .now)
-fit c = c .pre .1 .0
+fit c = c .pre .1 .0 .fit
 
 target-of-requires : tie.Need-target-of-requires Inv-loop μ-loop
 target-of-requires c κs = let f = fit (c .before) in (stacks-pos (f .laid), f .laid .some-radix, f .laid .few-commands, λ k h. power-small (f .laid) _ (f .depths-low k h))
@@ -46,9 +46,8 @@ one-spot-requires : tie.Need-one-spot-requires Inv-loop μ-loop
 one-spot-requires c κs =
     let a = c .before .before .before .before .before in
     let u = c .before .before .loop .inv .1 in
-    let (some, near) = a .pre .1 .1 in
-    let f = fit-same (u .long) (under-front u (a .args .plan .base) (omega arith)) (fit a) in
-    (u .ready, (f, (aimed (fit a) (a .args .t) _ (c .before .before .before .target-of .ensures), (some, omega (arith, near, u .grows), omega arith))))
+    let (some, near, less) = a .pre .1 .1 in
+    (u .ready, (backing-under u (a .pre .1 .0), (aimed (fit a) (a .args .t) less _ (c .before .before .before .target-of .ensures), (some, omega (arith, near, u .grows), omega arith))))
 
 add-c : tie.Need-add-c Inv-loop μ-loop
 add-c c = search needs

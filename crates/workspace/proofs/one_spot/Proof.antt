@@ -18,7 +18,7 @@ abbrev cols : tie.Start → Columns
 cols c = columns (c .args .kinds .now) (c .args .tests .now) (c .args .levels .now) (c .args .depths .now) (c .args .pushes .now) (c .args .follow .now)
 
 fit : (c : tie.Start) → Fit (c .args .plan) (cols c) (c .args .work .now)
-fit c = c .pre .1 .0
+fit c = c .pre .1 .0 .fit
 
 -- the depth after the position
 abbrev deep : tie.Start → ℕ
@@ -63,7 +63,7 @@ over-lines-requires c κs =
     let low : a .args .c ≤ a .args .plan .done = omega (arith, c<done) in
     let count = c .before .stacks-over .ensures ∙ ap (λ z. a .args .plan .radix ^ (z - a .args .target .depth)) (c .before .before .leaves-of .ensures) in
     let sane = spot-sane f (a .args .c) low _ (c .before .before .before .before .before .spot-at .ensures) in
-    (a .pre .0, ((f .laid, f .starts), (sane, (some, near, low, stacks-fit (f .laid) (a .args .target) (a .pre .1 .1 .0) (deep a) _ (f .leaves-low (a .args .c) low) count))))
+    (a .pre .0, ((f .laid, f .starts), (sane, ((some, near, low, stacks-fit (f .laid) (a .args .target) (a .pre .1 .1 .0) (deep a) _ (f .leaves-low (a .args .c) low) count), (a .pre .1 .1 .0 .place-low, a .pre .1 .0 .guided)))))
 
 same-length : tie.Need-same-length
 same-length c = search needs

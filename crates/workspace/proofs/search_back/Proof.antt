@@ -8,7 +8,7 @@ use Rattle.states.specs.Area.{Under}
 use Rattle.search.specs.Loaded.{settingIn}
 use Rattle.search.specs.Moves.{expand}
 use Rattle.states.specs.Spots.{front, Fit, run}
-use Rattle.workspace.proofs.Backs.{fit-same, run-none, run-next}
+use Rattle.workspace.proofs.Backs.{backing-under, run-none, run-next}
 use Rattle.states.proofs.Changes.{under-start, under-step, under-end, under-front, ready-long}
 use borrow.Author.Needs.{needs}
 use Rattle.workspace.proofs.search_back.Statement.{statement}
@@ -24,7 +24,7 @@ abbrev cols : tie.Start Inv-loop μ-loop → Columns
 cols c = columns (c .args .kinds .now) (c .args .tests .now) (c .args .levels .now) (c .args .depths .now) (c .args .pushes .now) (c .args .follow .now)
 
 fit : (c : tie.Start Inv-loop μ-loop) → Fit (c .args .plan) (cols c) (c .args .work .now)
-fit c = c .pre .1
+fit c = c .pre .1 .fit
 
 loop-holds : tie.Need-loop-holds Inv-loop μ-loop
 loop-holds c = (omega arith, rw sub-zero (under-start _ (c .before .pre .0)))
@@ -42,7 +42,7 @@ expand-state-requires : tie.Need-expand-state-requires Inv-loop μ-loop
 expand-state-requires c κs =
     let a = c .before .before .before .before .before .before .before .before in
     let u = c .before .before .before .before .before .before .loop .inv .1 in
-    (u .ready, (fit-same (u .long) (under-front u (a .args .plan .base) (omega arith)) (fit a), (omega arith, omega (arith, c .before .dist-at .ensures .1))))
+    (u .ready, (backing-under u (a .pre .1), (omega arith, omega (arith, c .before .dist-at .ensures .1), c .before .before .before .waiting .ensures .1)))
 
 add-head : tie.Need-add-head Inv-loop μ-loop
 add-head c = omega (arith, c .before .before .before .before .before .before .before .before .loop-test .taken, c .before .before .before .before .before .before .before .before .before .loop .inv .1 .ready .fits, fit (c .before .before .before .before .before .before .before .before .before .before .before) .laid .small)
