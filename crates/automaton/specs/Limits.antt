@@ -1,10 +1,10 @@
 -- What code that reads compiled columns may rely on, from `Compiled` and the shape of every pattern's automaton.
--- Claimed: `compiled-depth`, `compiled-level`, `compiled-follow`, `compiled-start`. Bounds that `Compiled` leaves open (kinds, pushes,
+-- Claimed: `compiled-depth`, `compiled-start`. Bounds that `Compiled` leaves open (kinds, pushes,
 -- levels of commands without a test) are the second promise of `compile`. Assumes nothing.
-use mathlib.Core.Path.{_≡_, sym, subst₂}
+use mathlib.Core.Path.{_≡_}
 use mathlib.Core.Bool.{Bool, true, false}
 use mathlib.Core.List.{[]}
-use Prim.Native.Nat.{ℕ, _≤_, _<_}
+use Prim.Native.Nat.{ℕ, _≤_}
 use native.Mathlib.Nat.{zero-add, le-of-eq}
 use native.Mathlib.Omega.{arith}
 use lib.Dec.{eqb}
@@ -12,8 +12,8 @@ use lib.ListN.{getD}
 use Rattle.meaning.specs.Pattern.{Pattern, commands, keeps}
 use Rattle.automaton.specs.Listed.{_∈_}
 use Rattle.automaton.specs.Automaton.{Node, nodes, nodeAt}
-use Rattle.automaton.specs.Shape.{Shape, Reads, deeper, leaves, shape, start-within}
-use Rattle.automaton.specs.Columns.{Columns, testIn, members, nodeIn, Compiled}
+use Rattle.automaton.specs.Shape.{Shape, deeper, leaves, shape, start-within}
+use Rattle.automaton.specs.Columns.{Columns, members, nodeIn, Compiled}
 
 depth-leaves : (n : Node) → n .depth ≤ leaves n
 depth-leaves n = go (n .push)
@@ -41,20 +41,6 @@ module _ {p : Pattern} {a : Columns} {begin : ℕ} (h : Compiled p a begin) wher
     -- no stack is deeper than the pattern's keeps, before a position and after it
     pub compiled-depth : (getD (a .depths) c 0 ≤ keeps p) × (deeper (eqb (getD (a .pushes) c 0) 1) (getD (a .depths) c 0) ≤ keeps p)
     compiled-depth = (omega (arith, depth-is, depth-leaves (node c), shaped .depth c), omega (arith, leaves-are, shaped .depth c))
-
-    -- a test reads a level that the stack has
-    pub compiled-level : Reads (testIn (getD (a .tests) c 0) (getD (a .levels) c 0)) (getD (a .depths) c 0)
-    unfolding nodeIn
-    compiled-level = subst₂ Reads (sym (h .nodes-are c l .test)) (sym (h .nodes-are c l .depth)) (shaped .reads c)
-
-  module _ (c : ℕ) (l : c ≤ commands p) (k : ℕ) (m : k ∈ members (getD (a .follow) c 0)) where
-    goes : (c < commands p) × (k ≤ commands p) × (node k .depth ≤ leaves (node c))
-    unfolding nodeIn
-    goes = shaped .goes c k (h .nodes-are c l .follow k .0 m)
-
-    -- a follower is a position, never deeper than what the command leaves; the end has none
-    pub compiled-follow : (c < commands p) × (k ≤ commands p) × (getD (a .depths) k 0 ≤ deeper (eqb (getD (a .pushes) c 0) 1) (getD (a .depths) c 0))
-    compiled-follow = (goes .0, goes .1, omega (arith, depth-is k (goes .1), leaves-are c l, goes .2))
 
   -- runs begin at positions outside of every keep
   pub compiled-start : (k : ℕ) → k ∈ members begin → (k ≤ commands p) × (getD (a .depths) k 0 ≡ 0)

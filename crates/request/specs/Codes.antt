@@ -1,11 +1,11 @@
 -- Boats as numbers 1, 2, … in order of first appearance: the number of each line's boat, and the boat of each number.
--- Claimed: `code-low`, `code-pos` and `code-compared` (comparing two lines' numbers tells what comparing their boats tells), for the states;
+-- Claimed: `code-low` and `code-compared` (comparing two lines' numbers tells what comparing their boats tells), for the states;
 -- `code-earlier` and `code-new` (the number of an earlier line with the boat, else the next one), for the code that numbers the lines; `codes-length`, `boats-of`, for reading them back.
 use mathlib.Core.Path.{_≡_, refl, sym, ap, _∙_, subst}
 use mathlib.Core.Bool.{Bool, true, false, cond, false≢true}
 use mathlib.Core.List.{List, [], _∷_, _++_, map, append-assoc, append-nil, List·Memᴰ·head, List·Memᴰ·tail, List·Memᴰ·cases-cons, List·Memᴰ·append-cases, List·Memᴰ·eq-of-singleton, Memᴰ·append-left, Memᴰ·append-right}
 use mathlib.Core.Logic.{_↔_, _⊎_, inl, inr, ⊎-elim}
-use Prim.Native.Nat.{ℕ, zero, suc, _<_, _≤_}
+use Prim.Native.Nat.{ℕ, zero, suc, _<_}
 use native.Mathlib.Omega.{arith}
 use lib.ListN.{length, getD, take, drop, length-map}
 use lib.Seq.{split-at, length-take-le, getD-take}
@@ -173,9 +173,6 @@ module _ (lines : List Line) where
 
     its-index : (getD (boats lines) (indexIn (boats lines) its) (noLine .boat) ≡ its) × (indexIn (boats lines) its < length (boats lines))
     its-index = index-at (boats lines) its (noLine .boat) (after-in lines [] its .1 (inr (i, h, refl)))
-
-    pub code-pos : 1 ≤ code i
-    code-pos = omega (arith, code-at i h)
 
     pub code-low : code i < suc (length (boats lines))
     code-low = omega (arith, code-at i h, its-index .1)

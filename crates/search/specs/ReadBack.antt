@@ -1,6 +1,5 @@
 -- The loaded words, read back, say the request: `loaded-same`, for a plan with the request's numbers and tables loaded of its lines.
 -- So what code finds that searches by them is `answer` and `check`: `loaded-answer`, `loaded-check`, and for counting loops `loaded-finish`.
--- `planned-room` and `loaded-low` are what `front-same` asks for.
 use mathlib.Core.Path.{_≡_, refl, sym, ap, _∙_, subst}
 use mathlib.Core.Bool.{Bool, true, false, cond, _&&_}
 use mathlib.Core.List.{List, [], _∷_, _++_, map, Memᴰ·map, Memᴰ·of-map}
@@ -8,14 +7,14 @@ use mathlib.Core.Logic.{_↔_}
 use Prim.Native.Nat.{ℕ, zero, suc, _+_, _*_, _^_, _/_, _%_, _<_, _≤_}
 use native.Mathlib.Omega.{arith}
 use lib.ListN.{length, getD, length-map, List·getD-append, List·getD-map}
-use lib.Seq.{getD-append-add, take-length}
+use lib.Seq.{getD-append-add}
 use borrow.Author.Tests.{ne-eqb}
 use Rattle.meaning.specs.Record.{Boat, Line, boats}
 use Rattle.meaning.specs.Writing.{noLine, lineAt}
 use Rattle.meaning.specs.Pattern.{Pattern, Rule, commands, keeps}
 use Rattle.meaning.specs.Language.{compared}
 use Rattle.meaning.specs.Request.{searchSize}
-use Rattle.boats.specs.Boats.{word, boats-few}
+use Rattle.boats.specs.Boats.{word}
 use Rattle.record.specs.Fit.{Fit}
 use Rattle.automaton.specs.Listed.{_∈_, getD-in}
 use Rattle.automaton.specs.Automaton.{against, nodes, nodeAt, start}
@@ -98,12 +97,6 @@ module _ (lines : List Line) (places : ℕ) (p : Pattern) (plan : Plan) (area : 
       let stacks : plan .stacks ≡ suc (length (boats lines)) ^ keeps p = laid .stacks-is ∙ (λ t. planned .radix-is t ^ planned .keeps-are t) in
       laid .size-is ∙ (λ t. planned .places-are t * positions t * stacks t)
 
-  -- so many boats would end before `base`
-  pub planned-room : plan .first + plan .radix ≤ suc (plan .base)
-  planned-room =
-      let few : length (boats lines) ≤ length lines = subst (λ ls. length (boats ls) ≤ length lines) (take-length lines) (boats-few lines (length lines) (omega arith)) in
-      omega (arith, planned .radix-is, planned .lines-are, laid .codes-at, laid .words-at, laid .base-at)
-
   -- ---- the words of its tables
 
   module _ (g : List ℕ) (loaded : tables plan g ≡ loadedOf (keeps p) lines) where
@@ -124,9 +117,6 @@ module _ (lines : List Line) (places : ℕ) (p : Pattern) (plan : Plan) (area : 
     code-back i less =
         rest-at (plan .codes + i) i refl (omega (arith, laid .words-at, laid .base-at, planned .lines-are))
         ∙ List·getD-append (codes lines) (map lineWord lines) 0 i (omega (arith, codes-length lines))
-
-    pub loaded-low : (i : ℕ) → i < plan .lines → codeAt plan g i < plan .radix
-    loaded-low i less = let li : i < length lines = omega (arith, planned .lines-are) in omega (arith, code-back i li, code-low lines i li, planned .radix-is)
 
     line-back : (i : ℕ) → i < length lines → lineAt (linesIn plan g 0 (plan .lines)) i ≡ lineIn (lineWord (lineAt lines i))
     line-back i less =
