@@ -14,6 +14,7 @@ use Rattle.request.specs.Layout.{Laid, fromIn, toIn, kindIn}
 use Rattle.request.specs.declared.Plan.{Plan}
 use Rattle.search.specs.Loops.{turns}
 use Rattle.search.specs.Table.{Search, push}
+use Rattle.search.specs.Front.{stateIn}
 use Rattle.search.specs.Loaded.{codeAt, wordAt, boatIn, boatWordAt}
 use Rattle.search.specs.PhaseOne.{begun, advanceBy}
 use Rattle.search.specs.Product.{Setting}
@@ -89,10 +90,6 @@ off s v = offBy (eqb (s .push) 1) (s .weight) v
 
 unfoldable pub on : Spot → ℕ → ℕ → ℕ
 on s u x = onBy (eqb (s .push) 1) (s .weight) u x
-
--- the state at place q and position k with the stack v
-abbrev pub stateIn : Plan → ℕ → ℕ → ℕ → ℕ
-stateIn plan q k v = (q * (plan .done + 1) + k) * plan .stacks + v
 
 -- ---- a state that is expanded, by its numbers
 

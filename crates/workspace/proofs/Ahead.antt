@@ -15,7 +15,7 @@ use Rattle.search.specs.Table.{Search}
 use Rattle.search.specs.PhaseTwo.{lesserWord, Tried, gather, try, try-next, try-here, walk}
 use Rattle.search.specs.Product.{Setting}
 use Rattle.search.specs.Moves.{visit, onward, fromState, onward-from}
-use Rattle.states.specs.Spots.{stateIn}
+use Rattle.search.specs.Front.{stateIn}
 use Rattle.workspace.specs.Chosen.{nearTurn, tryTable, anything}
 
 -- ---- the nearest first state

@@ -24,7 +24,8 @@ use Rattle.states.specs.Area.{Under}
 use Rattle.linking.specs.Links.{headsAt, placeIn}
 use Rattle.linking.proofs.Turns.{guided-same}
 use Rattle.workspace.specs.Backing.{Backing}
-use Rattle.states.specs.Spots.{front, Starts, Fit, spotIn, off, on, okay, boatOf, stateIn, stackAt, stackTurn, lineTurn, targetIn, Aimed, spotTurn, run, backward}
+use Rattle.search.specs.Front.{stateIn}
+use Rattle.states.specs.Spots.{front, Starts, Fit, spotIn, off, on, okay, boatOf, stackAt, stackTurn, lineTurn, targetIn, Aimed, spotTurn, run, backward}
 use Rattle.states.specs.declared.Spot.{Spot}
 use Rattle.states.specs.declared.Target.{Target}
 use Rattle.states.proofs.Changes.{under-front, under-back}

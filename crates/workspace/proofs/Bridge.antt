@@ -8,7 +8,7 @@ use native.Mathlib.Nat.{add-zero, mod-lt}
 use native.Mathlib.Decide.{ℕ-discrete}
 use native.Mathlib.Omega.{arith}
 use lib.Dec.{eqb}
-use lib.ListN.{length, getD}
+use lib.ListN.{getD}
 use borrow.Author.Tests.{eq-eqb, ne-eqb}
 use Rattle.meaning.specs.Writing.{lineAt}
 use Rattle.meaning.specs.Pattern.{same, other}
@@ -22,10 +22,10 @@ use Rattle.search.specs.Digits.{pushOn, popOff}
 use Rattle.search.specs.Loops.{turns}
 use Rattle.search.specs.Table.{Search, push}
 use Rattle.search.specs.Product.{Setting, stacks, state, placeOf, posOf, stackOf, cut, passes, pushed, popped, undoes}
-use Rattle.search.specs.Along.{goal}
-use Rattle.search.specs.Loaded.{codeAt, wordAt, lineIn, linesIn, boatWordAt, settingIn}
+use Rattle.search.specs.Front.{stateIn, lines-many, line-at}
+use Rattle.search.specs.Loaded.{codeAt, wordAt, boatWordAt, settingIn}
 use Rattle.search.specs.Moves.{overStacks, overLines, expand, overNext, onward}
-use Rattle.states.specs.Spots.{wordsCompared, metBy, spotIn, off, offBy, on, onBy, okay, boatOf, stateIn, stackAt, stackTurn, lineTurn, nextTurn, targetIn, spotTurn}
+use Rattle.states.specs.Spots.{wordsCompared, metBy, spotIn, off, offBy, on, onBy, okay, boatOf, stackAt, stackTurn, lineTurn, nextTurn, targetIn, spotTurn}
 use Rattle.states.specs.declared.Spot.{Spot}
 use Rattle.states.specs.declared.Target.{Target}
 
@@ -74,24 +74,6 @@ memb-from mask j (suc n) k h l = elim (ℕ-discrete k j) [
 pub member : (mask k : ℕ) → k < 64 → memb k (members mask) ≡ eqb (bitOf mask k) 1
 unfolding members
 member mask k h = memb-from mask 0 64 k (omega arith) (omega arith)
-
--- ---- the loaded lines
-
-lines-long : (plan : Plan) (g : List ℕ) (i n : ℕ) → length (linesIn plan g i n) ≡ n
-unfolding linesIn
-lines-long plan g i zero = refl
-lines-long plan g i (suc n) = ap suc (lines-long plan g (suc i) n)
-
-lines-at : (plan : Plan) (g : List ℕ) (i n j : ℕ) → j < n → lineAt (linesIn plan g i n) j ≡ lineIn (wordAt plan g (i + j))
-unfolding linesIn
-lines-at plan g i zero j h = absurd (omega arith)
-lines-at plan g i (suc n) zero h = let e : i + 0 ≡ i = omega arith in rw e
-lines-at plan g i (suc n) (suc j) h =
-    let e : i + suc j ≡ suc i + j = omega arith in
-    lines-at plan g (suc i) n j (omega arith) ∙ ap (λ z. lineIn (wordAt plan g z)) (sym e)
-
-line-is : (plan : Plan) (g : List ℕ) (j : ℕ) → j < plan .lines → lineAt (linesIn plan g 0 (plan .lines)) j ≡ lineIn (wordAt plan g j)
-line-is plan g j h = let e : 0 + j ≡ j = omega arith in lines-at plan g 0 (plan .lines) j h ∙ ap (λ z. lineIn (wordAt plan g z)) e
 
 -- ---- push and pop
 
@@ -152,7 +134,7 @@ module _ (a : Columns) (plan : Plan) (g : List ℕ) where
         rw (
           ← big,
           ← next,
-          line-is plan g i h,
+          line-at plan g i h,
           member (getD (a .follow) (pos s) 0) k (omega (arith, l, few)),
           push-on (plan .radix) (getD (a .depths) (pos s) 0) (s % plan .stacks) (codeAt plan g i) (eqb (getD (a .pushes) (pos s) 0) 1),
         )
@@ -191,7 +173,7 @@ module _ (a : Columns) (plan : Plan) (g : List ℕ) where
           rw (
             ← big,
             ← next,
-            line-is plan g i h,
+            line-at plan g i h,
             passes-is (getD (a .tests) (pos s) 0) (getD (a .levels) (pos s) 0) (s % plan .stacks) (codeAt plan g i),
             e,
           )
@@ -240,7 +222,7 @@ module _ (a : Columns) (plan : Plan) (g : List ℕ) where
         let next : suc (plan .done) ≡ plan .done + 1 = omega arith in
         let b = eqb (getD (a .pushes) c 0) 1 in
         let pop : popOff (plan .radix) b (getD (a .depths) c 0) v ≡ offBy b (plan .radix ^ getD (a .depths) c 0) v = pop-off (plan .radix) (getD (a .depths) c 0) v b in
-        rw (line-is plan g i h, next, ← big, pop, add-zero)
+        rw (line-at plan g i h, next, ← big, pop, add-zero)
 
     -- a line's loop over stacks
     stacks-are : (d c i e w : ℕ) (st : Search) → i < plan .lines
@@ -274,10 +256,10 @@ module _ (a : Columns) (plan : Plan) (g : List ℕ) where
         body i b = cond (eqb (lineAt (S .lines) i .to) (t .place) && eqb (lineAt (S .lines) i .kind) (S .node c .kind)) (overStacks S d c i e (t .stack) b) b
 
         whole : overLines S d c (t .place) e (t .stack) st ≡ turns body 0 (plan .lines) st
-        whole = unfold overLines in ap (λ m. turns body 0 m st) (unfold settingIn in lines-long plan g 0 (plan .lines))
+        whole = unfold overLines in ap (λ m. turns body 0 m st) (unfold settingIn in lines-many plan g 0 (plan .lines))
 
         same-turn : (i : ℕ) → i < plan .lines → (b : Search) → body i b ≡ lineTurn plan g (spot c) t d c n i b
-        same-turn i l b = rw (stacks-are d c i e (t .stack) b l) (unfold settingIn lineTurn nodeIn spotIn in rw (line-is plan g i l, ew))
+        same-turn i l b = rw (stacks-are d c i e (t .stack) b l) (unfold settingIn lineTurn nodeIn spotIn in rw (line-at plan g i l, ew))
 
     -- the state t expanded
     pub expand-is : plan .done ≤ 63 → (d t : ℕ) (st : Search) → expand S d t st ≡ turns (spotTurn a plan g (targetIn (a .depths) plan t) d) 0 (plan .done) st
@@ -312,8 +294,3 @@ module _ (a : Columns) (plan : Plan) (g : List ℕ) where
             ap (λ z. cond z (overLines S d c (t / plan .stacks / (plan .done + 1)) e (t % plan .stacks % plan .radix ^ e) b) b) may
             ∙ ap (λ z. cond (eqb (bitOf (getD (a .follow) c 0) k) 1) z b) (lines-here c b)
             ∙ unfold spotTurn targetIn nodeIn in refl
-
-    -- the state from which phase one begins
-    pub goal-is : (b : ℕ) → stateIn plan b (plan .done) 0 ≡ goal S b
-    unfolding settingIn state stacks
-    goal-is b = let next : plan .done + 1 ≡ suc (plan .done) = omega arith in rw (next, big)

@@ -8,7 +8,8 @@ use Rattle.automaton.specs.Columns.{bitOf}
 use Rattle.request.specs.declared.Plan.{Plan}
 use Rattle.search.specs.Table.{Search, push}
 use Rattle.search.specs.Moves.{visit}
-use Rattle.states.specs.Spots.{stateIn, nextTurn}
+use Rattle.search.specs.Front.{stateIn}
+use Rattle.states.specs.Spots.{nextTurn}
 
 module _ (D : List ℕ) (w t : ℕ) (st : Search) where
   pub visit-all : w ≡ 0 → visit D w t st ≡ push 1 t st

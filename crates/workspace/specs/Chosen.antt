@@ -14,7 +14,8 @@ use Rattle.search.specs.Loops.{loop, turns, loop-map, loop-filt, loop-count, tu
 use Rattle.search.specs.Table.{Search, blank}
 use Rattle.search.specs.PhaseTwo.{lesserWord, nearestWord, put, try}
 use Rattle.search.specs.Moves.{visit, visit-put}
-use Rattle.states.specs.Spots.{stateIn, nextTurn}
+use Rattle.search.specs.Front.{stateIn}
+use Rattle.states.specs.Spots.{nextTurn}
 
 -- the states at place a, with the empty stack, at the positions of the mask
 unfoldable pub firstStates : Plan → ℕ → ℕ → List ℕ

@@ -6,7 +6,7 @@ use lib.ListN.{length}
 use Rattle.automaton.specs.Columns.{Columns, columns}
 use Rattle.states.specs.Spots.{front, Fit}
 use Rattle.states.proofs.Bounds.{stacks-pos}
-use Rattle.workspace.proofs.Bridge.{goal-is}
+use Rattle.search.specs.Front.{goal-in}
 use Rattle.workspace.proofs.Backs.{backing-under, backward-is}
 use Rattle.states.proofs.Changes.{cleared-ready, step-cleared, step-as, step-then, step-under, under-front}
 use borrow.Author.Needs.{needs}
@@ -54,7 +54,7 @@ returns c =
     let first = rw (c .before .before .before .before .before .before .before .before .before .before .before .clear-stretch .ensures) at (c .before .before .before .before .before .before .push-if-new .ensures) in
     let step = step-cleared (p .base) (p .size) (a .args .work .now) (room a) _ _ _ first in
     let rest = rw (under-front (step-under step) (p .base) (omega arith)) at (c .before .before .search-back .ensures) in
-    let goal = c .before .before .before .before .before .before .before .state-at .ensures .0 ∙ goal-is (cols a) p (front p (a .args .work .now)) (laid .stacks-is) (a .args .to) in
+    let goal = c .before .before .before .before .before .before .before .state-at .ensures .0 ∙ goal-in (cols a) p (length (a .args .work .now)) laid (front p (a .args .work .now)) (a .args .to) in
     step-as _ (step-then step rest) (backward-is _ _ _ _ _ goal)
 
 pub distances-spec : {M : Type 1} → statement M
