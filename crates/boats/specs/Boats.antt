@@ -7,7 +7,7 @@ use Prim.Native.Nat.{ℕ, zero, suc, _+_, _*_, _<_, _≤_}
 use native.Mathlib.Omega.{arith}
 use lib.Dec.{ltb, eqb, leb·suc-suc}
 use lib.ListN.{length, take, length-append}
-use lib.Seq.{take-suc, take-length}
+use lib.Seq.{take-suc}
 use borrow.Author.Tests.{eqb-true, eq-eqb, ne-eqb, lt-ltb, le-ltb, ltb-true, ltb-false}
 use Rattle.meaning.specs.Record.{Boat, Line, agree, among, boatsAfter, boats}
 use Rattle.meaning.specs.Writing.{lineAt, noLine}
@@ -66,22 +66,16 @@ first-miss : (b : Boat) (l : Line) (ls : List Line) → agree b (l .boat) ≡ fa
 unfolding firstWith
 first-miss b l ls h = rw (h, firstWith)
 
--- a line with the boat and no earlier one is the first
-pub first-is : (b : Boat) (ls : List Line) (k : ℕ) → k < length ls → ((j : ℕ) → j < k → agree b (lineAt ls j .boat) ≡ false) → agree b (lineAt ls k .boat) ≡ true → firstWith b ls ≡ k
-first-is b [] k h none it = absurd (omega (arith, h))
-first-is b (l ∷ ls) zero h none it = first-hit b l ls it
-first-is b (l ∷ ls) (suc k) h none it = first-miss b l ls (none 0 (omega arith)) ∙ ap suc (first-is b ls k (omega (arith, h)) (λ j less. none (suc j) (omega (arith, less))) it)
-
 -- ---- one line more
 
--- the boats seen, with the boat of one more line
-abbrev pub noted : List Boat → Line → List Boat
-noted seen l = cond (among (l .boat) seen) seen (seen ++ (l .boat ∷ []))
+-- the boats seen, with one more at the end if it is new
+abbrev pub noted : List Boat → Boat → List Boat
+noted seen b = cond (among b seen) seen (seen ++ (b ∷ []))
 
-boats-end : (seen : List Boat) (ls : List Line) (l : Line) → boatsAfter seen (ls ++ (l ∷ [])) ≡ noted (boatsAfter seen ls) l
+pub after-append : (ls rest : List Line) (seen : List Boat) → boatsAfter seen (ls ++ rest) ≡ boatsAfter (boatsAfter seen ls) rest
 unfolding boatsAfter
-boats-end seen [] l = refl
-boats-end seen (k ∷ ls) l = boats-end (noted seen k) ls l
+after-append [] rest seen = refl
+after-append (l ∷ ls) rest seen = after-append ls rest (noted seen (l .boat))
 
 -- is the boat among these, or the last one?
 among-end : (b : Boat) (seen : List Boat) (c : Boat) → among b (seen ++ (c ∷ [])) ≡ (among b seen || agree b c)
@@ -96,17 +90,17 @@ among-end b (x ∷ seen) c = go (agree b x) (among-end b seen c)
     go true ih = refl
     go false ih = ih
 
-among-noted : (b : Boat) (seen : List Boat) (l : Line) → among b (noted seen l) ≡ (among b seen || agree b (l .boat))
-among-noted b seen l = go (among (l .boat) seen) refl
+among-noted : (b : Boat) (seen : List Boat) (x : Boat) → among b (noted seen x) ≡ (among b seen || agree b x)
+among-noted b seen x = go (among x seen) refl
   where
-    known : (t u : Bool) → agree b (l .boat) ≡ t → among b seen ≡ u → among (l .boat) seen ≡ true → u ≡ (u || t)
-    known true u same here seen-it = let e : u ≡ true = sym here ∙ (ap (λ x. among x seen) (agree-same b (l .boat) same) ∙ seen-it) in rw e
+    known : (t u : Bool) → agree b x ≡ t → among b seen ≡ u → among x seen ≡ true → u ≡ (u || t)
+    known true u same here seen-it = let e : u ≡ true = sym here ∙ (ap (λ y. among y seen) (agree-same b x same) ∙ seen-it) in rw e
     known false true same here seen-it = refl
     known false false same here seen-it = refl
 
-    go : (t : Bool) → among (l .boat) seen ≡ t → among b (cond t seen (seen ++ (l .boat ∷ []))) ≡ (among b seen || agree b (l .boat))
-    go true e = known (agree b (l .boat)) (among b seen) refl refl e
-    go false e = among-end b seen (l .boat)
+    go : (t : Bool) → among x seen ≡ t → among b (cond t seen (seen ++ (x ∷ []))) ≡ (among b seen || agree b x)
+    go true e = known (agree b x) (among b seen) refl refl e
+    go false e = among-end b seen x
 
 -- has one of the lines the boat?
 abbrev has : Boat → List Line → Bool
@@ -116,7 +110,7 @@ has b (l ∷ ls) = agree b (l .boat) || has b ls
 among-after : (b : Boat) (seen : List Boat) (ls : List Line) → among b (boatsAfter seen ls) ≡ (among b seen || has b ls)
 unfolding boatsAfter
 among-after b seen [] = sym (or-false (among b seen))
-among-after b seen (l ∷ ls) = among-after b (noted seen l) ls ∙ (ap (λ t. t || has b ls) (among-noted b seen l) ∙ or-assoc (among b seen) (agree b (l .boat)) (has b ls))
+among-after b seen (l ∷ ls) = among-after b (noted seen (l .boat)) ls ∙ (ap (λ t. t || has b ls) (among-noted b seen (l .boat)) ∙ or-assoc (among b seen) (agree b (l .boat)) (has b ls))
 
 -- one of the first i lines has the boat just if the first with it comes before line i
 has-first : (b : Boat) (ls : List Line) (i : ℕ) → i ≤ length ls → has b (take i ls) ≡ ltb (firstWith b ls) i
@@ -139,13 +133,14 @@ first-le b (l ∷ ls) (suc k) h it = go (agree b (l .boat)) refl (first-le b ls 
     go false e ih = omega (arith, first-miss b l ls e, ih)
 
 -- the boat of line i is put at the end just if it is the first line with it
-pub boats-next : (lines : List Line) (i : ℕ) → i < length lines → boats (take (suc i) lines) ≡ cond (eqb (firstSame lines i) i) (boats (take i lines) ++ (lineAt lines i .boat ∷ [])) (boats (take i lines))
+boats-next : (lines : List Line) (i : ℕ) → i < length lines → boats (take (suc i) lines) ≡ cond (eqb (firstSame lines i) i) (boats (take i lines) ++ (lineAt lines i .boat ∷ [])) (boats (take i lines))
+unfolding boatsAfter
 boats-next lines i h =
     let l : Line = lineAt lines i in
     let seen : List Boat = boats (take i lines) in
     let met : among (l .boat) seen ≡ ltb (firstSame lines i) i = among-after (l .boat) [] (take i lines) ∙ has-first (l .boat) lines i (omega (arith, h)) in
     ap boats (take-suc lines i noLine h)
-    ∙ (boats-end [] (take i lines) l
+    ∙ (after-append (take i lines) (l ∷ []) []
     ∙ (ap (λ t. cond t seen (seen ++ (l .boat ∷ []))) met ∙ by-first (firstSame lines i) i seen (seen ++ (l .boat ∷ [])) (first-le (l .boat) lines i h (agree-self (l .boat)))))
   where
     by-first : (f i : ℕ) (x y : List Boat) → f ≤ i → cond (ltb f i) x y ≡ cond (eqb f i) y x
@@ -162,15 +157,6 @@ boats-more lines i h = ap length (boats-next lines i h) ∙ go (eqb (firstSame l
     go : (t : Bool) → length (cond t (boats (take i lines) ++ (lineAt lines i .boat ∷ [])) (boats (take i lines))) ≡ cond t (suc (length (boats (take i lines)))) (length (boats (take i lines)))
     go true = omega (arith, length-append (boats (take i lines)) (lineAt lines i .boat ∷ []))
     go false = refl
-
--- the lines passed have no more boats than all of them
-pub boats-up : (lines : List Line) (i k : ℕ) → i + k ≡ length lines → length (boats (take i lines)) ≤ length (boats lines)
-boats-up lines i zero e = omega (arith, ap (λ n. length (boats (take n lines))) (let all : i ≡ length lines = omega (arith, e) in all), ap (λ ls. length (boats ls)) (take-length lines))
-boats-up lines i (suc k) e = go (eqb (firstSame lines i) i) (boats-more lines i (omega (arith, e))) (boats-up lines (suc i) k (omega (arith, e)))
-  where
-    go : (t : Bool) → length (boats (take (suc i) lines)) ≡ cond t (suc (length (boats (take i lines)))) (length (boats (take i lines))) → length (boats (take (suc i) lines)) ≤ length (boats lines) → length (boats (take i lines)) ≤ length (boats lines)
-    go true q le = omega (arith, q, le)
-    go false q le = omega (arith, q, le)
 
 -- no more boats than lines
 pub boats-few : (lines : List Line) (i : ℕ) → i ≤ length lines → length (boats (take i lines)) ≤ i

@@ -1,1 +1,3 @@
 pub mod Boats
+pub mod Codes
+pub mod Buckets

@@ -27,8 +27,8 @@ use Rattle.search.specs.Moves.{visit, onward, push-law}
 use Rattle.workspace.specs.Chosen.{firstStates}
 use Rattle.states.specs.Spots.{front, Fit, nextTurn}
 use Rattle.states.proofs.Stretches.{stretch-none, stretch-get, stretch-set, stretch-below, stretch-above, stretch-push}
-use Rattle.states.proofs.Changes.{blank-good, under-front, ready-state, ready-long}
-use Rattle.checker.specs.Walk.{seeded, stepped, walked, marks, Alive, Advanced, frontierAt, frontier, asideOf, wiped, Aside, Listed, listTurn, Fresh}
+use Rattle.states.proofs.Changes.{blank-good, under-front, ready-state, ready-long, cleared, step-cleared}
+use Rattle.checker.specs.Walk.{seeded, stepped, walked, marks, Alive, Advanced, frontierAt, frontier, asideOf, wiped, Aside, Listed, listTurn, Within}
 use Rattle.checker.proofs.Sets.{seeded-wiped, step-low, walked-marks, memb-not}
 use Rattle.checker.proofs.Steps.{succs-low, begin-seeded, begins-are, begins-low, goal-low}
 
@@ -224,24 +224,28 @@ module _ {plan : Plan} (next : ℕ → ℕ → List ℕ) (c : List ℕ) {t₀ : 
 
 -- ---- the start and the end
 
-module _ (plan : Plan) (cols : Columns) (w : List ℕ) (fit : Fit plan cols w) (begin a : ℕ) (ha : a < plan .places) (fresh : Fresh plan begin w) where
+module _ (plan : Plan) (cols : Columns) (w : List ℕ) (fit : Fit plan cols w) (begin a : ℕ) (ha : a < plan .places) (within : Within plan begin) where
   abbrev In : Setting
   In = settingIn cols plan (front plan w)
 
   abbrev starts : List ℕ
   starts = firstStates plan begin a
 
-  -- the positions of the mask are the first set
-  pub begun : (D depths : List ℕ) {r : ℕ} {v : List ℕ} → Step (marks plan) (plan .size) (turns (nextTurn plan depths begin (visit D 0) a 0) 0 (plan .done + 1)) 0 w r v
+  -- the pair of marks and frontier stands in the area
+  pub pair : marks plan + plan .size + plan .size ≤ length w
+  pair = omega (arith, fit .laid .room)
+
+  -- in a pair that was cleared, the positions of the mask are the first set
+  pub begun : (D depths : List ℕ) {r : ℕ} {v : List ℕ} → Step (marks plan) (plan .size) (turns (nextTurn plan depths begin (visit D 0) a 0) 0 (plan .done + 1)) 0 (cleared (marks plan) (plan .size) w pair) r v
       → Advanced plan (λ _. seeded (plan .size) starts) 0 w r v
-  begun D depths {r} {v} s =
-      let now : found (marks plan) (plan .size) r v ≡ seeded (plan .size) starts =
-      s .now-found ∙ (ap (turns (nextTurn plan depths begin (visit D 0) a 0) 0 (plan .done + 1)) (fresh .none) ∙ begin-seeded plan cols w fit begin a ha (fresh .within) D depths) in
+  begun D depths {r} {v} first =
+      let s = step-cleared (marks plan) (plan .size) w pair _ r v first in
+      let now : found (marks plan) (plan .size) r v ≡ seeded (plan .size) starts = s .now-found ∙ begin-seeded plan cols w fit begin a ha within D depths in
       record {
         now-found = now;
         front = step-front plan s;
         long = s .long;
-        alive = record { ready = s .ready; states = starts; low = begins-low plan cols w fit begin a ha (fresh .within); holds = now };
+        alive = record { ready = s .ready; states = starts; low = begins-low plan cols w fit begin a ha within; holds = now };
       }
 
   module _ (c : List ℕ) (e : exist (plan .lines) c ≡ true) (b : ℕ) (hb : b < plan .places) where
@@ -252,9 +256,9 @@ module _ (plan : Plan) (cols : Columns) (w : List ℕ) (fit : Fit plan cols w) (
     pub verdict : (st : Search) → st ≡ walked (succs In) (plan .size) c (seeded (plan .size) starts)
         → (getD (st .dist) (goal In b) 0 ≡ 0 → says ≡ false) × ((getD (st .dist) (goal In b) 0 ≡ 0 → ⊥) → says ≡ true)
     verdict st is =
-        let same = begins-are plan cols w fit begin a ha (fresh .within) in
+        let same = begins-are plan cols w fit begin a ha within in
         let m = moved-members (succs In) c starts (starting In a (members begin)) (λ s. (subst (s ∈_) same, subst (s ∈_) (sym same))) (goal In b) in
         ⊎-elim
         (λ z. (λ _. memb-not (λ k. z .1 (m .1 k)), λ n. absurd (n (ap (λ (st : Search). getD (st .dist) (goal In b) 0) is ∙ z .0))))
         (λ z. (λ n. absurd (z .0 (sym (ap (λ (st : Search). getD (st .dist) (goal In b) 0) is) ∙ n)), λ _. in-memb (goal In b) _ (m .0 (z .1))))
-        (walked-marks (succs In) (plan .size) (plan .lines) (succs-low plan cols w fit) c starts (begins-low plan cols w fit begin a ha (fresh .within)) e (goal In b) (goal-low plan cols w fit b hb))
+        (walked-marks (succs In) (plan .size) (plan .lines) (succs-low plan cols w fit) c starts (begins-low plan cols w fit begin a ha within) e (goal In b) (goal-low plan cols w fit b hb))

@@ -91,11 +91,9 @@ listTurn S plan w i j = onward S (visit (stretch (plan .base) (plan .size) w) 0)
 
 -- ---- the start
 
--- an area with nothing marked, and a mask of positions up to the end
-pub record Fresh (plan : Plan) (begin : ℕ) (w : List ℕ) : Type 0 where
-  pub ready : Ready (marks plan) (plan .size) 0 w
-  pub none : found (marks plan) (plan .size) 0 w ≡ blank (plan .size)
-  pub within : (k : ℕ) → k ∈ members begin → k ≤ plan .done
+-- the mask's positions are positions up to the end
+abbrev pub Within : Plan → ℕ → Type 0
+Within plan begin = (k : ℕ) → k ∈ members begin → k ≤ plan .done
 
 -- ---- a request
 

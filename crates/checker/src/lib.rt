@@ -17,7 +17,7 @@ ghost use Rattle.search.specs.Loaded.{settingIn};
 ghost use Rattle.states.specs.Spots.{front, Fit};
 ghost use Rattle.workspace.specs.Posed.{SomePosed};
 ghost use Rattle.search.specs.Check.{exist, moved};
-ghost use Rattle.checker.specs.Walk.{stepped, walked, marks, Alive, Advanced, frontierAt, asideOf, Aside, Listed, listTurn, Fresh, RightFor};
+ghost use Rattle.checker.specs.Walk.{stepped, walked, marks, Alive, Advanced, frontierAt, asideOf, Aside, Listed, listTurn, Within, RightFor};
 ghost use Rattle.checker.specs.Reply.{checkReply, checkOf, Demand2};
 use request::Plan;
 use request::Request;
@@ -196,10 +196,11 @@ fn leads(
     chain: &[u16],
 ) -> bool
     requires { ⌜ Fit plan (columns (now kinds) (now tests) (now levels) (now depths) (now pushes) (now follow)) (now work) ⌝ }
-    requires { ⌜ Fresh plan begin (now work) ⌝ }
+    requires { ⌜ Within plan begin ⌝ }
     requires { ⌜ (from < plan .places) × (to < plan .places) × (exist (plan .lines) (now chain) ≡ true) ⌝ }
     ensures { λ r. ⌜ r ≡ memb (goal (settingIn (columns (now (kinds .entry)) (now (tests .entry)) (now (levels .entry)) (now (depths .entry)) (now (pushes .entry)) (now (follow .entry))) plan (front plan (now (work .entry)))) to) (moved (succs (settingIn (columns (now (kinds .entry)) (now (tests .entry)) (now (levels .entry)) (now (depths .entry)) (now (pushes .entry)) (now (follow .entry))) plan (front plan (now (work .entry))))) (starting (settingIn (columns (now (kinds .entry)) (now (tests .entry)) (now (levels .entry)) (now (depths .entry)) (now (pushes .entry)) (now (follow .entry))) plan (front plan (now (work .entry)))) from (members begin)) (now (chain .entry))) ⌝ }
 {
+    states::clear_stretch(work, plan.base + plan.size, plan.size);
     let starts = workspace::over_next(work, plan, depths, begin, 0, from, 0, 0);
     let tail = run_chain(
         work,
@@ -280,7 +281,8 @@ pub fn check_chain(
     ensures workspace { λ _. ⌜ now (work .exit) ≡ workAfter (askRequest (now (day .entry)) (now (pattern .entry)) from to (length (now (work .entry)))) (now (work .entry)) ⌝ }
     ensures membership { λ r. ⌜ Demand2 (now (day .entry)) (now (pattern .entry)) from to (now (chain .entry)) (checkReply r) ⌝ }
 {
-    let asked = request::ask_request(day, pattern, from, to, work.len());
+    let mut numbers: [u16; 4096] = [0; 4096];
+    let asked = request::ask_request(day, pattern, from, to, work.len(), &mut numbers);
     let Request::Asked(plan) = asked else {
         return CheckReply::Refused(asked.number(), 0);
     };
@@ -288,7 +290,7 @@ pub fn check_chain(
         request::clear(work);
         return CheckReply::Refused(18, 0);
     }
-    request::load(day, plan, work);
+    request::load(day, plan, &numbers, work);
     let yes = accepted(pattern, plan, from as usize, to as usize, chain, work);
     request::clear(work);
     if yes {

@@ -1,7 +1,7 @@
 -- What the loops find in the area of a request is the answer to the request (`posed-searched`), and what the definition says of a request
 -- that is refused (`find-refused`) and of one that is searched (`find-searched`).
-use mathlib.Core.Path.{_≡_, refl, sym, _∙_, subst}
-use mathlib.Core.List.{List, [], _∷_}
+use mathlib.Core.Path.{_≡_, subst}
+use mathlib.Core.List.{List}
 use Prim.Native.Nat.{ℕ}
 use native.Mathlib.Omega.{arith}
 use lib.ListN.{length}
@@ -11,37 +11,28 @@ use Rattle.automaton.specs.Columns.{Columns, Compiled}
 use Rattle.automaton.specs.Limits.{compiled-start}
 use Rattle.request.specs.declared.Plan.{Plan}
 use Rattle.search.specs.Answer.{answer}
-use Rattle.search.specs.Along.{goal}
 use Rattle.search.specs.Loaded.{settingIn}
 use Rattle.search.specs.Moves.{expand, fromState, expand-law, from-law}
-use Rattle.search.specs.Phases.{finish}
-use Rattle.search.specs.PhaseOne.{Progress, begun, advanceBy}
-use Rattle.search.specs.Table.{Search}
-use Rattle.search.specs.ReadBack.{loaded-finish}
+use Rattle.search.specs.ReadBack.{loaded-ended}
 use Rattle.workspace.specs.Chosen.{firstStates}
 use Rattle.workspace.specs.Posed.{Posed}
 use Rattle.states.specs.Spots.{front}
 use Rattle.workspace.proofs.Firsts.{first-states}
 use Rattle.workspace.proofs.Posing.{posed-plan, posed-tables}
 use Rattle.finder.specs.Reply.{stopped, settled, findOf}
-use Rattle.finder.specs.Searching.{searchedIn, Searched}
-
--- before any state is expanded
-at-first : (expand : ℕ → ℕ → Search → Search) (u : Progress) → advanceBy expand 0 u ≡ u
-unfolding advanceBy
-at-first expand u = refl
+use Rattle.finder.specs.Searching.{Searched, SearchedIn}
 
 pub posed-searched : {q : Asked} {pat : List ℕ} {plan : Plan} {from to : ℕ} {w : List ℕ} (posed : Posed q pat plan from to w)
     → {cols : Columns} {begin : ℕ} (compiled : Compiled (q .pattern) cols begin) {word : ℕ} {out after : List ℕ}
-    → Searched (searchedIn (settingIn cols plan (front plan w)) plan (firstStates plan begin from) to) word out after
+    → SearchedIn (settingIn cols plan (front plan w)) plan (firstStates plan begin from) to word out after
     → Searched (answer (q .day .lines) (q .day .places) (q .pattern) from to) word out after
 posed-searched {q} {plan = plan} {from} {to} {w} posed {cols} {begin} compiled {word} {out} {after} s =
     let S = settingIn cols plan (front plan w) in
     let first = first-states cols plan (length w) (posed .laid) (front plan w) begin from (λ k m. omega (arith, posed .planned .done-is, compiled-start compiled k m .0)) in
-    let found = loaded-finish (q .day .lines) (q .day .places) (q .pattern) plan (length w) (posed-plan posed) (posed .laid) (front plan w) (posed-tables posed) (posed .fit) cols begin compiled from to
-    (expand S) (expand-law S) (fromState S) (from-law S) (posed .from-low) (posed .to-low) 0 in
-    subst (λ o. Searched o word out after)
-    ((λ i. finish (expand S) (fromState S) (plan .size) (plan .lines) (first i) (sym (at-first (expand S) (begun (plan .size) (goal S to ∷ []))) i)) ∙ found) s
+    let x = subst (λ firsts. SearchedIn S plan firsts to word out after) first s in
+    let found = loaded-ended (q .day .lines) (q .day .places) (q .pattern) plan (length w) (posed-plan posed) (posed .laid) (front plan w) (posed-tables posed) (posed .fit) cols begin compiled from to
+    (expand S) (expand-law S) (fromState S) (from-law S) (posed .from-low) (posed .to-low) (x .count) (x .ended) in
+    subst (λ o. Searched o word out after) found (x .searched)
 
 -- ---- the definition, by the questions' outcome
 

@@ -11,12 +11,12 @@ use Rattle.request.specs.declared.Plan.{Plan}
 use Rattle.search.specs.Loops.{loop}
 use Rattle.search.specs.Table.{Search, blank}
 use Rattle.search.specs.PhaseTwo.{nearestWord, put, walk, forwardBy, forward}
-use Rattle.search.specs.Phases.{finish}
 use Rattle.search.specs.Product.{Setting}
-use Rattle.search.specs.Moves.{fromState}
-use Rattle.states.specs.Area.{stretch, found, Outside, outside, Step}
-use Rattle.states.specs.Spots.{front, backward}
-use Rattle.finder.specs.Searching.{searchedIn, Searched}
+use Rattle.search.specs.Moves.{expand, fromState}
+use Rattle.states.specs.Area.{stretch, found, Outside, outside}
+use Rattle.states.specs.Spots.{front}
+use Rattle.workspace.specs.Stopped.{fromGoal, tableAfter, Stopped}
+use Rattle.finder.specs.Searching.{Searched, reachedIn, SearchedIn}
 
 walk-long : (E : ℕ → ℕ → ℕ → Search → Search) (m k lo : ℕ) (st : Search) → length (walk E m k lo st) ≡ k
 unfolding walk
@@ -24,7 +24,7 @@ walk-long E m zero lo st = refl
 walk-long E m (suc k) lo st = ap suc (walk-long E m k _ _)
 
 -- after phase one, and with the number of the nearest first state
-module _ (S : Setting) (plan : Plan) (firsts : List ℕ) (to : ℕ) {r : ℕ} {w v : List ℕ} (step : Step (plan .base) (plan .size) (backward S (plan .size) to) 0 w r v)
+module _ (S : Setting) (plan : Plan) (firsts : List ℕ) (to : ℕ) {r : ℕ} {w v : List ℕ} (one : Stopped (plan .base) (plan .size) (expand S) firsts (fromGoal S (plan .size) to) 0 w r v)
     (word : ℕ) (is : word ≡ nearestWord (stretch (plan .base) (plan .size) v) firsts) (out : List ℕ) where
   -- the distances in the area
   abbrev D : List ℕ
@@ -36,12 +36,15 @@ module _ (S : Setting) (plan : Plan) (firsts : List ℕ) (to : ℕ) {r : ℕ} {w
   -- the loaded tables are as they were
   pub tables-same : front plan v ≡ front plan w
   unfolding outside
-  tables-same = ap (λ (o : Outside). o .front) (step .same)
+  tables-same = ap (λ (o : Outside). o .front) (one .step .same)
 
   -- phase two goes by the distances
-  o-is : o ≡ searchedIn S plan firsts to
-  unfolding finish found backward
-  o-is = ap (λ (st : Search). forward (fromState S) (plan .size) (plan .lines) firsts (st .dist)) (step .now-found)
+  o-is : o ≡ forward (fromState S) (plan .size) (plan .lines) firsts (reachedIn S plan to (one .count) .table .dist)
+  unfolding found tableAfter
+  o-is = ap (λ (st : Search). forward (fromState S) (plan .size) (plan .lines) firsts (st .dist)) (one .step .now-found)
+
+  told : (x : Option (List ℕ)) → o ≡ x → (after : List ℕ) → Searched x word out after → SearchedIn S plan firsts to word out after
+  told x e after s = record { count = one .count; ended = one .ended; searched = subst (λ y. Searched y word out after) (sym e ∙ o-is) s }
 
   abbrev lines : List ℕ
   lines = walk (fromState S D) (plan .lines) (word - 1) 0 (loop (put D word) firsts (blank (plan .size)))
@@ -58,19 +61,19 @@ module _ (S : Setting) (plan : Plan) (firsts : List ℕ) (to : ℕ) {r : ℕ} {w
   lines-long : length lines ≡ word - 1
   lines-long = walk-long (fromState S D) (plan .lines) (word - 1) 0 (loop (put D word) firsts (blank (plan .size)))
 
-  pub told-none : word ≡ 0 → Searched (searchedIn S plan firsts to) word out out
-  told-none z = subst (λ x. Searched x word out out) (sym (none-found z) ∙ o-is) record { word-is = z; after-is = refl }
+  pub told-none : word ≡ 0 → SearchedIn S plan firsts to word out out
+  told-none z = told none (none-found z) out record { word-is = z; after-is = refl }
 
-  pub told-long : 0 < word → length out < word - 1 → Searched (searchedIn S plan firsts to) word out out
+  pub told-long : 0 < word → length out < word - 1 → SearchedIn S plan firsts to word out out
   told-long h less =
-      subst (λ x. Searched x word out out) (sym (found-by word is h) ∙ o-is) record {
+      told (some lines) (found-by word is h) out record {
         word-is = omega (arith, lines-long);
         after-is = rw (lt-leb (length lines) (length out) (omega (arith, lines-long))) refl;
       }
 
-  pub told-written : 0 < word → word - 1 ≤ length out → (after : List ℕ) → after ≡ lines ++ drop (word - 1) out → Searched (searchedIn S plan firsts to) word out after
+  pub told-written : 0 < word → word - 1 ≤ length out → (after : List ℕ) → after ≡ lines ++ drop (word - 1) out → SearchedIn S plan firsts to word out after
   told-written h fits after e =
-      subst (λ x. Searched x word out after) (sym (found-by word is h) ∙ o-is) record {
+      told (some lines) (found-by word is h) after record {
         word-is = omega (arith, lines-long);
         after-is = rw (le-leb (length lines) (length out) (omega (arith, lines-long))) (e ∙ ap (λ n. lines ++ drop n out) (sym lines-long));
       }

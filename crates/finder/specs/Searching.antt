@@ -13,15 +13,12 @@ use Rattle.request.specs.declared.Plan.{Plan}
 use Rattle.search.specs.Answer.{answer}
 use Rattle.search.specs.Along.{goal}
 use Rattle.search.specs.Moves.{expand, fromState}
-use Rattle.search.specs.PhaseOne.{begun}
-use Rattle.search.specs.Phases.{finish}
+use Rattle.search.specs.Early.{Ended}
+use Rattle.search.specs.PhaseOne.{Progress, begun, advanceBy}
+use Rattle.search.specs.PhaseTwo.{forward}
 use Rattle.search.specs.Product.{Setting}
 use Rattle.workspace.specs.Posed.{Posed}
 use Rattle.finder.specs.Reply.{chain, too-long, settled, Said, found, none-found, refusal, said, outAfter}
-
--- both phases as counting loops, from these first states to the end at the place `to`
-abbrev pub searchedIn : Setting → Plan → List ℕ → ℕ → Option (List ℕ)
-searchedIn S plan firsts to = finish (expand S) (fromState S) (plan .size) (plan .lines) firsts (begun (plan .size) (goal S to ∷ []))
 
 abbrev pub wordOf : Option (List ℕ) → ℕ
 wordOf none = 0
@@ -31,6 +28,20 @@ wordOf (some c) = suc (length c)
 pub record Searched (o : Option (List ℕ)) (word : ℕ) (out after : List ℕ) : Type 0 where
   pub word-is : word ≡ wordOf o
   pub after-is : after ≡ outAfter (settled (length out) o) out
+
+-- ---- both phases as counting loops
+
+-- phase one to the end at the place `to`, after k expansions
+abbrev pub reachedIn : Setting → Plan → ℕ → ℕ → Progress
+reachedIn S plan to k = advanceBy (expand S) k (begun (plan .size) (goal S to ∷ []))
+
+-- phase one towards these first states has ended, after so many expansions, and the chain is that of phase two by its distances
+pub record SearchedIn (S : Setting) (plan : Plan) (firsts : List ℕ) (to word : ℕ) (out after : List ℕ) : Type 0 where
+  pub count : ℕ
+  pub ended : Ended firsts (reachedIn S plan to count)
+  pub searched : Searched (forward (fromState S) (plan .size) (plan .lines) firsts (reachedIn S plan to count .table .dist)) word out after
+
+-- ---- the answer
 
 -- for every request that the area is of
 abbrev pub RightFor : List ℕ → Plan → ℕ → ℕ → List ℕ → ℕ → List ℕ → List ℕ → Type 0

@@ -1,5 +1,6 @@
 // The finder: the first shortest chain that a pattern accepts between two places, or that there is none.
-// Phase one gives every state its distance to the end; phase two takes, line by line, the least line that leads one nearer.
+// Phase one gives states their distances to the end until a first state is met; phase two takes, line by line, the least line that
+// leads one nearer.
 ghost use mathlib.Core.Path.{_≡_};
 ghost use Prim.Native.Nat.{_<_};
 ghost use lib.ListN.{length};
@@ -11,7 +12,7 @@ ghost use Rattle.states.specs.Spots.{front, Fit};
 ghost use Rattle.workspace.specs.Posed.{SomePosed};
 ghost use Rattle.finder.specs.Reply.{findReply, findOf, said, outAfter};
 ghost use Rattle.finder.specs.Demand.{Demand3};
-ghost use Rattle.finder.specs.Searching.{toldBy, Searched, searchedIn, RightFor};
+ghost use Rattle.finder.specs.Searching.{toldBy, SearchedIn, RightFor};
 use request::Plan;
 use request::Request;
 
@@ -40,10 +41,23 @@ fn both_phases(
 ) -> u32
     requires { ⌜ Fit plan (columns (now kinds) (now tests) (now levels) (now depths) (now pushes) (now follow)) (now work) ⌝ }
     requires { ⌜ (from < plan .places) × (to < plan .places) ⌝ }
-    ensures { λ r. ⌜ Searched (searchedIn (settingIn (columns (now (kinds .entry)) (now (tests .entry)) (now (levels .entry)) (now (depths .entry)) (now (pushes .entry)) (now (follow .entry))) plan (front plan (now (work .entry)))) plan (firstStates plan begin from) to) r (now (out .entry)) (now (out .exit)) ⌝ }
+    ensures { λ r. ⌜ SearchedIn (settingIn (columns (now (kinds .entry)) (now (tests .entry)) (now (levels .entry)) (now (depths .entry)) (now (pushes .entry)) (now (follow .entry))) plan (front plan (now (work .entry)))) plan (firstStates plan begin from) to r (now (out .entry)) (now (out .exit)) ⌝ }
 {
-    linking::guide(work, plan, true);
-    workspace::distances(work, plan, kinds, tests, levels, depths, pushes, follow, to);
+    let filed = ways::file_lines(work, plan);
+    workspace::distances(
+        work,
+        plan,
+        filed,
+        kinds,
+        tests,
+        levels,
+        depths,
+        pushes,
+        follow,
+        begin,
+        from,
+        to,
+    );
     let nearest = workspace::nearest(work, plan, begin, from);
     if nearest == 0 {
         return nearest;
@@ -141,11 +155,12 @@ pub fn find(
     ensures output { λ _. ⌜ now (out .exit) ≡ outAfter (findOf (now (day .entry)) (now (pattern .entry)) from to (length (now (work .entry))) (length (now (out .entry)))) (now (out .entry)) ⌝ }
     ensures first_shortest { λ r. ⌜ Demand3 (now (day .entry)) (now (pattern .entry)) from to (length (now (out .entry))) (findReply r) (now (out .exit)) ⌝ }
 {
-    let asked = request::ask_request(day, pattern, from, to, work.len());
+    let mut numbers: [u16; 4096] = [0; 4096];
+    let asked = request::ask_request(day, pattern, from, to, work.len(), &mut numbers);
     let Request::Asked(plan) = asked else {
         return FindReply::Refused(asked.number(), 0);
     };
-    request::load(day, plan, work);
+    request::load(day, plan, &numbers, work);
     let nearest = search_loaded(pattern, plan, from as usize, to as usize, work, out);
     request::clear(work);
     answered(nearest, out.len())

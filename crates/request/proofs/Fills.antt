@@ -2,11 +2,11 @@
 -- it was. Assumes nothing.
 use mathlib.Core.Path.{_≡_, refl, sym, ap, _∙_}
 use mathlib.Core.List.{List, [], _∷_, _++_, append-nil}
-use Prim.Native.Nat.{ℕ, zero, suc, _+_, _-_, _<_, _≤_}
+use Prim.Native.Nat.{ℕ, zero, suc, _+_, _-_, _<_}
 use native.Mathlib.Numerals.{add-one}
 use native.Mathlib.Omega.{arith}
 use lib.ListN.{length, getD, take, drop, set}
-use lib.Seq.{append-snoc, drop-cons, set-at, take-length, drop-length, take-at, drop-at, length-take-le}
+use lib.Seq.{take-length, drop-length, take-at, drop-at}
 use borrow.Rule.Slice.PartMut.{putMid}
 
 abbrev pub filled : List ℕ → ℕ → List ℕ → List ℕ
@@ -27,15 +27,6 @@ pub fill-all : (xs part : List ℕ) (n : ℕ) → length xs ≡ length part → 
 fill-all xs part n same all =
     ap (λ m. take m xs ++ drop n part) (all ∙ sym same)
     ∙ (ap (λ t. t ++ drop n part) (take-length xs) ∙ (ap (λ m. xs ++ drop m part) all ∙ (ap (λ t. xs ++ t) (drop-length part) ∙ append-nil xs)))
-
--- what has been stored
-pub take-filled : (xs part : List ℕ) (n : ℕ) → n ≤ length xs → take n (filled xs n part) ≡ take n xs
-take-filled xs part n h = take-at (take n xs) (drop n part) n (length-take-le n xs h)
-
--- a store behind what has been stored
-pub store-end : (xs part : List ℕ) (n w : ℕ) → n ≡ length xs → n < length part → set (xs ++ drop n part) n w ≡ (xs ++ (w ∷ [])) ++ drop (suc n) part
-store-end xs part n w e h =
-    ap (λ t. set (xs ++ t) n w) (drop-cons part n 0 h) ∙ (set-at xs (getD part n 0) (drop (suc n) part) w n (sym e) ∙ sym (append-snoc xs w (drop (suc n) part)))
 
 -- ---- a lent middle part that comes back
 

@@ -1,21 +1,18 @@
--- The layout of the work area, and what is loaded into it: the boats, each line's boat number, and the lines.
+-- The layout of the work area, and what is loaded into it: each line's boat number, and the lines.
 use mathlib.Core.Path.{_≡_}
-use mathlib.Core.Bool.{cond}
-use mathlib.Core.List.{List, [], _++_, map}
+use mathlib.Core.List.{List, _++_, map}
 use Prim.Native.Nat.{ℕ, _+_, _*_, _^_, _≤_, _<_, _/_, _%_}
-use lib.Dec.{eqb}
-use lib.ListN.{length, take}
-use Rattle.meaning.specs.Record.{Line, boats}
-use Rattle.boats.specs.Boats.{word}
-use Rattle.request.specs.Codes.{codes}
+use lib.ListN.{length}
+use Rattle.meaning.specs.Record.{Line}
+use Rattle.boats.specs.Codes.{codes}
 use Rattle.request.specs.declared.Plan.{Plan}
 
 -- the plan's numbers agree, and its tables stand end to end in an area of so many words
 pub record Laid (plan : Plan) (area : ℕ) : Type 0 where
-  pub codes-at : plan .codes ≡ plan .first + plan .boats
   pub words-at : plan .words ≡ plan .codes + plan .lines
   pub base-at : plan .base ≡ plan .words + plan .lines
   pub stacks-is : plan .stacks ≡ plan .radix ^ plan .keeps
+  pub inverse-is : plan .inverse ≡ 4398046511104 / plan .stacks + 1
   pub size-is : plan .size ≡ plan .places * (plan .done + 1) * plan .stacks
   pub some-radix : 0 < plan .radix
   pub some-place : 0 < plan .places
@@ -25,6 +22,7 @@ pub record Laid (plan : Plan) (area : ℕ) : Type 0 where
   pub few-boats : plan .radix ≤ 4097
   pub few-keeps : plan .keeps ≤ 3
   pub small : plan .size ≤ 1048576
+  pub few-words : plan .base ≤ 16384
   pub room : plan .base + 3 * plan .size ≤ area
 
 -- ---- a line in one word: from, to and kind, 10, 10 and 4 bits; kind 0 would say that the line is out
@@ -43,27 +41,14 @@ kindIn w = w % 16
 
 -- ---- what is loaded
 
--- the boats as numbers, class · 2^24 + sail number, where the pattern keeps any
-abbrev pub boatWords : ℕ → List Line → List ℕ
-boatWords keeps lines = cond (eqb keeps 0) [] (map word (boats lines))
-
--- the boats, each line's boat number, the lines
-abbrev pub loadedOf : ℕ → List Line → List ℕ
-loadedOf keeps lines = boatWords keeps lines ++ (codes lines ++ map lineWord lines)
+-- each line's boat number, the lines
+abbrev pub loadedOf : List Line → List ℕ
+loadedOf lines = codes lines ++ map lineWord lines
 
 -- ---- loading
-
--- lines before line i are numbered, with so many boats
-pub record Numbering (lines : List Line) (i count : ℕ) (part : List ℕ) : Type 0 where
-  pub one-more : i < length lines
-  pub few : length lines ≤ 4096
-  pub sized : length part ≡ length lines
-  pub so-far : take i part ≡ take i (codes lines)
-  pub count-is : count ≡ length (boats (take i lines))
 
 -- a plan for these lines, in an area of so many words
 pub record Loading (lines : List Line) (plan : Plan) (area : ℕ) : Type 0 where
   pub lines-are : plan .lines ≡ length lines
-  pub first-is : plan .first ≡ 0
-  pub boats-are : plan .boats ≡ length (boatWords (plan .keeps) lines)
+  pub codes-at : plan .codes ≡ 0
   pub laid : Laid plan area

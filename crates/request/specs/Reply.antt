@@ -4,14 +4,15 @@ use mathlib.Core.Bool.{cond}
 use mathlib.Core.List.{List}
 use Prim.Native.Nat.{ℕ, suc, _*_, _^_, _≤_, _<_}
 use lib.Dec.{leb}
-use lib.ListN.{length}
+use lib.ListN.{length, take}
 use Rattle.meaning.specs.Outcome.{Outcome, refused, passed, Reply, value, refusal}
 use Rattle.meaning.specs.Record.{Line, boats}
 use Rattle.meaning.specs.Pattern.{commands, keeps}
 use Rattle.meaning.specs.Request.{Asked, sizeOf}
+use Rattle.boats.specs.Codes.{codes}
 use Rattle.pattern.specs.declared.PatternReply.{PatternReply}
 use Rattle.pattern.specs.declared.PatternReply.the-variants as Pattern
-use Rattle.request.specs.Layout.{Laid, boatWords}
+use Rattle.request.specs.Layout.{Laid}
 use Rattle.request.specs.declared.Plan.{Plan}
 use Rattle.request.specs.declared.Both.{Both}
 use Rattle.request.specs.declared.Both.the-variants as Both
@@ -64,13 +65,17 @@ pub record Planned (q : Asked) (plan : Plan) : Type 0 where
   pub keeps-are : plan .keeps ≡ keeps (q .pattern)
   pub radix-is : plan .radix ≡ suc (length (boats (q .day .lines)))
   pub size-is : plan .size ≡ sizeOf q
-  pub first-is : plan .first ≡ 0
-  pub boats-are : plan .boats ≡ length (boatWords (keeps (q .pattern)) (q .day .lines))
+  pub codes-at : plan .codes ≡ 0
 
 -- the number of the question that failed, or a plan that fits an area of so many words
 abbrev pub Answers : Outcome Asked → ℕ → Request → Type 0
 Answers (refused number) area r = r ≡ Request.Refused number
 Answers (passed q) area r = (plan : Plan) × (r ≡ Request.Asked plan) × Planned q plan × Laid plan area
+
+-- where the questions pass, the first words are the numbers of the lines' boats
+abbrev pub Numbers : List Line → List ℕ → Request → Type 0
+Numbers lines numbers (Request.Asked plan) = take (plan .lines) numbers ≡ codes lines
+Numbers lines numbers (Request.Refused number) = Unit {0}
 
 abbrev pub requestNumber : Request → ℕ
 requestNumber (Request.Asked plan) = 0

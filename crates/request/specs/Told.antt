@@ -14,7 +14,7 @@ use Rattle.meaning.specs.Pattern.{readPattern, noneGiven}
 use Rattle.meaning.specs.Request.{Asked, sizeOf, need, askBoth, askRequest}
 use Rattle.record.specs.Outcomes.{passed-inj, and-true, ask-passed, andThen-passed}
 use Rattle.record.specs.Whole.{linesIn, linesOf}
-use Rattle.request.specs.Layout.{Laid, Loading, boatWords}
+use Rattle.request.specs.Layout.{Laid, Loading}
 use Rattle.request.specs.Reply.{Answers, Planned}
 use Rattle.request.specs.declared.Plan.{Plan}
 use Rattle.request.specs.declared.Request.{Request}
@@ -77,8 +77,7 @@ told-loading {rec} {plan = plan} t p =
     let lines : linesOf rec ≡ t .asked .day .lines = ap linesIn (p .day-read) in
     record {
       lines-are = t .planned .lines-are ∙ sym (ap length lines);
-      first-is = t .planned .first-is;
-      boats-are = t .planned .boats-are ∙ (λ i. length (boatWords (sym (t .planned .keeps-are) i) (sym lines i)));
+      codes-at = t .planned .codes-at;
       laid = t .laid;
     }
 

@@ -2,25 +2,20 @@
 ghost use mathlib.Core.Path.{_≡_};
 ghost use mathlib.Core.List.{_++_, map};
 ghost use Prim.Native.Nat.{suc, _+_, _*_, _-_, _^_, _<_, _≤_};
-ghost use mathlib.Core.Bool.{cond};
-ghost use lib.Dec.{eqb};
-ghost use lib.ListN.{length, getD, take, set, replicate};
+ghost use lib.ListN.{length, take, drop, replicate};
 ghost use Rattle.meaning.specs.Outcome.{told};
-ghost use Rattle.meaning.specs.Record.{boats};
 ghost use Rattle.meaning.specs.Request.{askBoth, askRequest, wordsOf};
 ghost use Rattle.meaning.specs.Writing.{lineAt};
-ghost use Rattle.boats.specs.Boats.{word, firstSame};
+ghost use Rattle.boats.specs.Codes.{codes};
 ghost use Rattle.record.specs.Whole.{linesOf};
-ghost use Rattle.request.specs.Codes.{codes};
-ghost use Rattle.request.specs.Layout.{lineWord, loadedOf, Numbering, Loading};
-ghost use borrow.Rule.Slice.PartMut.{putMid};
-ghost use Rattle.request.specs.Reply.{bothTold, bothNumber, patternNumber, Small, sizingTold, measuredTold, Answers, requestNumber, wordsReply};
+ghost use Rattle.request.specs.Layout.{lineWord, loadedOf, Loading};
+ghost use Rattle.request.specs.Reply.{bothTold, bothNumber, patternNumber, Small, sizingTold, measuredTold, Answers, Numbers, requestNumber, wordsReply};
 ghost use Rattle.request.specs.Drawing.{Fitting, Drawn};
 use pattern::PatternReply;
 use record::Reading;
 
-// The numbers of a search, and where its tables stand in the work area, end to end: the boats, each line's boat number, the
-// lines, and from `base` on three stretches of `size` words for the search.
+// The numbers of a search, and where its tables stand in the work area, end to end: from `codes` on each line's boat number, from
+// `words` on the lines, and from `base` on three stretches of `size` words for the search.
 pub struct Plan {
     pub places: usize,
     pub lines: usize,
@@ -31,11 +26,10 @@ pub struct Plan {
     pub radix: usize,
     // radix to the power of keeps: how many stacks of kept boats there are.
     pub stacks: usize,
+    // 2^42 divided by stacks, and one: a number below 2^20 times this, divided by 2^42, is that number divided by stacks.
+    pub inverse: usize,
     // The search size: places, positions and stacks.
     pub size: usize,
-    // The words of the boats' stretch, from word `first` on: none where nothing is kept.
-    pub first: usize,
-    pub boats: usize,
     pub codes: usize,
     pub words: usize,
     pub base: usize,
@@ -135,12 +129,20 @@ pub enum Measured {
     Above,
 }
 
-// Question 16 of a record and a pattern, by their counts.
-fn measure(day: &[u8], places: usize, lines: usize, commands: usize, keeps: usize) -> Measured
+// Question 16 of a record and a pattern, by their counts. Each line's boat gets its number.
+fn measure(
+    day: &[u8],
+    places: usize,
+    lines: usize,
+    commands: usize,
+    keeps: usize,
+    numbers: &mut [u16; 4096],
+) -> Measured
     requires { ⌜ (lines ≡ length (linesOf (now day))) × (places ≤ 1024) × (commands ≤ 63) ⌝ }
-    ensures { λ r. ⌜ r ≡ measuredTold (linesOf (now (day .entry))) places commands keeps ⌝ }
+    ensures size { λ r. ⌜ r ≡ measuredTold (linesOf (now (day .entry))) places commands keeps ⌝ }
+    ensures numbered { λ _. ⌜ take lines (now (numbers .exit)) ≡ codes (linesOf (now (day .entry))) ⌝ }
 {
-    let boats = boats::count_boats(day, lines);
+    let boats = boats::number_boats(day, lines, numbers);
     let sizing = size_of(places, commands, boats + 1, keeps);
     let Sizing::Size(size) = sizing else {
         return Measured::Above;
@@ -149,16 +151,6 @@ fn measure(day: &[u8], places: usize, lines: usize, commands: usize, keeps: usiz
 }
 
 // ---- the plan
-
-// The words of the boats' stretch: none where nothing is kept.
-fn kept_boats(keeps: usize, boats: usize) -> usize
-    ensures { λ r. ⌜ r ≡ cond (eqb keeps 0) 0 boats ⌝ }
-{
-    if keeps == 0 {
-        return 0;
-    }
-    boats
-}
 
 // The layout of the work area, computed here and nowhere else.
 fn planned(
@@ -172,7 +164,6 @@ fn planned(
     requires { ⌜ Fitting places lines done keeps boats size ⌝ }
     ensures { λ r. ⌜ Drawn places lines done keeps boats size r ⌝ }
 {
-    let kept = kept_boats(keeps, boats);
     let stacks = size / (places * (done + 1));
     Plan {
         places,
@@ -181,12 +172,11 @@ fn planned(
         keeps,
         radix: boats + 1,
         stacks,
+        inverse: 4398046511104 / stacks + 1,
         size,
-        first: 0,
-        boats: kept,
-        codes: kept,
-        words: kept + lines,
-        base: kept + lines + lines,
+        codes: 0,
+        words: lines,
+        base: lines + lines,
     }
 }
 
@@ -208,9 +198,17 @@ impl Request {
     }
 }
 
-// Questions 1 to 17, for a work area of so many words, which is not looked at.
-pub fn ask_request(day: &[u8], pattern: &[u8], from: u16, to: u16, area: usize) -> Request
-    ensures { λ r. ⌜ Answers (askRequest (now (day .entry)) (now (pattern .entry)) from to area) area r ⌝ }
+// Questions 1 to 17, for a work area of so many words, which is not looked at. Where they pass, each line's boat has its number.
+pub fn ask_request(
+    day: &[u8],
+    pattern: &[u8],
+    from: u16,
+    to: u16,
+    area: usize,
+    numbers: &mut [u16; 4096],
+) -> Request
+    ensures answer { λ r. ⌜ Answers (askRequest (now (day .entry)) (now (pattern .entry)) from to area) area r ⌝ }
+    ensures numbered { λ r. ⌜ Numbers (linesOf (now (day .entry))) (now (numbers .exit)) r ⌝ }
 {
     let both = ask_both(day, pattern);
     let Both::Read {
@@ -228,7 +226,8 @@ pub fn ask_request(day: &[u8], pattern: &[u8], from: u16, to: u16, area: usize) 
     if places <= to as usize {
         return Request::Refused(15);
     }
-    let Measured::Size { boats, size } = measure(day, places, lines, commands, keeps) else {
+    let measured = measure(day, places, lines, commands, keeps, numbers);
+    let Measured::Size { boats, size } = measured else {
         return Request::Refused(16);
     };
     if area < 4 * size + 8192 {
@@ -257,7 +256,9 @@ pub fn words_needed(day: &[u8], pattern: &[u8]) -> WordsReply
     else {
         return WordsReply::Refused(both.number(), 0);
     };
-    let Measured::Size { boats: _, size } = measure(day, places, lines, commands, keeps) else {
+    let mut numbers: [u16; 4096] = [0; 4096];
+    let measured = measure(day, places, lines, commands, keeps, &mut numbers);
+    let Measured::Size { boats: _, size } = measured else {
         return WordsReply::Refused(16, 0);
     };
     WordsReply::Words(4 * size + 8192)
@@ -297,83 +298,35 @@ fn load_lines(day: &[u8], part: &mut [u32])
     }
 }
 
-// The number of line i's boat, count boats having been numbered before it: that of the first line with the boat, else the next one.
-fn load_code(day: &[u8], i: usize, count: u32, part: &mut [u32]) -> u32
-    requires { ⌜ Numbering (linesOf (now day)) i count (now part) ⌝ }
-    ensures { λ r. ⌜ (r ≡ length (boats (take (suc i) (linesOf (now (day .entry)))))) × (now (part .exit) ≡ set (now (part .entry)) i (getD (codes (linesOf (now (day .entry)))) i 0)) ⌝ }
+// A boat number as a word.
+fn number_word(x: u16) -> u32
+    ensures { λ r. ⌜ r ≡ x ⌝ }
 {
-    let first = boats::first_same(day, i);
-    if first == i {
-        let next = count + 1;
-        part[i] = next;
-        return next;
-    }
-    part[i] = part[first];
-    count
+    x as u32
 }
 
 // Each line's boat number.
-fn load_codes(day: &[u8], part: &mut [u32])
-    requires { ⌜ length (now part) ≡ length (linesOf (now day)) ⌝ }
-    ensures { λ _. ⌜ now (part .exit) ≡ codes (linesOf (now (day .entry))) ⌝ }
+fn load_codes(numbers: &[u16], part: &mut [u32])
+    requires { ⌜ length (now part) ≤ length (now numbers) ⌝ }
+    ensures { λ _. ⌜ now (part .exit) ≡ take (length (now (part .entry))) (now (numbers .entry)) ⌝ }
 {
-    let mut count: u32 = 0;
     let mut i: usize = 0;
     while i < part.len() {
-        count = load_code(day, i, count, part);
+        part[i] = number_word(numbers[i]);
         i += 1;
     }
 }
 
-// The boat of line i at the end of the boats so far, where it is the first line with it.
-fn load_boat(day: &[u8], i: usize, count: usize, part: &mut [u32]) -> usize
-    requires { ⌜ (i < length (linesOf (now day))) × (count ≡ length (boats (take i (linesOf (now day))))) × (length (now part) ≡ length (boats (linesOf (now day)))) ⌝ }
-    ensures { λ r. ⌜ (r ≡ length (boats (take (suc i) (linesOf (now (day .entry)))))) × (now (part .exit) ≡ cond (eqb (firstSame (linesOf (now (day .entry))) i) i) (set (now (part .entry)) count (word (lineAt (linesOf (now (day .entry))) i .boat))) (now (part .entry))) ⌝ }
-{
-    if boats::first_same(day, i) == i {
-        part[count] = boats::boat_at(day, i);
-        return count + 1;
-    }
-    count
-}
-
-// The different boats, a word each, in order of first appearance.
-fn load_boats(day: &[u8], lines: usize, part: &mut [u32])
-    requires { ⌜ (lines ≡ length (linesOf (now day))) × (length (now part) ≡ length (boats (linesOf (now day)))) ⌝ }
-    ensures { λ _. ⌜ now (part .exit) ≡ map word (boats (linesOf (now (day .entry)))) ⌝ }
-{
-    let mut count: usize = 0;
-    let mut i: usize = 0;
-    while i < lines {
-        count = load_boat(day, i, count, part);
-        i += 1;
-    }
-}
-
-// The boats, where the pattern keeps any.
-fn load_kept(day: &[u8], plan: Plan, work: &mut [u32])
+// Puts a record that passed, and the numbers of its boats, into a work area: each line's boat number and the lines, each in its own
+// stretch. All other words stay as they were.
+pub fn load(day: &[u8], plan: Plan, numbers: &[u16; 4096], work: &mut [u32])
     requires { ⌜ Loading (linesOf (now day)) plan (length (now work)) ⌝ }
-    ensures { λ _. ⌜ now (work .exit) ≡ cond (eqb (plan .keeps) 0) (now (work .entry)) (putMid (plan .first) (plan .codes - plan .first) (now (work .entry)) (map word (boats (linesOf (now (day .entry)))))) ⌝ }
+    requires { ⌜ take (plan .lines) (now numbers) ≡ codes (linesOf (now day)) ⌝ }
+    ensures { λ _. ⌜ now (work .exit) ≡ loadedOf (linesOf (now (day .entry))) ++ drop (plan .base) (now (work .entry)) ⌝ }
 {
-    if plan.keeps == 0 {
-        return;
-    }
-    let first = plan.first;
-    let codes = plan.codes;
-    load_boats(day, plan.lines, &mut work[first..codes]);
-}
-
-// Puts a record that passed into a work area: the boats, each line's boat number, the lines, each in its own stretch; and zeros
-// in all other words.
-pub fn load(day: &[u8], plan: Plan, work: &mut [u32])
-    requires { ⌜ Loading (linesOf (now day)) plan (length (now work)) ⌝ }
-    ensures { λ _. ⌜ now (work .exit) ≡ loadedOf (plan .keeps) (linesOf (now (day .entry))) ++ replicate (length (now (work .entry)) - plan .base) 0 ⌝ }
-{
-    clear(work);
     let codes = plan.codes;
     let words = plan.words;
     let base = plan.base;
-    load_codes(day, &mut work[codes..words]);
+    load_codes(numbers, &mut work[codes..words]);
     load_lines(day, &mut work[words..base]);
-    load_kept(day, plan, work);
 }

@@ -5,7 +5,7 @@ use mathlib.Core.Path.{_≡_, refl, sym, subst}
 use mathlib.Core.List.{List, [], _∷_, List·Memᴰ·eq-of-singleton, Memᴰ·of-map}
 use mathlib.Core.Logic.{_↔_, _⊎_, inl, inr, ⊎-elim}
 use mathlib.Core.Option.{Option, none, some}
-use Prim.Native.Nat.{ℕ, suc, _*_, _^_, _<_, _≤_}
+use Prim.Native.Nat.{ℕ, suc, _<_, _≤_}
 use native.Mathlib.Omega.{arith}
 use lib.ListN.{length, getD}
 use Rattle.meaning.specs.Record.{Line, boats}
@@ -20,7 +20,7 @@ use Rattle.automaton.specs.Shape.{shape, start-within}
 use Rattle.search.specs.Plain.{solve, Lex, Answer}
 use Rattle.search.specs.Forward.{solve-spec}
 use Rattle.search.specs.Order.{lex-read, answer-unique, answer-members}
-use Rattle.request.specs.Codes.{codes, telling, code-low, code-compared}
+use Rattle.boats.specs.Codes.{codes, telling, code-low, code-compared}
 use Rattle.search.specs.Digits.{pow-pos}
 use Rattle.search.specs.Product.{Setting, stacks, state, succs, preds}
 use Rattle.search.specs.Steps.{Sound, Ok, ok-low, next-ok, preds-ok, edges}
@@ -34,7 +34,7 @@ setting lines p =
     let bs = boats lines in
     let cs = codes lines in
     let ns = nodes p [] in
-    record { lines = lines; code = λ i. getD cs i 0; tells = telling bs; node = nodeAt ns; done = commands p; radix = suc (length bs); deepest = keeps p }
+    record { lines = lines; code = λ i. getD cs i 0; tells = telling; node = nodeAt ns; done = commands p; radix = suc (length bs); deepest = keeps p }
 
 -- where the chains from place a begin
 unfoldable pub starts : Setting → Pattern → ℕ → List ℕ

@@ -1,16 +1,17 @@
--- Phase one may stop early: as soon as the next state to expand is one of the first states, the distances found so far give the answer.
--- Claimed: `early`. Phase two asks only for distances up to that of a first state (`chosen-upTo`), and what phase one finds later
--- is further than the state that waits first (`later-upTo`), because the queue is in order of distance (`queue-sorted`).
+-- Phase one may stop early: as soon as a first state is as near as the next state to expand, the distances found so far give the answer.
+-- Claimed: `early`, and `ended-is` for both ends of phase one (`Ended`). Phase two asks only for distances up to that of a first state
+-- (`chosen-upTo`), and what phase one finds later is further than the state that waits first (`later-upTo`), because the queue is in
+-- order of distance (`queue-sorted`).
 use mathlib.Core.Path.{_≡_, refl, sym, ap, _∙_, fun-ext}
 use mathlib.Core.Bool.{Bool, true, false, cond}
 use mathlib.Core.List.{List, [], _∷_, _++_, List·Memᴰ·head, List·Memᴰ·tail, List·Memᴰ·cases-cons, List·Memᴰ·append-cases, nil≢cons, head-eq-of-cons-eq}
-use mathlib.Core.Logic.{⊎-elim}
+use mathlib.Core.Logic.{_⊎_, inl, inr, ⊎-elim}
 use mathlib.Core.Option.{Option, none, some, Option·none-ne-some, Option·some-injective}
 use Prim.Native.Nat.{ℕ, zero, suc, _<_, _≤_, min}
 use native.Mathlib.Omega.{arith}
 use native.Mathlib.Decide.{decLt}
 use lib.Dec.{eqb, leb}
-use lib.ListN.{drop, List·getD-eq-default}
+use lib.ListN.{getD, drop, List·getD-eq-default}
 use borrow.Author.Tests.{ne-eqb, le-leb, lt-leb}
 use Rattle.automaton.specs.Listed.{_∈_, none-in}
 use Rattle.search.specs.Plain.{Entry, stateOf, states, look, news, step, steps, nub, filt, lesser, isAt, level, nearest, next, first, pick, chosen, solve}
@@ -18,9 +19,9 @@ use Rattle.search.specs.Entries.{same-distance, look-some, news-old, new
 use Rattle.search.specs.Loops.{loop}
 use Rattle.search.specs.Queue.{waits-in, waits-more, waits-after, drop-map}
 use Rattle.search.specs.Counted.{step-end, step-next}
-use Rattle.search.specs.Table.{Search, push, unmark, unmark-mark, distanceIn, Holds}
-use Rattle.search.specs.PhaseOne.{Progress, waiting, begun, advanceBy, At, advances-at, at-count}
-use Rattle.search.specs.PhaseTwo.{lesser-none, put, forward, forward-is}
+use Rattle.search.specs.Table.{Search, push, mark, unmark, unmark-mark, distanceIn, Holds}
+use Rattle.search.specs.PhaseOne.{Progress, waiting, begun, advanceBy, advance-stays, At, advances-at, at-count}
+use Rattle.search.specs.PhaseTwo.{lesser-none, nearestWord, nearest-of, put, forward, forward-is}
 use Rattle.search.specs.Phases.{finish, finish-is}
 
 -- ---- distances up to a bound
@@ -255,6 +256,18 @@ module _ (N : ℕ) (Ok : ℕ → Type 0) where
 
 -- ---- the early stop
 
+-- some state of S has a distance, and the nearest is no further than the state that waits first
+pub record Met (S : List ℕ) (u : Progress) : Type 0 where
+  pub next : ℕ
+  pub rest : List ℕ
+  pub waits : waiting u ≡ next ∷ rest
+  pub some-near : 0 < nearestWord (u .table .dist) S
+  pub as-near : nearestWord (u .table .dist) S ≤ getD (u .table .dist) next 0
+
+-- where phase one towards the states S ends: nothing waits, or one of them is met
+abbrev pub Ended : List ℕ → Progress → Type 0
+Ended S u = (waiting u ≡ []) ⊎ Met S u
+
 -- the hypotheses are those of `finish-is`
 module _ (N : ℕ) (goals : List ℕ) (preds : ℕ → List ℕ) (succs : ℕ → ℕ → List ℕ) (m : ℕ)
     (expand : ℕ → ℕ → Search → Search) (expand-law : (w t : ℕ) (st : Search) → loop (push w) (preds t) st ≡ expand w t st)
@@ -275,13 +288,14 @@ module _ (N : ℕ) (goals : List ℕ) (preds : ℕ → List ℕ) (succs : ℕ �
       one : (D : List ℕ) → forward fromState N m S D ≡ chosen (distanceIn D) succs m S
       one D = forward-is fromState D succs (from-law D) m N Ok low next-ok S starts-ok
 
-  -- after k expansions the state s waits first, and it is one of the first states
-  pub early : (k s : ℕ) (q : List ℕ)
-      → let u = advanceBy expand k (begun N goals) in waiting u ≡ s ∷ q → s ∈ S → forward fromState N m S (u .table .dist) ≡ solve N goals preds succs m S
+  -- after k expansions the state x waits first, and s, one of the first states, has a distance that is not above x's
+  pub early : (k x s : ℕ) (q : List ℕ) → let u = advanceBy expand k (begun N goals) in let D = u .table .dist in
+      waiting u ≡ x ∷ q → s ∈ S → 0 < getD D s 0 → getD D s 0 ≤ getD D x 0 → forward fromState N m S D ≡ solve N goals preds succs m S
   unfolding finish
-  early k s q h i =
-      let (d, g, e) = states-cons (drop n f) s q (sym waits ∙ h) in
-      stopped d g e ∙ finish-is N goals preds succs m expand expand-law fromState from-law Ok low goals-ok next-ok preds-ok S starts-ok k
+  early k x s q h i any near =
+      let (d, g, e) = states-cons (drop n f) x q (sym waits ∙ h) in
+      stopped d g e (getD (u .table .dist) s 0) refl any near
+      ∙ finish-is N goals preds succs m expand expand-law fromState from-law Ok low goals-ok next-ok preds-ok S starts-ok k
     where
       u : Progress
       u = advanceBy expand k (begun N goals)
@@ -289,27 +303,42 @@ module _ (N : ℕ) (goals : List ℕ) (preds : ℕ → List ℕ) (succs : ℕ �
       v : Progress
       v = advanceBy expand N u
 
-      x : List Entry × ℕ
-      x = steps preds k (news 0 [] goals, 0)
+      plain : List Entry × ℕ
+      plain = steps preds k (news 0 [] goals, 0)
 
       f : List Entry
-      f = x .0
+      f = plain .0
 
       n : ℕ
-      n = x .1
+      n = plain .1
 
-      now : At preds expand expand-law N Ok low preds-ok x u
+      now : At preds expand expand-law N Ok low preds-ok plain u
       now = at-count preds expand expand-law N Ok low preds-ok goals goals-ok k
 
-      end : At preds expand expand-law N Ok low preds-ok (steps preds N x) v
-      end = advances-at preds expand expand-law N Ok low preds-ok N x u now
+      end : At preds expand expand-law N Ok low preds-ok (steps preds N plain) v
+      end = advances-at preds expand expand-law N Ok low preds-ok N plain u now
 
       waits : waiting u ≡ states (drop n f)
       waits = (λ j. drop (now .count j) (now .table .order j)) ∙ drop-map stateOf n f
 
-      stopped : (d : ℕ) (g : List Entry) → drop n f ≡ (s, d) ∷ g → forward fromState N m S (u .table .dist) ≡ forward fromState N m S (v .table .dist)
-      stopped d g e =
-          let far : (y : Entry) → y ∈ drop n f → d ≤ y .1 = rw e (sorted-first (s, d) g (rw e at (queue-sorted preds goals k))) in
-          let same = table-upTo N Ok d f (steps preds N x .0) (u .table) (v .table) (now .table) (end .table) (λ t. sym (later-upTo preds d N f n far t)) in
-          let here = table-look N Ok f (u .table) (now .table) s (low s (starts-ok s i)) ∙ once-look f (now .table .once) s d (waits-in n f (s, d) g e) in
-          forward-upTo d (u .table .dist) (v .table .dist) same s d i (ap (upTo d) here ∙ upTo-low d d (omega arith))
+      -- x's word is one more than its distance
+      word : (d : ℕ) (g : List Entry) → drop n f ≡ (x, d) ∷ g → getD (u .table .dist) x 0 ≡ suc d
+      word d g e = let j = waits-in n f (x, d) g e in now .table .marks x (low x (now .table .okay (x, d) j)) ∙ ap mark (once-look f (now .table .once) x d j)
+
+      stopped : (d : ℕ) (g : List Entry) → drop n f ≡ (x, d) ∷ g → (w : ℕ) → getD (u .table .dist) s 0 ≡ w → 0 < w → w ≤ getD (u .table .dist) x 0
+          → forward fromState N m S (u .table .dist) ≡ forward fromState N m S (v .table .dist)
+      stopped d g e zero is any near = absurd (omega arith)
+      stopped d g e (suc b) is any near =
+          let far : (y : Entry) → y ∈ drop n f → d ≤ y .1 = rw e (sorted-first (x, d) g (rw e at (queue-sorted preds goals k))) in
+          let same = table-upTo N Ok d f (steps preds N plain .0) (u .table) (v .table) (now .table) (end .table) (λ t. sym (later-upTo preds d N f n far t)) in
+          forward-upTo d (u .table .dist) (v .table .dist) same s b i (ap (λ w. upTo d (unmark w)) is ∙ upTo-low d b (omega (arith, near, word d g e)))
+
+  -- both ends of phase one
+  pub ended-is : (k : ℕ) → let u = advanceBy expand k (begun N goals) in Ended S u → forward fromState N m S (u .table .dist) ≡ solve N goals preds succs m S
+  unfolding finish
+  ended-is k (inl e) =
+      ap (λ (v : Progress). forward fromState N m S (v .table .dist)) (sym (advance-stays expand N (advanceBy expand k (begun N goals)) e))
+      ∙ finish-is N goals preds succs m expand expand-law fromState from-law Ok low goals-ok next-ok preds-ok S starts-ok k
+  ended-is k (inr met) =
+      let (s, i, is) = nearest-of (advanceBy expand k (begun N goals) .table .dist) S (met .some-near) in
+      early k (met .next) s (met .rest) (met .waits) i (omega (arith, is, met .some-near)) (omega (arith, is, met .as-near))

@@ -34,12 +34,12 @@ module _ (plan : Plan) (g : List ℕ) where
 
 -- ---- the tables in an area
 
--- the words from `first` up to `base`
+-- the words from `codes` up to `base`
 abbrev pub tables : Plan → List ℕ → List ℕ
-tables plan g = drop (plan .first) (take (plan .base) g)
+tables plan g = drop (plan .codes) (take (plan .base) g)
 
-pub table-at : (plan : Plan) (g : List ℕ) (j : ℕ) → plan .first + j < plan .base → getD g (plan .first + j) 0 ≡ getD (tables plan g) j 0
-table-at plan g j less = sym (getD-drop (plan .first) (take (plan .base) g) j 0 ∙ getD-take (plan .base) g (plan .first + j) 0 less)
+pub table-at : (plan : Plan) (g : List ℕ) (j : ℕ) → plan .codes + j < plan .base → getD g (plan .codes + j) 0 ≡ getD (tables plan g) j 0
+table-at plan g j less = sym (getD-drop (plan .codes) (take (plan .base) g) j 0 ∙ getD-take (plan .base) g (plan .codes + j) 0 less)
 
 -- ---- states by the plan's numbers
 

@@ -16,10 +16,10 @@ pub record Grows (st st′ : Search) : Type 0 where
   pub new : List ℕ
   pub more : st′ .queue ≡ st .queue ++ new
 
-pub grows-none : (st : Search) → Grows st st
+unfoldable pub grows-none : (st : Search) → Grows st st
 grows-none st = record { new = []; more = sym (append-nil (st .queue)) }
 
-pub grows-then : (a b c : Search) → Grows a b → Grows b c → Grows a c
+unfoldable pub grows-then : (a b c : Search) → Grows a b → Grows b c → Grows a c
 grows-then a b c g h = record { new = g .new ++ h .new; more = h .more ∙ (ap (_++ h .new) (g .more) ∙ append-assoc (a .queue) (g .new) (h .new)) }
 
 pub grows-if : (b : Bool) (st st′ : Search) → Grows st st′ → Grows st (cond b st′ st)

@@ -26,4 +26,4 @@ pub mod Same
 pub mod Front
 pub mod ReadBack
 pub mod Rows
-pub mod Linked
+pub mod ByPlace

@@ -1,12 +1,11 @@
 -- The setting that the columns of an automaton and the words loaded into the work area say: what the loops of the search go by.
 use mathlib.Core.List.{List, [], _∷_}
-use mathlib.Core.Option.{Option}
-use Prim.Native.Nat.{ℕ, zero, suc, _+_, _-_, _/_, _%_}
+use Prim.Native.Nat.{ℕ, zero, suc, _+_, _-_}
 use lib.ListN.{getD}
-use Rattle.meaning.specs.Record.{Boat, Line}
+use Rattle.meaning.specs.Record.{Line}
 use Rattle.meaning.specs.Writing.{noLine}
-use Rattle.meaning.specs.Language.{Compared, compared}
 use Rattle.automaton.specs.Columns.{Columns, nodeIn}
+use Rattle.boats.specs.Codes.{telling}
 use Rattle.request.specs.Layout.{fromIn, toIn, kindIn}
 use Rattle.request.specs.declared.Plan.{Plan}
 use Rattle.search.specs.Product.{Setting}
@@ -27,24 +26,12 @@ unfoldable pub linesIn : Plan → List ℕ → ℕ → ℕ → List Line
 linesIn plan g i zero = []
 linesIn plan g i (suc n) = lineIn (wordAt plan g i) ∷ linesIn plan g (suc i) n
 
--- the boat that a word says
-abbrev pub boatIn : ℕ → Boat
-boatIn w = record { class = w / 16777216; sail = w % 16777216 }
-
--- the word of boat number x: 0 where the number or the stretch has none
-abbrev pub boatWordAt : Plan → List ℕ → ℕ → ℕ
-boatWordAt plan g zero = 0
-boatWordAt plan g (suc x) = getD g (plan .first + x) 0
-
-abbrev pub tellsIn : Plan → List ℕ → ℕ → ℕ → Compared
-tellsIn plan g x y = compared (boatIn (boatWordAt plan g x)) (boatIn (boatWordAt plan g y))
-
 unfoldable pub settingIn : Columns → Plan → List ℕ → Setting
 settingIn a plan g =
     record {
       lines = linesIn plan g 0 (plan .lines);
       code = codeAt plan g;
-      tells = tellsIn plan g;
+      tells = telling;
       node = nodeIn a;
       done = plan .done;
       radix = plan .radix;

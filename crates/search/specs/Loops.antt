@@ -3,7 +3,8 @@
 use mathlib.Core.Path.{_≡_, refl, ap, _∙_}
 use mathlib.Core.Bool.{Bool, true, false, cond}
 use mathlib.Core.List.{List, [], _∷_, _++_, map}
-use Prim.Native.Nat.{ℕ, zero, suc}
+use Prim.Native.Nat.{ℕ, zero, suc, _+_, _≤_, _<_}
+use native.Mathlib.Omega.{arith}
 use Rattle.automaton.specs.Listed.{when}
 use Rattle.search.specs.Plain.{filt, flat, count}
 
@@ -67,6 +68,12 @@ module _ {A : Type 0} where
   unfolding turns
   turns-same f g h i zero a = refl
   turns-same f g h i (suc n) a = turns-same f g h (suc i) n (f i a) ∙ ap (turns g (suc i) n) (h i a)
+
+  -- turns that do nothing
+  pub turns-idle : (f : ℕ → A → A) (i n : ℕ) (a : A) → ((x : ℕ) → i ≤ x → x < i + n → f x a ≡ a) → turns f i n a ≡ a
+  unfolding turns
+  turns-idle f i zero a h = refl
+  turns-idle f i (suc n) a h = ap (turns f (suc i) n) (h i (omega arith) (omega arith)) ∙ turns-idle f (suc i) n a (λ x l u. h x (omega arith) (omega arith))
 
   -- ---- the loop with an `if` that a list made by a test is
 

@@ -1,14 +1,15 @@
 -- Phase two as counting loops over the distances and a second table, whose queue holds all frontiers end to end and whose words mark the states in them,
 -- for any `fromState` that puts the successors of a state by a line into the next frontier.
--- Claimed for `Phases`: the loops give the plain phase two's chain (`forward-is`), with the nearest first state found by a loop (`nearest-is`).
+-- Claimed for `Phases`: the loops give the plain phase two's chain (`forward-is`), with the nearest first state found by a loop (`nearest-is`);
+-- for `Early`: where some first state has a distance, the nearest word is that of a state (`nearest-of`).
 use mathlib.Core.Path.{_≡_, refl, sym, ap, _∙_}
 use mathlib.Core.Bool.{true, false, cond}
 use mathlib.Core.List.{List, [], _∷_, _++_, append-nil, List·Memᴰ·head, List·Memᴰ·tail, List·Memᴰ·append-cases, Memᴰ·append-right, Memᴰ·map, nil≢cons}
-use mathlib.Core.Logic.{⊎-elim}
+use mathlib.Core.Logic.{_⊎_, inl, inr, ⊎-elim}
 use mathlib.Core.Option.{Option, none, some, Option·some-injective}
 use Prim.Native.Nat.{ℕ, zero, suc, _+_, _-_, _<_, _≤_, min}
 use native.Mathlib.Omega.{arith}
-use native.Mathlib.Decide.{ℕ-discrete}
+use native.Mathlib.Decide.{ℕ-discrete, decLt}
 use lib.Dec.{eqb, eqb·zero-suc, eqb·suc-zero, eqb·suc-suc}
 use lib.ListN.{length, getD, take, drop, length-append, length-drop, take-append-drop}
 use lib.Seq.{drop-at, take-all}
@@ -59,6 +60,32 @@ nearest-is D S = go S 0
     go (s ∷ S) v =
         let rest = nearest (distanceIn D) S in
         go S (lesserWord v (getD D s 0)) ∙ (ap (λ o. lesser o rest) (lesser-words v (getD D s 0)) ∙ lesser-assoc (unmark v) (distanceIn D s) rest)
+
+-- the lesser word is one of the two
+lesser-of : (v w : ℕ) → (lesserWord v w ≡ v) ⊎ (lesserWord v w ≡ w)
+unfolding lesserWord
+lesser-of zero w = inr refl
+lesser-of (suc v) zero = inl (rw (eqb·suc-zero v))
+lesser-of (suc v) (suc w) = elim (decLt v w) [
+  | yes l ↦ (let least : min (suc v) (suc w) ≡ suc v = omega arith in inl (rw (eqb·suc-zero v, eqb·suc-zero w, least)))
+  | no l ↦ (let least : min (suc v) (suc w) ≡ suc w = omega arith in inr (rw (eqb·suc-zero v, eqb·suc-zero w, least)))
+]
+
+-- where some state has a distance, the nearest word is that of a state
+pub nearest-of : (D S : List ℕ) → 0 < nearestWord D S → (s : ℕ) × (s ∈ S) × (getD D s 0 ≡ nearestWord D S)
+unfolding nearestWord loop
+nearest-of D S any = ⊎-elim (λ e. absurd (omega (arith, e))) (λ x. x) (go S 0)
+  where
+    least : List ℕ → ℕ → ℕ
+    least S v = loop (λ s v. lesserWord v (getD D s 0)) S v
+
+    go : (S : List ℕ) (v : ℕ) → (least S v ≡ v) ⊎ ((s : ℕ) × (s ∈ S) × (getD D s 0 ≡ least S v))
+    go [] v = inl refl
+    go (s ∷ S) v =
+        ⊎-elim
+        (λ e. ⊎-elim (λ l. inl (e ∙ l)) (λ l. inr (s, List·Memᴰ·head refl, sym (e ∙ l))) (lesser-of v (getD D s 0)))
+        (λ (t, i, e). inr (t, List·Memᴰ·tail i, e))
+        (go S (lesserWord v (getD D s 0)))
 
 -- ---- the loops
 
@@ -155,7 +182,7 @@ module _ (fromState : ℕ → ℕ → ℕ → Search → Search) (D : List ℕ) 
   abbrev dist : ℕ → Option ℕ
   dist = distanceIn D
 
-  from-grows : (w l s : ℕ) (st : Search) → Grows st (fromState w l s st)
+  pub from-grows : (w l s : ℕ) (st : Search) → Grows st (fromState w l s st)
   from-grows w l s st = rw (← law w l s st) (loop-grows (put D w) (put-grows D w) (succs s l) st)
 
   gather-is : (k l lo : ℕ) (st : Search) → lo ≤ length (st .queue)

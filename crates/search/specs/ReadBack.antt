@@ -1,41 +1,38 @@
 -- The loaded words, read back, say the request: `loaded-same`, for a plan with the request's numbers and tables loaded of its lines.
--- So what code finds that searches by them is `answer` and `check`: `loaded-answer`, `loaded-check`, and for counting loops `loaded-finish`.
+-- So what code finds that searches by them is `answer` and `check`: `loaded-answer`, `loaded-check`, and for counting loops `loaded-ended`.
 use mathlib.Core.Path.{_≡_, refl, sym, ap, _∙_, subst}
-use mathlib.Core.Bool.{Bool, true, false, cond, _&&_}
-use mathlib.Core.List.{List, [], _∷_, _++_, map, Memᴰ·map, Memᴰ·of-map}
+use mathlib.Core.Bool.{Bool, true, false, _&&_}
+use mathlib.Core.List.{List, [], _∷_, map, Memᴰ·map, Memᴰ·of-map}
 use mathlib.Core.Logic.{_↔_}
-use Prim.Native.Nat.{ℕ, zero, suc, _+_, _*_, _^_, _/_, _%_, _<_, _≤_}
+use Prim.Native.Nat.{ℕ, suc, _+_, _*_, _^_, _<_, _≤_}
 use native.Mathlib.Omega.{arith}
-use lib.ListN.{length, getD, length-map, List·getD-append, List·getD-map}
+use lib.ListN.{length, getD, List·getD-append, List·getD-map}
 use lib.Seq.{getD-append-add}
-use borrow.Author.Tests.{ne-eqb}
-use Rattle.meaning.specs.Record.{Boat, Line, boats}
+use Rattle.meaning.specs.Record.{Line, boats}
 use Rattle.meaning.specs.Writing.{noLine, lineAt}
-use Rattle.meaning.specs.Pattern.{Pattern, Rule, commands, keeps}
-use Rattle.meaning.specs.Language.{compared}
+use Rattle.meaning.specs.Pattern.{Pattern, commands, keeps}
 use Rattle.meaning.specs.Request.{searchSize}
 use Rattle.boats.specs.Boats.{word}
 use Rattle.record.specs.Fit.{Fit}
-use Rattle.automaton.specs.Listed.{_∈_, getD-in}
-use Rattle.automaton.specs.Automaton.{against, nodes, nodeAt, start}
-use Rattle.automaton.specs.Shape.{Reads}
+use Rattle.automaton.specs.Listed.{_∈_}
+use Rattle.automaton.specs.Automaton.{nodes, nodeAt, start}
 use Rattle.automaton.specs.Columns.{Columns, Compiled, members}
-use Rattle.request.specs.Codes.{codes, numbered, code-low, codes-length, boats-of}
-use Rattle.request.specs.Layout.{Laid, lineWord, fromIn, toIn, kindIn, boatWords, loadedOf}
+use Rattle.boats.specs.Codes.{codes, codes-length}
+use Rattle.request.specs.Layout.{Laid, lineWord, fromIn, toIn, kindIn, loadedOf}
 use Rattle.request.specs.declared.Plan.{Plan}
 use Rattle.search.specs.Plain.{memb, solve}
 use Rattle.search.specs.Sets.{memb-same}
 use Rattle.search.specs.Loops.{loop}
 use Rattle.search.specs.Table.{Search, push}
 use Rattle.search.specs.PhaseOne.{begun, advanceBy}
-use Rattle.search.specs.PhaseTwo.{put}
-use Rattle.search.specs.Phases.{finish, finish-is}
+use Rattle.search.specs.PhaseTwo.{put, forward}
+use Rattle.search.specs.Early.{Ended, ended-is}
 use Rattle.search.specs.Product.{Setting, state, passes, succs, preds}
 use Rattle.search.specs.Along.{goal, starting}
-use Rattle.search.specs.Answer.{setting, starts, answer, starts-ok, goal-ok, LinesWithin, sound, below-size, answer-any}
+use Rattle.search.specs.Answer.{setting, starts, answer, starts-ok, goal-ok, sound, below-size, answer-any}
 use Rattle.search.specs.Check.{exist, moved, moved-members, check}
-use Rattle.search.specs.Loaded.{codeAt, wordAt, lineIn, linesIn, boatIn, boatWordAt, settingIn}
-use Rattle.search.specs.Steps.{shallow, Ok, next-ok, preds-ok}
+use Rattle.search.specs.Loaded.{codeAt, wordAt, lineIn, linesIn, settingIn}
+use Rattle.search.specs.Steps.{Ok, next-ok, preds-ok}
 use Rattle.search.specs.Same.{Same, passes-same, same-succs, same-preds, same-goal, same-starting, same-solve, same-moved}
 use Rattle.search.specs.Front.{lines-many, line-at, tables, table-at}
 
@@ -51,12 +48,6 @@ module _ (l : Line) (to-low : l .to < 1024) (kind-low : l .kind ≤ 15) where
   line-kind : kindIn (lineWord l) ≡ l .kind
   line-kind = omega arith
 
-boat-back : (b : Boat) → b .sail < 16777216 → boatIn (word b) ≡ b
-boat-back b low =
-    let c : word b / 16777216 ≡ b .class = omega arith in
-    let s : word b % 16777216 ≡ b .sail = omega arith in
-    λ t. record { class = c t; sail = s t }
-
 -- ---- what a request's plan and tables are
 
 -- the plan's numbers are those of the lines, their places and the pattern
@@ -66,17 +57,8 @@ pub record Planned (lines : List Line) (places : ℕ) (p : Pattern) (plan : Plan
   pub done-is : plan .done ≡ commands p
   pub keeps-are : plan .keeps ≡ keeps p
   pub radix-is : plan .radix ≡ suc (length (boats lines))
-  pub boats-are : plan .boats ≡ length (boatWords (keeps p) lines)
 
 -- ---- of a request
-
--- a test asks for a boat only where one is kept
-some-kept : (lines : List Line) (places : ℕ) (p : Pattern) → LinesWithin lines places → (c : ℕ) (r : Rule) (j : ℕ) → nodeAt (nodes p []) c .test ≡ against r j → 0 < keeps p
-unfolding setting
-some-kept lines places p within c r j e =
-    let s = sound lines places p within in
-    let level : j < nodeAt (nodes p []) c .depth = subst (λ n. Reads n (nodeAt (nodes p []) c .depth)) e (s .shape .reads c) in
-    omega (arith, level, shallow (setting lines p) places s c)
 
 -- the positions of the mask, at place a with an empty stack, are the starts, in some order
 pub starts-members : (S : Setting) (p : Pattern) (cols : Columns) (begin : ℕ) → Compiled p cols begin → (a s : ℕ) → (s ∈ starting S a (members begin)) ↔ (s ∈ starts S p a)
@@ -99,47 +81,24 @@ module _ (lines : List Line) (places : ℕ) (p : Pattern) (plan : Plan) (area : 
 
   -- ---- the words of its tables
 
-  module _ (g : List ℕ) (loaded : tables plan g ≡ loadedOf (keeps p) lines) where
-    abbrev rest : List ℕ
-    rest = codes lines ++ map lineWord lines
-
-    -- word j of the tables
-    word-at : (n j : ℕ) → n ≡ plan .first + j → n < plan .base → getD g n 0 ≡ getD (loadedOf (keeps p) lines) j 0
-    word-at n j e less = ap (λ k. getD g k 0) e ∙ (table-at plan g j (omega arith) ∙ ap (λ l. getD l j 0) loaded)
-
-    -- word i after the boats
-    rest-at : (n i : ℕ) → n ≡ plan .codes + i → n < plan .base → getD g n 0 ≡ getD rest i 0
-    rest-at n i e less =
-        word-at n (length (boatWords (keeps p) lines) + i) (omega (arith, laid .codes-at, planned .boats-are)) less
-        ∙ getD-append-add (boatWords (keeps p) lines) rest i 0
+  module _ (g : List ℕ) (loaded : tables plan g ≡ loadedOf lines) where
+    -- word i of the tables
+    table-word : (n i : ℕ) → n ≡ plan .codes + i → n < plan .base → getD g n 0 ≡ getD (loadedOf lines) i 0
+    table-word n i e less = ap (λ k. getD g k 0) e ∙ (table-at plan g i (omega arith) ∙ ap (λ l. getD l i 0) loaded)
 
     code-back : (i : ℕ) → i < length lines → codeAt plan g i ≡ getD (codes lines) i 0
     code-back i less =
-        rest-at (plan .codes + i) i refl (omega (arith, laid .words-at, laid .base-at, planned .lines-are))
+        table-word (plan .codes + i) i refl (omega (arith, laid .words-at, laid .base-at, planned .lines-are))
         ∙ List·getD-append (codes lines) (map lineWord lines) 0 i (omega (arith, codes-length lines))
 
     line-back : (i : ℕ) → i < length lines → lineAt (linesIn plan g 0 (plan .lines)) i ≡ lineIn (lineWord (lineAt lines i))
     line-back i less =
         let stands : wordAt plan g i ≡ lineWord (lineAt lines i) =
-        rest-at (plan .words + i) (length (codes lines) + i) (omega (arith, laid .words-at, planned .lines-are, codes-length lines)) (omega (arith, laid .base-at, planned .lines-are))
+        table-word (plan .words + i) (length (codes lines) + i) (omega (arith, laid .words-at, planned .lines-are, codes-length lines)) (omega (arith, laid .base-at, planned .lines-are))
         ∙ (getD-append-add (codes lines) (map lineWord lines) i 0 ∙ List·getD-map lineWord lines i noLine) in
         line-at plan g i (omega (arith, planned .lines-are)) ∙ ap lineIn stands
 
     module _ (fit : Fit lines places) where
-      -- where boats are kept: the boat of every number
-      boat-at : 0 < keeps p → (x : ℕ) → x < suc (length (boats lines)) → boatIn (boatWordAt plan g x) ≡ numbered (boats lines) x
-      boat-at some zero less = refl
-      boat-at some (suc x) less =
-          let kept : boatWords (keeps p) lines ≡ map word (boats lines) = ap (λ b. cond b [] (map word (boats lines))) (ne-eqb (keeps p) 0 (omega arith)) in
-          let many : length (boatWords (keeps p) lines) ≡ length (boats lines) = ap length kept ∙ length-map (boats lines) word in
-          let b = getD (boats lines) x (noLine .boat) in
-          let (i, li, its) = boats-of lines b (getD-in (boats lines) x (noLine .boat) (omega arith)) in
-          let stands : boatWordAt plan g (suc x) ≡ word b =
-          word-at (plan .first + x) x refl (omega (arith, laid .codes-at, laid .words-at, laid .base-at, planned .boats-are))
-          ∙ (List·getD-append (boatWords (keeps p) lines) rest 0 x (omega arith)
-          ∙ (ap (λ l. getD l x 0) kept ∙ List·getD-map word (boats lines) x (noLine .boat))) in
-          ap boatIn stands ∙ boat-back b (omega (arith, fit .boat i li .1, ap (λ (b : Boat). b .sail) its))
-
       -- ---- the setting that they say
 
       module _ (cols : Columns) (begin : ℕ) (compiled : Compiled p cols begin) where
@@ -158,9 +117,7 @@ module _ (lines : List Line) (places : ℕ) (p : Pattern) (plan : Plan) (area : 
           node = compiled .nodes-are;
           pass = λ c v i hc less.
               (λ t. passes (settingIn cols plan g) (compiled .nodes-are c hc .test t) v (code-back i less t))
-              ∙ passes-same (settingIn cols plan g) (setting lines p) (planned .radix-is) (omega arith) (nodeAt (nodes p []) c .test)
-              (λ r j e x y hx hy t. let kept = some-kept lines places p (fit .within) c r j e in compared (boat-at kept x hx t) (boat-at kept y hy t))
-              v (getD (codes lines) i 0) (code-low lines i less);
+              ∙ passes-same (settingIn cols plan g) (setting lines p) (planned .radix-is) refl (nodeAt (nodes p []) c .test) v (getD (codes lines) i 0);
         }
           where
             to-low : (i : ℕ) → i < length lines → lineAt lines i .to < 1024
@@ -218,12 +175,13 @@ module _ (lines : List Line) (places : ℕ) (p : Pattern) (plan : Plan) (area : 
                   (λ t. memb (same-goal loaded-same b t) (same-moved loaded-same a (members begin) c e t))
                   ∙ memb-same (goal T b) _ _ (moved-members (succs T) c _ _ (starts-members T p cols begin compiled a) (goal T b))
 
-          -- both phases as counting loops, whose bodies go by the tables
-          pub loaded-finish : (expand : ℕ → ℕ → Search → Search) → ((w t : ℕ) (st : Search) → loop (push w) (preds In t) st ≡ expand w t st)
+          -- phase two after a phase one that has ended, as counting loops whose bodies go by the tables
+          pub loaded-ended : (expand : ℕ → ℕ → Search → Search) → ((w t : ℕ) (st : Search) → loop (push w) (preds In t) st ≡ expand w t st)
               → (fromState : List ℕ → ℕ → ℕ → ℕ → Search → Search) → ((D : List ℕ) (w l s : ℕ) (st : Search) → loop (put D w) (succs In s l) st ≡ fromState D w l s st)
               → a < places → b < places → (k : ℕ)
-              → finish expand fromState (plan .size) (plan .lines) (starting In a (members begin)) (advanceBy expand k (begun (plan .size) (goal In b ∷ []))) ≡ answer lines places p a b
-          loaded-finish expand expand-law fromState from-law ha hb k =
-              finish-is (plan .size) (goal In b ∷ []) (preds In) (succs In) (plan .lines) expand expand-law fromState from-law
-              Valid valid-low (valid-goal b hb) valid-next valid-preds (starting In a (members begin)) (valid-starts a ha) k
+              → let u = advanceBy expand k (begun (plan .size) (goal In b ∷ [])) in let firsts = starting In a (members begin) in
+              Ended firsts u → forward fromState (plan .size) (plan .lines) firsts (u .table .dist) ≡ answer lines places p a b
+          loaded-ended expand expand-law fromState from-law ha hb k e =
+              ended-is (plan .size) (goal In b ∷ []) (preds In) (succs In) (plan .lines) expand expand-law fromState from-law
+              Valid valid-low (valid-goal b hb) valid-next valid-preds (starting In a (members begin)) (valid-starts a ha) k e
               ∙ loaded-answer ha hb

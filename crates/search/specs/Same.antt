@@ -12,7 +12,6 @@ use lib.Dec.{eqb, ltb}
 use lib.ListN.{length}
 use borrow.Author.Tests.{ltb-true}
 use Rattle.meaning.specs.Writing.{lineAt}
-use Rattle.meaning.specs.Pattern.{Rule}
 use Rattle.meaning.specs.Language.{meets}
 use Rattle.automaton.specs.Listed.{_∈_, when}
 use Rattle.automaton.specs.Automaton.{Test, never, always, against}
@@ -44,18 +43,16 @@ pub record Same (S T : Setting) (m : ℕ) : Type 0 where
 
 -- ---- tests
 
--- two settings whose comparisons agree, on numbers below the radix, where the test asks for one
-module _ (S T : Setting) (radix : S .radix ≡ T .radix) (some-radix : 0 < T .radix) where
-  pub passes-same : (n : Test) → ((r : Rule) (j : ℕ) → n ≡ against r j → (x y : ℕ) → x < T .radix → y < T .radix → S .tells x y ≡ T .tells x y)
-      → (v x : ℕ) → x < T .radix → passes S n v x ≡ passes T n v x
-  passes-same never tells v x low = refl
-  passes-same always tells v x low = refl
-  passes-same (against r j) tells v x low =
-      (λ t. meets r (S .tells x (entry (radix t) v j))) ∙ ap (meets r) (tells r j refl x (entry (T .radix) v j) low (mod-lt _ some-radix))
+-- two settings whose comparisons agree
+module _ (S T : Setting) (radix : S .radix ≡ T .radix) (tells : S .tells ≡ T .tells) where
+  pub passes-same : (n : Test) (v x : ℕ) → passes S n v x ≡ passes T n v x
+  passes-same never v x = refl
+  passes-same always v x = refl
+  passes-same (against r j) v x = λ t. meets r (tells t x (entry (radix t) v j))
 
 -- ---- lists made alike
 
-filt-same : (p q : ℕ → Bool) (l : List ℕ) → ((x : ℕ) → x ∈ l → p x ≡ q x) → filt p l ≡ filt q l
+pub filt-same : (p q : ℕ → Bool) (l : List ℕ) → ((x : ℕ) → x ∈ l → p x ≡ q x) → filt p l ≡ filt q l
 unfolding filt
 filt-same p q [] h = refl
 filt-same p q (x ∷ l) h =

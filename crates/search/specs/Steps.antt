@@ -57,7 +57,7 @@ pub record Move (S : Setting) (q c v i q′ k w : ℕ) : Type 0 where
 -- ---- a state's parts
 
 module _ (S : Setting) (q k v : ℕ) (hk : k ≤ S .done) (hv : v < stacks S) where
-  read-state : (placeOf S (state S q k v) ≡ q) × (posOf S (state S q k v) ≡ k) × (stackOf S (state S q k v) ≡ v)
+  pub read-state : (placeOf S (state S q k v) ≡ q) × (posOf S (state S q k v) ≡ k) × (stackOf S (state S q k v) ≡ v)
   unfolding placeOf posOf stackOf state
   read-state =
       let e = digits-div (q * suc (S .done) + k) hv in

@@ -1,9 +1,9 @@
 -- Numbers stay in range: powers of the radix, stacks with a boat on top, and states.
-use mathlib.Core.Path.{_≡_, sym, ap, _∙_, subst}
+use mathlib.Core.Path.{_≡_, refl, sym, ap, _∙_, subst}
 use mathlib.Core.Bool.{Bool, true, false}
 use mathlib.Core.List.{List}
 use Prim.Native.Nat.{ℕ, suc, _+_, _*_, _-_, _^_, _<_, _≤_}
-use native.Mathlib.Nat.{pow-suc, pow-le-pow-right, lt-of-lt-of-le, mul-le-mul, mod-le, one-le-pow, le-mul-of-pos-right, mul-comm, mul-assoc, le-trans}
+use native.Mathlib.Nat.{pow-zero, pow-suc, one-mul, pow-le-pow-right, lt-of-lt-of-le, mul-le-mul, mod-le, one-le-pow, le-mul-of-pos-right, mul-comm, mul-assoc, le-trans}
 use native.Mathlib.Omega.{arith}
 use lib.Arith.{digits-lt}
 use lib.Dec.{eqb}
@@ -24,6 +24,13 @@ pow-turn R e i p pos h k q =
     let next : i + 1 ≡ suc i = omega arith in
     let t : p * R ≡ R ^ (i + 1) = ap (_* R) q ∙ (sym (pow-suc R i) ∙ ap (R ^_) (sym next)) in
     (rw t (le-trans (pow-le-pow-right pos (omega arith)) k), t)
+
+-- the first powers
+pub pow-one : (R e : ℕ) → e ≡ 1 → R ≡ R ^ e
+pow-one R e h = sym (ap (R ^_) h ∙ (pow-suc R 0 ∙ (ap (_* R) (pow-zero R) ∙ one-mul R)))
+
+pub pow-two : (R e : ℕ) → e ≡ 2 → R * R ≡ R ^ e
+pow-two R e h = sym (ap (R ^_) h ∙ (pow-suc R 1 ∙ ap (_* R) (sym (pow-one R 1 refl))))
 
 pub product-small : (x y : ℕ) → x < 4294967296 → y ≤ 1048576 → x * y ≤ 4503599626321920
 product-small x y h k = let a : x ≤ 4294967295 = omega arith in mul-le-mul a k

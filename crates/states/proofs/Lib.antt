@@ -3,3 +3,4 @@ pub mod Changes
 pub mod Bounds
 pub mod Comparing
 pub mod Standing
+pub mod Masks

@@ -2,24 +2,21 @@
 -- `proofs/Bridge` shows that loops of these are the loops of `Moves` over the setting that the columns and the loaded words say.
 use mathlib.Core.Path.{_≡_}
 use mathlib.Core.Bool.{Bool, true, false, cond, _&&_}
-use mathlib.Core.List.{List, [], _∷_}
+use mathlib.Core.List.{List}
 use Prim.Native.Nat.{ℕ, _+_, _*_, _-_, _^_, _/_, _%_, _≤_, _<_}
 use lib.Dec.{eqb}
 use lib.ListN.{length, getD, take}
 use Rattle.meaning.specs.Pattern.{same, other}
-use Rattle.meaning.specs.Language.{Compared, same-boat, other-boat, compared, meets}
+use Rattle.meaning.specs.Language.{Compared, same-boat, other-boat, meets}
 use Rattle.automaton.specs.Columns.{Columns, bitOf}
 use Rattle.automaton.specs.Shape.{deeper}
+use Rattle.boats.specs.Codes.{telling}
 use Rattle.request.specs.Layout.{Laid, fromIn, toIn, kindIn}
 use Rattle.request.specs.declared.Plan.{Plan}
 use Rattle.search.specs.Loops.{turns}
 use Rattle.search.specs.Table.{Search, push}
 use Rattle.search.specs.Front.{stateIn}
-use Rattle.search.specs.Loaded.{codeAt, wordAt, boatIn, boatWordAt}
-use Rattle.search.specs.PhaseOne.{begun, advanceBy}
-use Rattle.search.specs.Product.{Setting}
-use Rattle.search.specs.Along.{goal}
-use Rattle.search.specs.Moves.{expand}
+use Rattle.search.specs.Loaded.{codeAt, wordAt}
 use Rattle.states.specs.declared.Spot.{Spot}
 use Rattle.states.specs.declared.Target.{Target}
 use Rattle.states.specs.declared.Told.{Told}
@@ -27,7 +24,7 @@ use Rattle.states.specs.declared.Told.the-variants as Told
 
 -- ---- what the loops go by
 
--- the words before the search's stretches: boats, boat numbers and lines stand there
+-- the words before the search's stretches: boat numbers and lines stand there
 abbrev pub front : Plan → List ℕ → List ℕ
 front plan w = take (plan .base) w
 
@@ -35,11 +32,13 @@ front plan w = take (plan .base) w
 abbrev pub Starts : Plan → List ℕ → Type 0
 Starts plan g = (i : ℕ) → i < plan .lines → fromIn (wordAt plan g i) < plan .places
 
--- the tables stand in the area, lines go between the places, and no stack is deeper than the keeps
+-- the tables stand in the area, lines go between the places, boat numbers are below the radix, kinds are kinds, and no stack is deeper than the keeps
 pub record Fit (plan : Plan) (a : Columns) (w : List ℕ) : Type 0 where
   pub laid : Laid plan (length w)
   pub starts : Starts plan (front plan w)
   pub ends : (i : ℕ) → i < plan .lines → toIn (wordAt plan (front plan w) i) < plan .places
+  pub codes-low : (i : ℕ) → i < plan .lines → codeAt plan (front plan w) i < plan .radix
+  pub kinds-low : (c : ℕ) → c ≤ plan .done → getD (a .kinds) c 0 ≤ 15
   pub levels-low : (c : ℕ) → c ≤ plan .done → getD (a .levels) c 0 ≤ plan .keeps
   pub depths-low : (c : ℕ) → c ≤ plan .done → getD (a .depths) c 0 ≤ plan .keeps
   pub leaves-low : (c : ℕ) → c ≤ plan .done → deeper (eqb (getD (a .pushes) c 0) 1) (getD (a .depths) c 0) ≤ plan .keeps
@@ -49,10 +48,6 @@ pub record Fit (plan : Plan) (a : Columns) (w : List ℕ) : Type 0 where
 abbrev pub toldShown : Told → Compared
 toldShown Told.SameBoat = same-boat
 toldShown Told.OtherBoat = other-boat
-
--- of the boats that two words say
-unfoldable pub wordsCompared : ℕ → ℕ → Compared
-wordsCompared x y = compared (boatIn x) (boatIn y)
 
 -- does a test by its number (2 same, 3 other) take it?
 unfoldable pub metBy : ℕ → Compared → Bool
@@ -91,6 +86,10 @@ off s v = offBy (eqb (s .push) 1) (s .weight) v
 unfoldable pub on : Spot → ℕ → ℕ → ℕ
 on s u x = onBy (eqb (s .push) 1) (s .weight) u x
 
+-- the test of the boat number x against the stack v, of boat numbers below R
+unfoldable pub okay : ℕ → Spot → ℕ → ℕ → Bool
+okay R s x v = cond (eqb (s .test) 1) true (metBy (s .test) (telling x (v / s .level % R)))
+
 -- ---- a state that is expanded, by its numbers
 
 unfoldable pub targetIn : List ℕ → Plan → ℕ → Target
@@ -115,33 +114,30 @@ pub record Aimed (plan : Plan) (t : Target) : Type 0 where
 
 -- ---- forward
 
+-- the position k is the lowest that the mask has
+pub record Lowest (mask k : ℕ) : Type 0 where
+  pub has : bitOf mask k ≡ 1
+  pub none-below : (j : ℕ) → j < k → bitOf mask j ≡ 1 → ⊥
+
 -- the position k, if the mask has it, at the place `to` with the stack v cut to its depth
 unfoldable pub nextTurn : Plan → List ℕ → ℕ → (ℕ → Search → Search) → ℕ → ℕ → ℕ → Search → Search
 nextTurn plan depths mask seen to v k st = cond (eqb (bitOf mask k) 1) (seen (stateIn plan to k (v % plan .radix ^ getD depths k 0)) st) st
 
+-- ---- backward
+
+-- the stack v undone for the boat number x; `home` is the state with the empty stack at the line's start
+unfoldable pub stackAt : ℕ → Spot → ℕ → ℕ → ℕ → ℕ → Search → Search
+stackAt R s d home x v st = cond (eqb (on s (off s v) x) v && okay R s x (off s v)) (push d (home + off s v) st) st
+
+unfoldable pub stackTurn : ℕ → Spot → ℕ → ℕ → ℕ → ℕ → ℕ → ℕ → Search → Search
+stackTurn R s d home x weight w n = stackAt R s d home x (n * weight + w)
+
 module _ (plan : Plan) (g : List ℕ) where
-  -- the test of the boat with the word b against the stack v
-  unfoldable pub okay : Spot → ℕ → ℕ → Bool
-  okay s b v = cond (eqb (s .test) 1) true (metBy (s .test) (wordsCompared b (boatWordAt plan g (v / s .level % plan .radix))))
-
-  -- the word of line i's boat
-  abbrev pub boatOf : ℕ → ℕ
-  boatOf i = boatWordAt plan g (codeAt plan g i)
-
-  -- ---- backward
-
-  -- the stack v undone for the boat number x with the word b; `home` is the state with the empty stack at the line's start
-  unfoldable pub stackAt : Spot → ℕ → ℕ → ℕ → ℕ → ℕ → Search → Search
-  stackAt s d home x b v st = cond (eqb (on s (off s v) x) v && okay s b (off s v)) (push d (home + off s v) st) st
-
-  unfoldable pub stackTurn : Spot → ℕ → ℕ → ℕ → ℕ → ℕ → ℕ → ℕ → Search → Search
-  stackTurn s d home x b weight w n = stackAt s d home x b (n * weight + w)
-
   -- line i, if it leads to the target's place and is of the position's kind, for `count` stacks
   unfoldable pub lineTurn : Spot → Target → ℕ → ℕ → ℕ → ℕ → Search → Search
   lineTurn s t d c count i st =
       cond (eqb (toIn (wordAt plan g i)) (t .place) && eqb (kindIn (wordAt plan g i)) (s .kind))
-      (turns (stackTurn s d (stateIn plan (fromIn (wordAt plan g i)) c 0) (codeAt plan g i) (boatOf i) (t .weight) (t .stack)) 0 count st)
+      (turns (stackTurn (plan .radix) s d (stateIn plan (fromIn (wordAt plan g i)) c 0) (codeAt plan g i) (t .weight) (t .stack)) 0 count st)
       st
 
 -- every stack tried is one of the stacks
@@ -155,13 +151,3 @@ spotTurn a plan g t d c st =
     cond (eqb (bitOf (getD (a .follow) c 0) (t .position)) 1)
     (turns (lineTurn plan g (spotIn a (plan .radix) c) t d c (plan .radix ^ (deep - t .depth))) 0 (plan .lines) st)
     st
-
--- ---- phase one
-
--- k expansions, from a table of which h states are expanded
-unfoldable pub run : (ℕ → ℕ → Search → Search) → ℕ → ℕ → Search → Search
-run E k h st = advanceBy E k (record { expanded = h; table = st }) .table
-
--- the table of phase one at its end, for the place b; whatever the pair held before
-unfoldable pub backward : Setting → ℕ → ℕ → Search → Search
-backward S N b st = advanceBy (expand S) N (begun N (goal S b ∷ [])) .table

@@ -1,15 +1,15 @@
 // The words of the lent work area, and boats, positions and states by their numbers: what each loop of the search does with one of them.
 // Each function that changes the area promises a `Step`: what the pair of stretches holds afterwards, and that every other word is as it was.
 ghost use mathlib.Core.Path.{_≡_};
+ghost use mathlib.Core.Bool.{true};
 ghost use Prim.Native.Nat.{ℕ, suc, _+_, _*_, _-_, _^_, _/_, _%_, _≤_, _<_};
 ghost use lib.Dec.{eqb};
 ghost use lib.ListN.{length, getD, set, replicate};
 ghost use Rattle.automaton.specs.Columns.{columns};
-ghost use Rattle.request.specs.Layout.{Laid};
+ghost use Rattle.boats.specs.Codes.{telling};
 ghost use Rattle.search.specs.Table.{push};
 ghost use Rattle.states.specs.Area.{stretch, patch, found, Ready, Step};
-ghost use Rattle.search.specs.Loaded.{boatWordAt};
-ghost use Rattle.states.specs.Spots.{front, toldShown, wordsCompared, metBy, spotIn, off, on, okay, targetIn};
+ghost use Rattle.states.specs.Spots.{toldShown, metBy, spotIn, off, on, okay, Lowest, targetIn};
 use request::Plan;
 
 // ---- the work area
@@ -108,9 +108,9 @@ pub enum Told {
     OtherBoat,
 }
 
-// The boats that two words say, compared. Whoever compares boats does it here.
-pub fn compared(a: u32, b: u32) -> Told
-    ensures { λ r. ⌜ toldShown r ≡ wordsCompared a b ⌝ }
+// Two boats compared by their numbers. Whoever compares boats does it here.
+pub fn compared(a: usize, b: usize) -> Told
+    ensures { λ r. ⌜ toldShown r ≡ telling a b ⌝ }
 {
     if a == b {
         Told::SameBoat
@@ -127,22 +127,6 @@ pub fn meets(test: u8, told: Told) -> bool
         Told::SameBoat => test == 2,
         Told::OtherBoat => test == 3,
     }
-}
-
-// The word of a boat by its number: 0 where the number or the boats' stretch has none.
-pub fn boat_word(work: &[u32], plan: Plan, number: usize) -> u32
-    requires { ⌜ Laid plan (length (now work)) ⌝ }
-    requires { ⌜ number < 4294967296 ⌝ }
-    ensures { λ r. ⌜ r ≡ boatWordAt plan (front plan (now (work .entry))) number ⌝ }
-{
-    if number == 0 {
-        return 0;
-    }
-    let k = plan.first + (number - 1);
-    if k < plan.base {
-        return word(work, k);
-    }
-    0
 }
 
 // ---- a position by its numbers
@@ -163,8 +147,8 @@ pub fn wide(x: u8) -> usize
     x as usize
 }
 
-// radix^e
-pub fn power(radix: usize, e: usize) -> usize
+// radix^e, one factor after the other.
+fn product(radix: usize, e: usize) -> usize
     requires { ⌜ (0 < radix) × (radix ^ e ≤ 1048576) ⌝ }
     ensures { λ r. ⌜ r ≡ radix ^ e ⌝ }
 {
@@ -175,6 +159,23 @@ pub fn power(radix: usize, e: usize) -> usize
         i += 1;
     }
     p
+}
+
+// radix^e. Most stacks are at most two deep, so those powers are answered without a loop.
+pub fn power(radix: usize, e: usize) -> usize
+    requires { ⌜ (0 < radix) × (radix ^ e ≤ 1048576) ⌝ }
+    ensures { λ r. ⌜ r ≡ radix ^ e ⌝ }
+{
+    if e == 0 {
+        return 1;
+    }
+    if e == 1 {
+        return radix;
+    }
+    if e == 2 {
+        return radix * radix;
+    }
+    product(radix, e)
 }
 
 // Position `c`.
@@ -222,17 +223,51 @@ pub fn put_on(spot: Spot, u: usize, code: u32) -> usize
     }
 }
 
-// The test of the boat with the word `boat` against the stack before the position.
-pub fn passes(work: &[u32], plan: Plan, spot: Spot, boat: u32, v: usize) -> bool
-    requires { ⌜ Laid plan (length (now work)) ⌝ }
-    requires { ⌜ 0 < spot .level ⌝ }
-    ensures { λ r. ⌜ r ≡ okay plan (front plan (now (work .entry))) spot boat v ⌝ }
+// The rest of a number by a weight. A division is left out where it would change nothing, here and below.
+pub fn cut(v: usize, weight: usize) -> usize
+    requires { ⌜ 0 < weight ⌝ }
+    ensures { λ r. ⌜ (r ≡ v % weight) × (r < weight) ⌝ }
+{
+    if v < weight {
+        return v;
+    }
+    if weight == 1 {
+        return 0;
+    }
+    v % weight
+}
+
+// A stack without the entries below the level.
+fn above(stack: usize, level: usize) -> usize
+    requires { ⌜ 0 < level ⌝ }
+    ensures { λ r. ⌜ r ≡ stack / level ⌝ }
+{
+    if level == 1 {
+        return stack;
+    }
+    stack / level
+}
+
+// The boat number at a level of a stack.
+pub fn entry_at(stack: usize, level: usize, radix: usize) -> usize
+    requires { ⌜ (0 < level) × (0 < radix) ⌝ }
+    ensures { λ r. ⌜ (r ≡ stack / level % radix) × (r < radix) ⌝ }
+{
+    cut(above(stack, level), radix)
+}
+
+// The test of the boat number `code` against the stack before the position.
+pub fn passes(radix: usize, spot: Spot, code: u32, v: usize) -> bool
+    requires { ⌜ (0 < radix) × (0 < spot .level) ⌝ }
+    ensures { λ r. ⌜ r ≡ okay radix spot code v ⌝ }
 {
     if spot.test == 1 {
         return true;
     }
-    let kept = boat_word(work, plan, v / spot.level % plan.radix);
-    meets(spot.test, compared(boat, kept))
+    meets(
+        spot.test,
+        compared(code as usize, entry_at(v, spot.level, radix)),
+    )
 }
 
 // The state at a place and a position with a stack.
@@ -257,6 +292,37 @@ pub fn stands_at(plan: Plan, s: usize, q: usize) -> bool
     s - low < block
 }
 
+// The position and the stack of a state.
+pub struct Stand {
+    pub position: usize,
+    pub stack: usize,
+}
+
+// Those of the state `s`, which is at the place `q`, without a division by the stacks.
+pub fn standing_at(plan: Plan, s: usize, q: usize) -> Stand
+    requires { ⌜ (0 < plan .stacks) × ((plan .done + 1) * plan .stacks ≤ 1048576) × (plan .done ≤ 63) × (q < 4294967296) ⌝ }
+    requires { ⌜ (eqb q (s / plan .stacks / (plan .done + 1)) ≡ true) × (plan .inverse ≡ 4398046511104 / plan .stacks + 1) ⌝ }
+    ensures { λ r. ⌜ (r .position ≡ s / plan .stacks % (plan .done + 1)) × (r .stack ≡ s % plan .stacks) ⌝ }
+{
+    let low = q * ((plan.done + 1) * plan.stacks);
+    let rest = s - low;
+    let position = rest * plan.inverse / 4398046511104;
+    Stand {
+        position,
+        stack: rest - position * plan.stacks,
+    }
+}
+
+// ---- positions as a mask
+
+// The lowest position of a mask that has one.
+pub fn lowest(mask: u64) -> usize
+    requires { ⌜ 0 < mask ⌝ }
+    ensures { λ r. ⌜ (r < 64) × Lowest mask r ⌝ }
+{
+    u64::trailing_zeros(mask) as usize
+}
+
 // ---- a state that is expanded, by its numbers
 
 // A state that is expanded: its place, its position, the position's depth, radix^depth, and its stack cut to that depth.
@@ -276,11 +342,12 @@ pub fn target_of(depths: &[u8; 64], plan: Plan, t: usize) -> Target
     let position = t / plan.stacks % (plan.done + 1);
     let depth = wide(depths[position]);
     let weight = power(plan.radix, depth);
+    let stack = cut(t % plan.stacks, weight);
     Target {
         place: t / plan.stacks / (plan.done + 1),
         position,
         depth,
         weight,
-        stack: t % plan.stacks % weight,
+        stack,
     }
 }

@@ -1,6 +1,6 @@
-pub mod Bridge
 pub mod Visits
-pub mod Backs
 pub mod Ahead
 pub mod Firsts
 pub mod Posing
+pub mod Stopping
+pub mod Places

@@ -1,3 +1,4 @@
-pub mod Backing
 pub mod Chosen
 pub mod Posed
+pub mod Stopped
+pub mod Leading

@@ -1,8 +1,8 @@
 -- A request posed: its record is loaded into the area, for the checker and the finder alike.
 use mathlib.Core.Path.{_≡_}
-use mathlib.Core.List.{List, _++_}
-use Prim.Native.Nat.{ℕ, _-_, _<_}
-use lib.ListN.{length, replicate}
+use mathlib.Core.List.{List}
+use Prim.Native.Nat.{ℕ, _<_}
+use lib.ListN.{length, take}
 use Rattle.meaning.specs.Outcome.{passed}
 use Rattle.meaning.specs.Pattern.{readPattern, noneGiven}
 use Rattle.meaning.specs.Request.{Asked}
@@ -19,7 +19,7 @@ pub record Posed (q : Asked) (pat : List ℕ) (plan : Plan) (from to : ℕ) (w :
   pub fit : Fit (q .day .lines) (q .day .places)
   pub from-low : from < q .day .places
   pub to-low : to < q .day .places
-  pub loaded : w ≡ loadedOf (plan .keeps) (q .day .lines) ++ replicate (length w - plan .base) 0
+  pub loaded : take (plan .base) w ≡ loadedOf (q .day .lines)
 
 -- the area is that of some request
 abbrev pub SomePosed : List ℕ → Plan → ℕ → ℕ → List ℕ → Type 0

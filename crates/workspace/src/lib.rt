@@ -1,26 +1,30 @@
 // The loops of the search over a loaded record by an automaton's columns, inside one lent work area: both phases, and one line forward for the checker.
 ghost use mathlib.Core.Path.{_≡_};
 ghost use mathlib.Core.Bool.{true};
-ghost use Prim.Native.Nat.{ℕ, suc, _+_, _*_, _-_, _^_, _/_, _%_, _≤_, _<_};
-ghost use lib.Dec.{eqb};
+ghost use Prim.Native.Nat.{ℕ, suc, _+_, _-_, _^_, _/_, _%_, _≤_, _<_};
 ghost use mathlib.Core.List.{_++_};
-ghost use lib.ListN.{length, getD, drop};
+ghost use lib.ListN.{length, getD, take, drop};
 ghost use Rattle.automaton.specs.Columns.{columns};
-ghost use Rattle.automaton.specs.Shape.{deeper};
 ghost use Rattle.request.specs.Layout.{Laid};
+ghost use Rattle.search.specs.Front.{stateIn};
 ghost use Rattle.search.specs.Loops.{loop, turns};
-ghost use Rattle.search.specs.Table.{blank, push};
+ghost use Rattle.search.specs.Table.{blank};
 ghost use Rattle.states.specs.Area.{stretch, found, Ready, Step};
 ghost use Rattle.search.specs.Loaded.{settingIn};
 ghost use Rattle.search.specs.Moves.{visit, onward, expand, fromState};
-ghost use Rattle.search.specs.PhaseTwo.{lesserWord, nearestWord, put, gather, try, walk};
-ghost use Rattle.linking.specs.Links.{Room, Linked, Guided};
-ghost use Rattle.workspace.specs.Backing.{Backing};
-ghost use Rattle.workspace.specs.Chosen.{firstStates, nearTurn, tryTable};
-ghost use Rattle.states.specs.Spots.{front, Fit, Sane, on, stackAt, stackTurn, lineTurn, nextTurn, Aimed, Stacks, Starts, spotTurn, run, backward};
+ghost use Rattle.search.specs.PhaseTwo.{lesserWord, nearestWord, put, gather, walk};
+ghost use Rattle.sorting.specs.declared.Order.the-variants as Orders;
+ghost use Rattle.expanding.specs.Backing.{Backing};
+ghost use Rattle.workspace.specs.Chosen.{firstStates, nearTurn};
+ghost use Rattle.workspace.specs.Leading.{startsAt, Roomy, Ordered, Leading, Standing, Together, Chose};
+ghost use Rattle.states.specs.Spots.{front, Fit, on, nextTurn, Starts};
+ghost use Rattle.workspace.specs.Stopped.{opened, fromGoal, Stopped, metBy};
 use request::Plan;
+use sorting::Order;
 use states::Spot;
 use states::Target;
+use ways::Lane;
+use ways::Way;
 
 // ---- forward, by one line from one state: marks and frontier are the pair after the distances
 
@@ -40,12 +44,11 @@ pub fn visit_state(work: &mut [u32], plan: Plan, want: u32, t: usize, tail: usiz
     tail
 }
 
-// The position `k`, if it may come after, at the place `to` with the stack `v` cut to its depth.
+// The position `k`, at the place `to` with the stack `v` cut to its depth.
 pub fn one_next(
     work: &mut [u32],
     plan: Plan,
     depths: &[u8; 64],
-    mask: u64,
     want: u32,
     to: usize,
     v: usize,
@@ -55,17 +58,14 @@ pub fn one_next(
     requires { ⌜ Ready (plan .base + plan .size) (plan .size) tail (now work) ⌝ }
     requires { ⌜ Laid plan (length (now work)) ⌝ }
     requires { ⌜ (to < plan .places) × (k ≤ plan .done) × (getD (now depths) k 0 ≤ plan .keeps) ⌝ }
-    ensures { λ r. ⌜ Step (plan .base + plan .size) (plan .size) (nextTurn plan (now (depths .entry)) mask (visit (stretch (plan .base) (plan .size) (now (work .entry))) want) to v k) tail (now (work .entry)) r (now (work .exit)) ⌝ }
+    ensures { λ r. ⌜ Step (plan .base + plan .size) (plan .size) (visit (stretch (plan .base) (plan .size) (now (work .entry))) want (stateIn plan to k (v % plan .radix ^ getD (now (depths .entry)) k 0))) tail (now (work .entry)) r (now (work .exit)) ⌝ }
 {
-    if (mask >> k) % 2 == 1 {
-        let weight = states::power(plan.radix, states::wide(depths[k]));
-        let t = states::state_at(plan, to, k, v % weight);
-        return visit_state(work, plan, want, t, tail);
-    }
-    tail
+    let weight = states::power(plan.radix, states::wide(depths[k]));
+    let t = states::state_at(plan, to, k, states::cut(v, weight));
+    visit_state(work, plan, want, t, tail)
 }
 
-// Each position that may come after.
+// Each position that may come after, from the mask's lowest to its last. `rest` has those from `k` on.
 pub fn over_next(
     work: &mut [u32],
     plan: Plan,
@@ -81,10 +81,18 @@ pub fn over_next(
     requires { ⌜ (to < plan .places) × ((k : ℕ) → k ≤ plan .done → getD (now depths) k 0 ≤ plan .keeps) ⌝ }
     ensures { λ r. ⌜ Step (plan .base + plan .size) (plan .size) (turns (nextTurn plan (now (depths .entry)) mask (visit (stretch (plan .base) (plan .size) (now (work .entry))) want) to v) 0 (plan .done + 1)) tail (now (work .entry)) r (now (work .exit)) ⌝ }
 {
-    let positions = plan.done + 1;
     let mut t = tail;
-    for k in 0..positions {
-        t = one_next(work, plan, depths, mask, want, to, v, k, t);
+    let mut rest = mask;
+    let mut k = 0;
+    while rest != 0 {
+        let skipped = states::lowest(rest);
+        let next = k + skipped;
+        if plan.done < next {
+            return t;
+        }
+        t = one_next(work, plan, depths, want, to, v, next, t);
+        rest = rest >> skipped >> 1;
+        k = next + 1;
     }
     t
 }
@@ -110,15 +118,24 @@ pub fn from_state(
     ensures { λ r. ⌜ Step (plan .base + plan .size) (plan .size) (onward (settingIn (columns (now (kinds .entry)) (now (tests .entry)) (now (levels .entry)) (now (depths .entry)) (now (pushes .entry)) (now (follow .entry))) plan (front plan (now (work .entry)))) (visit (stretch (plan .base) (plan .size) (now (work .entry))) want) i s) tail (now (work .entry)) r (now (work .exit)) ⌝ }
 {
     let line = states::word(work, plan.words + i) as usize;
-    if states::stands_at(plan, s, line / 16384) {
-        let at = s / plan.stacks % (plan.done + 1);
-        let spot = states::spot_at(kinds, tests, levels, depths, pushes, follow, plan.radix, at);
-        if line % 16 == spot.kind {
-            let v = s % plan.stacks;
+    let from = line / 16384;
+    if states::stands_at(plan, s, from) {
+        let here = states::standing_at(plan, s, from);
+        let at = here.position;
+        if line % 16 == states::wide(kinds[at]) {
+            let spot = states::spot_at(
+                kinds,
+                tests,
+                levels,
+                depths,
+                pushes,
+                follow,
+                plan.radix,
+                at,
+            );
             let code = states::word(work, plan.codes + i);
-            let boat = states::boat_word(work, plan, code as usize);
-            if states::passes(work, plan, spot, boat, v) {
-                let u = states::put_on(spot, v, code);
+            if states::passes(plan.radix, spot, code, here.stack) {
+                let u = states::put_on(spot, here.stack, code);
                 return over_next(
                     work,
                     plan,
@@ -135,330 +152,92 @@ pub fn from_state(
     tail
 }
 
-// ---- backward
-
-// One stack `v` after the position: it is undone for the line's boat, and the state before is pushed.
-pub fn one_stack(
-    work: &mut [u32],
-    plan: Plan,
-    spot: Spot,
-    d: u32,
-    home: usize,
-    code: u32,
-    boat: u32,
-    v: usize,
-    tail: usize,
-) -> usize
-    requires { ⌜ Ready (plan .base) (plan .size) tail (now work) ⌝ }
+// Is a first state met: is one as near as the state that waits first, whose word is `d`? All that are have their words when a
+// distance begins, so it is asked only where `d` differs from `last`, the word of the state expanded before.
+fn first_met(work: &[u32], plan: Plan, begin: u64, from: usize, d: u32, last: u32) -> bool
     requires { ⌜ Laid plan (length (now work)) ⌝ }
-    requires { ⌜ Sane spot ⌝ }
-    requires { ⌜ (0 < d) × (d ≤ suc tail) × (home + v < plan .size) ⌝ }
-    ensures { λ r. ⌜ Step (plan .base) (plan .size) (stackAt plan (front plan (now (work .entry))) spot d home code boat v) tail (now (work .entry)) r (now (work .exit)) ⌝ }
+    requires { ⌜ from < plan .places ⌝ }
+    ensures { λ r. ⌜ r ≡ metBy (nearestWord (stretch (plan .base) (plan .size) (now (work .entry))) (firstStates plan begin from)) d last ⌝ }
 {
-    let u = states::take_off(spot, v);
-    if states::put_on(spot, u, code) == v {
-        if states::passes(work, plan, spot, boat, u) {
-            return states::push_if_new(work, plan.base, plan.size, d, home + u, tail);
-        }
+    if d == last {
+        return false;
     }
-    tail
+    let near = nearest(work, plan, begin, from);
+    if near == 0 {
+        return false;
+    }
+    near <= d
 }
 
-// Each stack x * weight + w, of `count`.
-pub fn over_stacks(
-    work: &mut [u32],
-    plan: Plan,
-    spot: Spot,
-    d: u32,
-    home: usize,
-    code: u32,
-    boat: u32,
-    weight: usize,
-    w: usize,
-    count: usize,
-    tail: usize,
-) -> usize
-    requires { ⌜ Ready (plan .base) (plan .size) tail (now work) ⌝ }
-    requires { ⌜ Laid plan (length (now work)) ⌝ }
-    requires { ⌜ Sane spot ⌝ }
-    requires { ⌜ (0 < d) × (d ≤ suc tail) × ((x : ℕ) → x < count → home + (x * weight + w) < plan .size) ⌝ }
-    ensures { λ r. ⌜ Step (plan .base) (plan .size) (turns (stackTurn plan (front plan (now (work .entry))) spot d home code boat weight w) 0 count) tail (now (work .entry)) r (now (work .exit)) ⌝ }
-{
-    let mut t = tail;
-    for x in 0..count {
-        t = one_stack(work, plan, spot, d, home, code, boat, x * weight + w, t);
-    }
-    t
-}
-
-// Line `i`, if it leads to the target's place and is of the position's kind: gone back over to the position `c`.
-pub fn one_line(
-    work: &mut [u32],
-    plan: Plan,
-    spot: Spot,
-    target: Target,
-    d: u32,
-    c: usize,
-    count: usize,
-    i: usize,
-    tail: usize,
-) -> usize
-    requires { ⌜ Ready (plan .base) (plan .size) tail (now work) ⌝ }
-    requires { ⌜ Laid plan (length (now work)) × Starts plan (front plan (now work)) ⌝ }
-    requires { ⌜ Sane spot ⌝ }
-    requires { ⌜ (0 < d) × (d ≤ suc tail) × (c ≤ plan .done) × (i < plan .lines) × Stacks count (target .weight) (target .stack) (plan .stacks) ⌝ }
-    ensures { λ r. ⌜ Step (plan .base) (plan .size) (lineTurn plan (front plan (now (work .entry))) spot target d c count i) tail (now (work .entry)) r (now (work .exit)) ⌝ }
-{
-    let line = states::word(work, plan.words + i) as usize;
-    if line / 16 % 1024 == target.place {
-        if line % 16 == spot.kind {
-            let code = states::word(work, plan.codes + i);
-            let boat = states::boat_word(work, plan, code as usize);
-            let home = states::state_at(plan, line / 16384, c, 0);
-            return over_stacks(
-                work,
-                plan,
-                spot,
-                d,
-                home,
-                code,
-                boat,
-                target.weight,
-                target.stack,
-                count,
-                tail,
-            );
-        }
-    }
-    tail
-}
-
-// Each line, one after the other.
-fn over_all(
-    work: &mut [u32],
-    plan: Plan,
-    spot: Spot,
-    target: Target,
-    d: u32,
-    c: usize,
-    count: usize,
-    tail: usize,
-) -> usize
-    requires { ⌜ Ready (plan .base) (plan .size) tail (now work) ⌝ }
-    requires { ⌜ Laid plan (length (now work)) × Starts plan (front plan (now work)) ⌝ }
-    requires { ⌜ Sane spot ⌝ }
-    requires { ⌜ (0 < d) × (d ≤ suc tail) × (c ≤ plan .done) × Stacks count (target .weight) (target .stack) (plan .stacks) ⌝ }
-    ensures { λ r. ⌜ Step (plan .base) (plan .size) (turns (lineTurn plan (front plan (now (work .entry))) spot target d c count) 0 (plan .lines)) tail (now (work .entry)) r (now (work .exit)) ⌝ }
-{
-    let lines = plan.lines;
-    let mut t = tail;
-    for i in 0..lines {
-        t = one_line(work, plan, spot, target, d, c, count, i, t);
-    }
-    t
-}
-
-// Each line to the target's place, from link to link.
-fn over_linked(
-    work: &mut [u32],
-    plan: Plan,
-    spot: Spot,
-    target: Target,
-    d: u32,
-    c: usize,
-    count: usize,
-    tail: usize,
-) -> usize
-    requires { ⌜ Ready (plan .base) (plan .size) tail (now work) ⌝ }
-    requires { ⌜ Laid plan (length (now work)) × Starts plan (front plan (now work)) ⌝ }
-    requires { ⌜ Sane spot ⌝ }
-    requires { ⌜ (0 < d) × (d ≤ suc tail) × (c ≤ plan .done) × Stacks count (target .weight) (target .stack) (plan .stacks) ⌝ }
-    requires { ⌜ (target .place < plan .places) × Room plan (length (now work)) × Linked plan true (now work) ⌝ }
-    ensures { λ r. ⌜ Step (plan .base) (plan .size) (turns (lineTurn plan (front plan (now (work .entry))) spot target d c count) 0 (plan .lines)) tail (now (work .entry)) r (now (work .exit)) ⌝ }
-{
-    let heads = linking::heads_at(plan, work.len());
-    let mut h = states::word(work, heads + target.place) as usize;
-    let mut at = 0;
-    let mut t = tail;
-    while 0 < h {
-        at = h;
-        t = one_line(work, plan, spot, target, d, c, count, at - 1, t);
-        h = states::word(work, heads + plan.places + (at - 1)) as usize;
-    }
-    t
-}
-
-// Each line: only those to the target's place matter, and where there is room they are linked.
-pub fn over_lines(
-    work: &mut [u32],
-    plan: Plan,
-    spot: Spot,
-    target: Target,
-    d: u32,
-    c: usize,
-    count: usize,
-    tail: usize,
-) -> usize
-    requires { ⌜ Ready (plan .base) (plan .size) tail (now work) ⌝ }
-    requires { ⌜ Laid plan (length (now work)) × Starts plan (front plan (now work)) ⌝ }
-    requires { ⌜ Sane spot ⌝ }
-    requires { ⌜ (0 < d) × (d ≤ suc tail) × (c ≤ plan .done) × Stacks count (target .weight) (target .stack) (plan .stacks) ⌝ }
-    requires { ⌜ (target .place < plan .places) × Guided plan true (now work) ⌝ }
-    ensures { λ r. ⌜ Step (plan .base) (plan .size) (turns (lineTurn plan (front plan (now (work .entry))) spot target d c count) 0 (plan .lines)) tail (now (work .entry)) r (now (work .exit)) ⌝ }
-{
-    if linking::fits(plan, work.len()) {
-        return over_linked(work, plan, spot, target, d, c, count, tail);
-    }
-    over_all(work, plan, spot, target, d, c, count, tail)
-}
-
-// The stack's depth after a position.
-fn leaves_of(depth: u8, push: u8) -> usize
-    ensures { λ r. ⌜ r ≡ deeper (eqb push 1) depth ⌝ }
-{
-    if push == 1 {
-        states::wide(depth) + 1
-    } else {
-        states::wide(depth)
-    }
-}
-
-// How many stacks of depth `deep` there are over one of depth `e`: radix^(deep - e), and 1 where `e` is not below.
-fn stacks_over(radix: usize, deep: usize, e: usize) -> usize
-    requires { ⌜ (0 < radix) × (radix ^ (deep - e) ≤ 1048576) ⌝ }
-    ensures { λ r. ⌜ r ≡ radix ^ (deep - e) ⌝ }
-{
-    if e < deep {
-        states::power(radix, deep - e)
-    } else {
-        1
-    }
-}
-
-// The position `c`, if the target's may come after it: each line, for each stack that it can leave.
-pub fn one_spot(
-    work: &mut [u32],
-    plan: Plan,
-    kinds: &[u8; 64],
-    tests: &[u8; 64],
-    levels: &[u8; 64],
-    depths: &[u8; 64],
-    pushes: &[u8; 64],
-    follow: &[u64; 64],
-    target: Target,
-    d: u32,
-    c: usize,
-    tail: usize,
-) -> usize
-    requires { ⌜ Ready (plan .base) (plan .size) tail (now work) ⌝ }
-    requires { ⌜ Backing plan (columns (now kinds) (now tests) (now levels) (now depths) (now pushes) (now follow)) (now work) ⌝ }
-    requires { ⌜ Aimed plan target ⌝ }
-    requires { ⌜ (0 < d) × (d ≤ suc tail) × (c < plan .done) ⌝ }
-    ensures { λ r. ⌜ Step (plan .base) (plan .size) (spotTurn (columns (now (kinds .entry)) (now (tests .entry)) (now (levels .entry)) (now (depths .entry)) (now (pushes .entry)) (now (follow .entry))) plan (front plan (now (work .entry))) target d c) tail (now (work .entry)) r (now (work .exit)) ⌝ }
-{
-    if (follow[c] >> target.position) % 2 == 1 {
-        let spot = states::spot_at(kinds, tests, levels, depths, pushes, follow, plan.radix, c);
-        let count = stacks_over(plan.radix, leaves_of(depths[c], pushes[c]), target.depth);
-        return over_lines(work, plan, spot, target, d, c, count, tail);
-    }
-    tail
-}
-
-// The state `t` is expanded: each state before it that has no word gets the word `d`.
-pub fn expand_state(
-    work: &mut [u32],
-    plan: Plan,
-    kinds: &[u8; 64],
-    tests: &[u8; 64],
-    levels: &[u8; 64],
-    depths: &[u8; 64],
-    pushes: &[u8; 64],
-    follow: &[u64; 64],
-    d: u32,
-    t: usize,
-    tail: usize,
-) -> usize
-    requires { ⌜ Ready (plan .base) (plan .size) tail (now work) ⌝ }
-    requires { ⌜ Backing plan (columns (now kinds) (now tests) (now levels) (now depths) (now pushes) (now follow)) (now work) ⌝ }
-    requires { ⌜ (0 < d) × (d ≤ suc tail) × (t < plan .size) ⌝ }
-    ensures { λ r. ⌜ Step (plan .base) (plan .size) (expand (settingIn (columns (now (kinds .entry)) (now (tests .entry)) (now (levels .entry)) (now (depths .entry)) (now (pushes .entry)) (now (follow .entry))) plan (front plan (now (work .entry)))) d t) tail (now (work .entry)) r (now (work .exit)) ⌝ }
-{
-    let target = states::target_of(depths, plan, t);
-    let done = plan.done;
-    let mut u = tail;
-    for c in 0..done {
-        u = one_spot(
-            work,
-            plan,
-            kinds,
-            tests,
-            levels,
-            depths,
-            pushes,
-            follow,
-            target,
-            d,
-            c,
-            u,
-        );
-    }
-    u
-}
-
-// Phase one from a queue with `tail` states in it: states are expanded until none waits.
+// Phase one from a queue with `tail` states in it: states are expanded until none waits or a first state is met. The first states
+// are those at the place `from`, at the positions of the mask `begin`.
 pub fn search_back(
     work: &mut [u32],
     plan: Plan,
+    filed: bool,
     kinds: &[u8; 64],
     tests: &[u8; 64],
     levels: &[u8; 64],
     depths: &[u8; 64],
     pushes: &[u8; 64],
     follow: &[u64; 64],
+    begin: u64,
+    from: usize,
     tail: usize,
 ) -> usize
     requires { ⌜ Ready (plan .base) (plan .size) tail (now work) ⌝ }
-    requires { ⌜ Backing plan (columns (now kinds) (now tests) (now levels) (now depths) (now pushes) (now follow)) (now work) ⌝ }
-    ensures { λ r. ⌜ Step (plan .base) (plan .size) (run (expand (settingIn (columns (now (kinds .entry)) (now (tests .entry)) (now (levels .entry)) (now (depths .entry)) (now (pushes .entry)) (now (follow .entry))) plan (front plan (now (work .entry))))) (plan .size) 0) tail (now (work .entry)) r (now (work .exit)) ⌝ }
+    requires { ⌜ Backing filed plan (columns (now kinds) (now tests) (now levels) (now depths) (now pushes) (now follow)) (now work) ⌝ }
+    requires { ⌜ from < plan .places ⌝ }
+    ensures { λ r. ⌜ Stopped (plan .base) (plan .size) (expand (settingIn (columns (now (kinds .entry)) (now (tests .entry)) (now (levels .entry)) (now (depths .entry)) (now (pushes .entry)) (now (follow .entry))) plan (front plan (now (work .entry))))) (firstStates plan begin from) opened tail (now (work .entry)) r (now (work .exit)) ⌝ }
 {
     let mut t = tail;
     let mut head = 0;
+    let mut last = 0;
     while head < t {
         let s = states::waiting(work, plan.base, plan.size, t, head);
-        let d = states::dist_at(work, plan.base, plan.size, t, s) + 1;
-        t = expand_state(
+        let d = states::dist_at(work, plan.base, plan.size, t, s);
+        if first_met(work, plan, begin, from, d, last) {
+            return t;
+        }
+        t = expanding::expand_state(
             work,
             plan,
+            filed,
             kinds,
             tests,
             levels,
             depths,
             pushes,
             follow,
-            d,
+            d + 1,
             s,
             t,
         );
         head += 1;
+        last = d;
     }
     t
 }
 
-// Phase one: the distance of every state to the end position at the place `to`. Returns how many states have one.
+// Phase one: the distances of states to the end position at the place `to`, until none waits or a first state is met. Returns how
+// many states have one.
 pub fn distances(
     work: &mut [u32],
     plan: Plan,
+    filed: bool,
     kinds: &[u8; 64],
     tests: &[u8; 64],
     levels: &[u8; 64],
     depths: &[u8; 64],
     pushes: &[u8; 64],
     follow: &[u64; 64],
+    begin: u64,
+    from: usize,
     to: usize,
 ) -> usize
-    requires { ⌜ Backing plan (columns (now kinds) (now tests) (now levels) (now depths) (now pushes) (now follow)) (now work) ⌝ }
-    requires { ⌜ to < plan .places ⌝ }
-    ensures { λ r. ⌜ Step (plan .base) (plan .size) (backward (settingIn (columns (now (kinds .entry)) (now (tests .entry)) (now (levels .entry)) (now (depths .entry)) (now (pushes .entry)) (now (follow .entry))) plan (front plan (now (work .entry)))) (plan .size) to) 0 (now (work .entry)) r (now (work .exit)) ⌝ }
+    requires { ⌜ Backing filed plan (columns (now kinds) (now tests) (now levels) (now depths) (now pushes) (now follow)) (now work) ⌝ }
+    requires { ⌜ (from < plan .places) × (to < plan .places) ⌝ }
+    ensures { λ r. ⌜ Stopped (plan .base) (plan .size) (expand (settingIn (columns (now (kinds .entry)) (now (tests .entry)) (now (levels .entry)) (now (depths .entry)) (now (pushes .entry)) (now (follow .entry))) plan (front plan (now (work .entry))))) (firstStates plan begin from) (fromGoal (settingIn (columns (now (kinds .entry)) (now (tests .entry)) (now (levels .entry)) (now (depths .entry)) (now (pushes .entry)) (now (follow .entry))) plan (front plan (now (work .entry)))) (plan .size) to) 0 (now (work .entry)) r (now (work .exit)) ⌝ }
 {
     let base = plan.base;
     let size = plan.size;
@@ -471,7 +250,20 @@ pub fn distances(
         states::state_at(plan, to, plan.done, 0),
         0,
     );
-    search_back(work, plan, kinds, tests, levels, depths, pushes, follow, t)
+    search_back(
+        work,
+        plan,
+        filed,
+        kinds,
+        tests,
+        levels,
+        depths,
+        pushes,
+        follow,
+        begin,
+        from,
+        t,
+    )
 }
 
 // ---- phase two: marks and frontiers are the pair after the distances
@@ -514,6 +306,42 @@ pub fn nearest(work: &[u32], plan: Plan, begin: u64, from: usize) -> u32
         v = one_first(work, plan, begin, from, k, v);
     }
     v
+}
+
+// ---- the lines in order of the place that they come from, after the frontiers
+
+// Where they stand, in an area of so many words.
+fn starts_at(plan: Plan, area: usize) -> usize
+    requires { ⌜ Laid plan area ⌝ }
+    ensures { λ r. ⌜ r ≡ startsAt plan ⌝ }
+{
+    plan.base + plan.size + plan.size + plan.size
+}
+
+// Is there room for them in an area of so many words?
+fn fits(plan: Plan, area: usize) -> bool
+    requires { ⌜ Laid plan area ⌝ }
+    ensures { λ r. ⌜ (r ≡ true → Roomy plan area) × (Roomy plan area → r ≡ true) ⌝ }
+{
+    let at = starts_at(plan, area);
+    let words = plan.places + 1 + plan.lines;
+    if area - at < words {
+        return false;
+    }
+    at + words < 4294967296
+}
+
+// They are put there, where there is room. No word before them changes.
+fn order_lines(work: &mut [u32], plan: Plan)
+    requires { ⌜ Laid plan (length (now work)) ⌝ }
+    requires { ⌜ Starts plan (front plan (now work)) ⌝ }
+    ensures { λ _. ⌜ Ordered plan (now (work .exit)) ⌝ }
+    ensures { λ _. ⌜ (take (startsAt plan) (now (work .exit)) ≡ take (startsAt plan) (now (work .entry))) × (length (now (work .exit)) ≡ length (now (work .entry))) ⌝ }
+{
+    if fits(plan, work.len()) {
+        let at = starts_at(plan, work.len());
+        sorting::sort_lines(work, plan, Order::Start, at);
+    }
 }
 
 // Line `i` from each state of the frontier, which stands in the queue from index `lo` on.
@@ -566,8 +394,8 @@ pub struct Choice {
     pub tail: usize,
 }
 
-// The least line that leads from the frontier to states with the word `want`; the count of lines where none does.
-pub fn choose_line(
+// The least line that leads from the frontier to states with the word `want`, of all lines; the count of lines where none does.
+fn choose_all(
     work: &mut [u32],
     plan: Plan,
     kinds: &[u8; 64],
@@ -583,8 +411,7 @@ pub fn choose_line(
     requires { ⌜ Ready (plan .base + plan .size) (plan .size) tail (now work) ⌝ }
     requires { ⌜ Fit plan (columns (now kinds) (now tests) (now levels) (now depths) (now pushes) (now follow)) (now work) ⌝ }
     requires { ⌜ (0 < want) × (lo ≤ tail) ⌝ }
-    ensures { λ r. ⌜ (r .line ≡ try (fromState (settingIn (columns (now (kinds .entry)) (now (tests .entry)) (now (levels .entry)) (now (depths .entry)) (now (pushes .entry)) (now (follow .entry))) plan (front plan (now (work .entry)))) (stretch (plan .base) (plan .size) (now (work .entry)))) want lo (plan .lines) 0 (found (plan .base + plan .size) (plan .size) tail (now (work .entry))) .line) × (r .line ≤ plan .lines) ⌝ }
-    ensures { λ r. ⌜ Step (plan .base + plan .size) (plan .size) (tryTable (fromState (settingIn (columns (now (kinds .entry)) (now (tests .entry)) (now (levels .entry)) (now (depths .entry)) (now (pushes .entry)) (now (follow .entry))) plan (front plan (now (work .entry)))) (stretch (plan .base) (plan .size) (now (work .entry)))) want lo (plan .lines) 0) tail (now (work .entry)) (r .tail) (now (work .exit)) ⌝ }
+    ensures { λ r. ⌜ Chose plan (columns (now (kinds .entry)) (now (tests .entry)) (now (levels .entry)) (now (depths .entry)) (now (pushes .entry)) (now (follow .entry))) want lo tail (now (work .entry)) (r .line) (r .tail) (now (work .exit)) ⌝ }
 {
     let lines = plan.lines;
     let mut i = 0;
@@ -611,6 +438,119 @@ pub fn choose_line(
     Choice { line: i, tail }
 }
 
+// The place of the frontier, which stands in the queue from index `lo` on; any place where it is empty.
+fn place_of(work: &[u32], plan: Plan, lo: usize, tail: usize) -> usize
+    requires { ⌜ Ready (plan .base + plan .size) (plan .size) tail (now work) ⌝ }
+    requires { ⌜ Laid plan (length (now work)) ⌝ }
+    requires { ⌜ Together plan lo tail (now work) ⌝ }
+    ensures { λ r. ⌜ (r < plan .places) × Standing plan r lo tail (now (work .entry)) ⌝ }
+{
+    if lo < tail {
+        let s = states::waiting(work, plan.base + plan.size, plan.size, tail, lo);
+        return s / plan.stacks / (plan.done + 1);
+    }
+    0
+}
+
+// The same, of the lines that come from the frontier's place: lines from elsewhere lead nowhere.
+fn choose_here(
+    work: &mut [u32],
+    plan: Plan,
+    kinds: &[u8; 64],
+    tests: &[u8; 64],
+    levels: &[u8; 64],
+    depths: &[u8; 64],
+    pushes: &[u8; 64],
+    follow: &[u64; 64],
+    want: u32,
+    lo: usize,
+    tail: usize,
+) -> Choice
+    requires { ⌜ Ready (plan .base + plan .size) (plan .size) tail (now work) ⌝ }
+    requires { ⌜ Leading plan (columns (now kinds) (now tests) (now levels) (now depths) (now pushes) (now follow)) (now work) ⌝ }
+    requires { ⌜ Roomy plan (length (now work)) ⌝ }
+    requires { ⌜ (0 < want) × (lo ≤ tail) × Together plan lo tail (now work) ⌝ }
+    ensures { λ r. ⌜ Chose plan (columns (now (kinds .entry)) (now (tests .entry)) (now (levels .entry)) (now (depths .entry)) (now (pushes .entry)) (now (follow .entry))) want lo tail (now (work .entry)) (r .line) (r .tail) (now (work .exit)) ⌝ }
+{
+    let q = place_of(work, plan, lo, tail);
+    let run = sorting::run_of(work, plan, Order::Start, starts_at(plan, work.len()), q);
+    let mut k = run.lo;
+    while k < run.hi {
+        let i = states::word(work, k) as usize;
+        let t = gather_line(
+            work,
+            plan,
+            kinds,
+            tests,
+            levels,
+            depths,
+            pushes,
+            follow,
+            want,
+            i,
+            lo,
+            tail,
+        );
+        if t != tail {
+            return Choice { line: i, tail: t };
+        }
+        k += 1;
+    }
+    Choice {
+        line: plan.lines,
+        tail,
+    }
+}
+
+// The same, by the lines in order where there is room for them.
+pub fn choose_line(
+    work: &mut [u32],
+    plan: Plan,
+    kinds: &[u8; 64],
+    tests: &[u8; 64],
+    levels: &[u8; 64],
+    depths: &[u8; 64],
+    pushes: &[u8; 64],
+    follow: &[u64; 64],
+    want: u32,
+    lo: usize,
+    tail: usize,
+) -> Choice
+    requires { ⌜ Ready (plan .base + plan .size) (plan .size) tail (now work) ⌝ }
+    requires { ⌜ Leading plan (columns (now kinds) (now tests) (now levels) (now depths) (now pushes) (now follow)) (now work) ⌝ }
+    requires { ⌜ (0 < want) × (lo ≤ tail) × Together plan lo tail (now work) ⌝ }
+    ensures { λ r. ⌜ Chose plan (columns (now (kinds .entry)) (now (tests .entry)) (now (levels .entry)) (now (depths .entry)) (now (pushes .entry)) (now (follow .entry))) want lo tail (now (work .entry)) (r .line) (r .tail) (now (work .exit)) ⌝ }
+{
+    if fits(plan, work.len()) {
+        return choose_here(
+            work,
+            plan,
+            kinds,
+            tests,
+            levels,
+            depths,
+            pushes,
+            follow,
+            want,
+            lo,
+            tail,
+        );
+    }
+    choose_all(
+        work,
+        plan,
+        kinds,
+        tests,
+        levels,
+        depths,
+        pushes,
+        follow,
+        want,
+        lo,
+        tail,
+    )
+}
+
 // The `far` lines chosen one after the other, from a first frontier of `tail` states, written into the front of `out`.
 pub fn walk_lines(
     work: &mut [u32],
@@ -626,8 +566,8 @@ pub fn walk_lines(
     out: &mut [u16],
 )
     requires { ⌜ Ready (plan .base + plan .size) (plan .size) tail (now work) ⌝ }
-    requires { ⌜ Fit plan (columns (now kinds) (now tests) (now levels) (now depths) (now pushes) (now follow)) (now work) ⌝ }
-    requires { ⌜ far ≤ length (now out) ⌝ }
+    requires { ⌜ Leading plan (columns (now kinds) (now tests) (now levels) (now depths) (now pushes) (now follow)) (now work) ⌝ }
+    requires { ⌜ (far ≤ length (now out)) × Together plan 0 tail (now work) ⌝ }
     ensures { λ _. ⌜ now (out .exit) ≡ walk (fromState (settingIn (columns (now (kinds .entry)) (now (tests .entry)) (now (levels .entry)) (now (depths .entry)) (now (pushes .entry)) (now (follow .entry))) plan (front plan (now (work .entry)))) (stretch (plan .base) (plan .size) (now (work .entry)))) (plan .lines) far 0 (found (plan .base + plan .size) (plan .size) tail (now (work .entry))) ++ drop far (now (out .entry)) ⌝ }
 {
     let mut lo = 0;
@@ -675,6 +615,7 @@ pub fn chain_into(
     requires { ⌜ (from < plan .places) × (0 < nearest) × (nearest ≤ suc (length (now out))) ⌝ }
     ensures { λ _. ⌜ now (out .exit) ≡ walk (fromState (settingIn (columns (now (kinds .entry)) (now (tests .entry)) (now (levels .entry)) (now (depths .entry)) (now (pushes .entry)) (now (follow .entry))) plan (front plan (now (work .entry)))) (stretch (plan .base) (plan .size) (now (work .entry)))) (plan .lines) (nearest - 1) 0 (loop (put (stretch (plan .base) (plan .size) (now (work .entry))) nearest) (firstStates plan begin from) (blank (plan .size))) ++ drop (nearest - 1) (now (out .entry)) ⌝ }
 {
+    order_lines(work, plan);
     states::clear_stretch(work, plan.base + plan.size, plan.size);
     let tail = over_next(work, plan, depths, begin, nearest, from, 0, 0);
     walk_lines(

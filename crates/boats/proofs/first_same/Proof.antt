@@ -1,61 +1,82 @@
--- `boats::first_same` meets its contract. The invariant: no line passed has the boat of line i. Assumes nothing.
-use mathlib.Core.Path.{_≡_, sym, _∙_}
-use mathlib.Core.Bool.{false}
-use Prim.Native.Nat.{ℕ, _-_, _<_, _≤_}
+-- `boats::first_same` meets its contract: the walk passes no first line with the boat of line i. Assumes nothing.
+use mathlib.Core.Path.{_≡_, sym, _∙_, subst}
+use Prim.Native.Nat.{suc, _-_, _<_}
 use native.Mathlib.Omega.{arith}
-use borrow.Author.Count.{below-more}
-use Rattle.meaning.specs.Record.{agree}
-use Rattle.meaning.specs.Writing.{lineAt}
-use Rattle.boats.specs.Boats.{agree-self, word-agree, word-differ, first-is}
-use Rattle.record.specs.Whole.{linesOf}
+use Rattle.boats.specs.Boats.{word-agree, word-differ}
+use Rattle.boats.specs.Buckets.{Latest}
+use Rattle.record.specs.Whole.{linesOf, lines-short}
+use Rattle.boats.proofs.Bucketing.{Met, met-from, met-none, met-hit, met-down, met-next}
 use borrow.Author.Needs.{needs}
 use Rattle.boats.proofs.first_same.Statement.{statement}
 use Rattle.boats.proofs.first_same.Tie as tie
 
 abbrev Inv-loop : tie.InvT-loop
-Inv-loop day i boat j₀ j =
-    (j ≤ i) × ((k : ℕ) → k < j → agree (lineAt (linesOf day) i .boat) (lineAt (linesOf day) k .boat) ≡ false)
+Inv-loop day i boat head links at₀ at = Met (linesOf day) i at
 
 abbrev μ-loop : tie.MeasureT-loop
-μ-loop day i boat j₀ j = i - j
+μ-loop day i boat head links at₀ at = at
 
-boat-at-requires : tie.Need-boat-at-requires Inv-loop μ-loop
-boat-at-requires c κs = search needs
+wide-requires : tie.Need-wide-requires Inv-loop μ-loop
+wide-requires c κs = search needs
 
 loop-holds : tie.Need-loop-holds Inv-loop μ-loop
-loop-holds c = (omega arith, λ k less. absurd (omega (arith, less)))
+loop-holds c =
+    let a = c .before .before in
+    met-from (linesOf (a .args .day .now)) (a .args .i) (a .pre .0) (subst (Latest (linesOf (a .args .day .now)) _ (a .args .i)) (sym (c .wide .ensures)) (a .pre .1 .1 .0))
 
-boat-at-requires-2 : tie.Need-boat-at-requires-2 Inv-loop μ-loop
-boat-at-requires-2 c κs = omega (arith, c .before .before .before .before .pre)
+sub-j : tie.Need-sub-j Inv-loop μ-loop
+sub-j c = omega (arith, c .loop-test .taken)
+
+boat-at-requires : tie.Need-boat-at-requires Inv-loop μ-loop
+boat-at-requires c κs = omega (arith, c .loop-test .taken, c .before .loop .inv .early, c .before .before .before .before .pre .0)
+
+-- the line that the walk has come to
+back : (c : tie.In-loop Inv-loop μ-loop) → c .before .loop .at ≡ suc (c .before .loop .at - 1)
+back c = omega (arith, c .loop-test .taken)
+
+low : (c : tie.In-loop Inv-loop μ-loop) → c .before .loop .at - 1 < 4096
+low c = let a = c .before .before .before .before in omega (arith, c .loop-test .taken, c .before .loop .inv .early, a .pre .0, lines-short (a .args .day .now))
 
 returns : tie.Need-returns Inv-loop μ-loop
 returns c =
-    let b = c .before .before .before in
-    let a = b .before .before .before in
-    let one = b .before .boat-at .ensures in
-    let two = c .before .boat-at2 .ensures in
-    sym (first-is _ (linesOf (a .args .day .now)) (b .loop .j) (omega (arith, a .pre, c .before .before .loop-test .taken)) (b .loop .inv .1) (word-agree _ _ (one .small) (two .small) (sym (one .is) ∙ (sym (c .if1 .taken) ∙ two .is))))
+    let b = c .before .before in
+    let a = b .before .before .before .before in
+    let one = a .pre .1 .0 in
+    let two = c .before .boat-at .ensures in
+    sym (met-hit (linesOf (a .args .day .now)) (a .args .i) (a .pre .0) (b .before .loop .inv) _ (back b) (word-agree _ _ (one .small) (two .small) (sym (one .is) ∙ (sym (c .if1 .taken) ∙ two .is))))
 
-add-j : tie.Need-add-j Inv-loop μ-loop
-add-j c = search needs
+mul-wide : tie.Need-mul-wide Inv-loop μ-loop
+mul-wide c = omega (arith, low (c .before .before))
+
+element-copy-out-wide : tie.Need-element-copy-out-wide Inv-loop μ-loop
+element-copy-out-wide c = low (c .before .before)
+
+wide-requires-2 : tie.Need-wide-requires-2 Inv-loop μ-loop
+wide-requires-2 c κs = search needs
+
+-- the walk goes on
+on : (c : tie.After-wide2 Inv-loop μ-loop) → let a = c .before .before .before .before .before .before .before .before in Met (linesOf (a .args .day .now)) (a .args .i) (c .wide2 .result)
+on c =
+    let k = c .before .before .before in
+    let b = k .before in
+    let a = b .before .before .before .before in
+    let one = a .pre .1 .0 in
+    let two = k .boat-at .ensures in
+    subst (Met (linesOf (a .args .day .now)) (a .args .i)) (sym (c .wide2 .ensures)) (met-next (linesOf (a .args .day .now)) (a .args .i) (a .pre .0) (b .before .loop .inv) _ (back b) (a .args .links .now) (a .pre .1 .1 .1) (word-differ _ _ (one .small) (two .small) (λ e. c .before .before .if1 .left (two .is ∙ (sym e ∙ sym (one .is))))))
 
 loop-less : tie.Need-loop-less Inv-loop μ-loop
-loop-less c = omega arith
+loop-less c =
+    let b = c .before .before .before .before in
+    let a = b .before .before .before .before in
+    omega (arith, c .wide2 .ensures, back b, met-down (linesOf (a .args .day .now)) (a .args .i) (a .pre .0) (b .before .loop .inv) _ (back b) (a .args .links .now) (a .pre .1 .1 .1))
 
 loop-again : tie.Need-loop-again Inv-loop μ-loop
-loop-again c =
-    let b = c .before .before .before in
-    let one = b .before .boat-at .ensures in
-    let two = c .before .boat-at2 .ensures in
-    (omega (arith, c .before .before .loop-test .taken), below-more _ _ (b .loop .inv .1) (word-differ _ _ (one .small) (two .small) (λ e. c .if1 .left (two .is ∙ (sym e ∙ sym (one .is))))))
+loop-again c = on c
 
 returns-2 : tie.Need-returns-2 Inv-loop μ-loop
 returns-2 c =
     let a = c .before .before .before .before in
-    let i = a .args .i in
-    let lines = linesOf (a .args .day .now) in
-    let all : c .before .loop .j ≡ i = omega (arith, c .loop-test .left, c .before .loop .inv .0) in
-    sym (first-is (lineAt lines i .boat) lines i (a .pre) (λ k less. c .before .loop .inv .1 k (omega (arith, less, all))) (agree-self (lineAt lines i .boat)))
+    sym (met-none (linesOf (a .args .day .now)) (a .args .i) (a .pre .0) (c .before .loop .inv) (omega (arith, c .loop-test .left)))
 
 pub first-same-spec : {M : Type 1} → statement M
 first-same-spec =
@@ -63,11 +84,14 @@ first-same-spec =
     (tie.spec
     Inv-loop
     μ-loop
-    boat-at-requires
+    wide-requires
     loop-holds
-    boat-at-requires-2
+    sub-j
+    boat-at-requires
     returns
-    add-j
+    mul-wide
+    element-copy-out-wide
+    wide-requires-2
     loop-less
     loop-again
     returns-2)

@@ -2,7 +2,7 @@
 use mathlib.Core.Path.{sym, _∙_, subst}
 use Prim.Native.Nat.{_<_}
 use Rattle.workspace.proofs.Posing.{posed-fit}
-use Rattle.checker.proofs.Posing.{posed-fresh, posed-check}
+use Rattle.checker.proofs.Posing.{posed-within, posed-check}
 use borrow.Author.Needs.{needs}
 use Rattle.checker.proofs.accepted.Statement.{statement}
 use Rattle.checker.proofs.accepted.Tie as tie
@@ -21,7 +21,7 @@ leads-requires c κs =
     let compiled = made .0 (q .pattern) (posed .reads) in
     let places = sym (posed .planned .places-are) in (
       posed-fit posed compiled (made .1 (q .pattern) (posed .reads)),
-      (posed-fresh posed compiled, (subst (a .args .from <_) places (posed .from-low), subst (a .args .to <_) places (posed .to-low), a .pre .1)),
+      (posed-within posed compiled, (subst (a .args .from <_) places (posed .from-low), subst (a .args .to <_) places (posed .to-low), a .pre .1)),
     )
 
 same-length : tie.Need-same-length

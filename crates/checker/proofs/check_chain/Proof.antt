@@ -7,7 +7,8 @@ use native.Mathlib.Omega.{arith}
 use lib.ListN.{length, getD}
 use Rattle.meaning.specs.Outcome.{Reply, refusal, value, told}
 use Rattle.meaning.specs.Request.{askRequest, workAfter}
-use Rattle.request.specs.Reply.{requestNumber}
+use Rattle.record.specs.Whole.{linesOf}
+use Rattle.request.specs.Reply.{Numbers, requestNumber}
 use Rattle.request.specs.Told.{Parts, asked-parts, answers-refused, Told, answers-asked, told-loading, all-zero}
 use Rattle.request.specs.declared.Plan.{Plan}
 use Rattle.search.specs.Check.{exist}
@@ -45,14 +46,14 @@ number-requires c κs = search needs
 
 returns : tie.Need-returns
 returns c =
-    let a = c .before .before .before .before .before .before .before .before in
+    let a = c .before .before .before .before .before .before .before .before .before in
     let x = a .args in
     let t = c .before .enum-told .given .1 in
-    let e = answers-refused (askRequest (x .day .now) (x .pattern .now) (x .from) (x .to) (length (x .work .now))) (length (x .work .now)) _ _ (c .before .before .before .ask-request .ensures) t in
+    let e = answers-refused (askRequest (x .day .now) (x .pattern .now) (x .from) (x .to) (length (x .work .now))) (length (x .work .now)) _ _ (c .before .before .before .ask-request .ensures .0) t in
     let is : Reply-is a (refusal (c .number .result) 0) =
     ap (λ (n : ℕ). refusal n 0) (c .number .ensures ∙ ap requestNumber t)
     ∙ sym (ap told (check-refused (x .day .now) (x .pattern .now) (x .from) (x .to) (x .chain .now) (length (x .work .now)) _ e)) in
-    let bytes = c .before .before .before .before .before .before .before .shared-slice-known in
+    let bytes = c .before .before .before .before .before .before .before .before .shared-slice-known in
     (is, (sym (ap (λ o. workAfter o (x .work .now)) e), demanded a (λ i. omega (arith, bytes .given i)) _ is))
 
 -- ---- where questions 1 to 17 are passed
@@ -66,7 +67,7 @@ not-false true h = refl
 not-false false h = absurd (false≢true (sym h))
 
 abbrev start : tie.After-known-told → tie.Start
-start c = c .before .before .before .before .before .before .before .before
+start c = c .before .before .before .before .before .before .before .before .before
 
 abbrev plan : tie.After-known-told → Plan
 plan c = c .before .asked .given .0 .0
@@ -74,13 +75,13 @@ plan c = c .before .asked .given .0 .0
 passed-on : (c : tie.After-known-told) → Told (askRequest (start c .args .day .now) (start c .args .pattern .now) (start c .args .from) (start c .args .to) (length (start c .args .work .now))) (length (start c .args .work .now)) (plan c)
 passed-on c =
     let x = start c .args in
-    answers-asked (askRequest (x .day .now) (x .pattern .now) (x .from) (x .to) (length (x .work .now))) (length (x .work .now)) _ _ (c .before .before .before .ask-request .ensures) (c .before .asked .given .1)
+    answers-asked (askRequest (x .day .now) (x .pattern .now) (x .from) (x .to) (length (x .work .now))) (length (x .work .now)) _ _ (c .before .before .before .ask-request .ensures .0) (c .before .asked .given .1)
 
 parts : (c : tie.After-known-told) → Parts (start c .args .day .now) (start c .args .pattern .now) (start c .args .from) (start c .args .to) (passed-on c .asked)
 parts c = let x = start c .args in asked-parts (x .day .now) (x .pattern .now) (x .from) (x .to) (length (x .work .now)) (passed-on c .asked) (passed-on c .is)
 
 low : (c : tie.After-known-told) (i : ℕ) → getD (start c .args .day .now) i 0 < 256
-low c i = omega (arith, c .before .before .before .before .before .before .before .shared-slice-known .given i)
+low c i = omega (arith, c .before .before .before .before .before .before .before .before .shared-slice-known .given i)
 
 -- the numbers are those of lines of what passed
 exist-as : (c : tie.After-known-told) → exist (length (passed-on c .asked .day .lines)) (start c .args .chain .now) ≡ exist (plan c .lines) (start c .args .chain .now)
@@ -107,15 +108,17 @@ returns-2 c =
     (is, (c .before .before .clear .ensures ∙ sym (ap (λ o. workAfter o (x .work .now)) (t .is)), demanded a (low k) _ is))
 
 load-requires : tie.Need-load-requires
-load-requires c κs = let k = c .before .before .before in told-loading (passed-on k) (parts k)
+load-requires c κs =
+    let k = c .before .before .before .before in
+    (told-loading (passed-on k) (parts k), subst (Numbers (linesOf (start k .args .day .now)) (k .before .before .before .ask-request .last .1 .1 .1 .1 .1 .0)) (k .before .asked .given .1) (k .before .before .before .ask-request .ensures .1))
 
 -- ---- where the record is loaded
 
 accepted-requires : tie.Need-accepted-requires
 accepted-requires c κs =
-    let k = c .before .before .before .before .before .before .before in
-    let all = sym (c .before .before .before .before .before .before .lines-exist .ensures) ∙ not-false _ (c .before .before .before .before .before .if1 .left) in
-    ((passed-on k .asked, posed-from (passed-on k) (parts k) (low k) _ (c .before .before .before .load .ensures)), all)
+    let k = c .before .before .before .before .before .before .before .before in
+    let all = sym (c .before .before .before .before .before .before .before .lines-exist .ensures) ∙ not-false _ (c .before .before .before .before .before .before .if1 .left) in
+    ((passed-on k .asked, posed-from (start k .args .work .now) (passed-on k) (parts k) (low k) _ (c .before .before .before .load .ensures)), all)
 
 clear-requires-2 : tie.Need-clear-requires-2
 clear-requires-2 c κs = search needs
@@ -125,18 +128,18 @@ same-length-2 c = search needs
 
 -- the reply is what `accepted` said
 answered : (c : tie.After-slice-known5) (b : Bool) → c .before .before .before .before .before .before .accepted .result ≡ b
-    → Reply-is (start (c .before .before .before .before .before .before .before .before .before .before .before .before .before .before)) (value b)
+    → Reply-is (start (c .before .before .before .before .before .before .before .before .before .before .before .before .before .before .before)) (value b)
 answered c b e =
-    let k = c .before .before .before .before .before .before .before .before .before .before .before .before .before .before in
+    let k = c .before .before .before .before .before .before .before .before .before .before .before .before .before .before .before in
     let x = start k .args in
     let t = passed-on k in
-    let all = sym (c .before .before .before .before .before .before .before .before .before .before .before .before .before .lines-exist .ensures) ∙ not-false _ (c .before .before .before .before .before .before .before .before .before .before .before .before .if1 .left) in
-    let right = c .before .before .before .before .before .before .accepted .ensures (t .asked) (posed-from t (parts k) (low k) _ (c .before .before .before .before .before .before .before .before .before .before .load .ensures)) in
+    let all = sym (c .before .before .before .before .before .before .before .before .before .before .before .before .before .before .lines-exist .ensures) ∙ not-false _ (c .before .before .before .before .before .before .before .before .before .before .before .before .before .if1 .left) in
+    let right = c .before .before .before .before .before .before .accepted .ensures (t .asked) (posed-from (x .work .now) t (parts k) (low k) _ (c .before .before .before .before .before .before .before .before .before .before .load .ensures)) in
     sym (ap told (check-said (x .day .now) (x .pattern .now) (x .from) (x .to) (x .chain .now) (length (x .work .now)) (t .asked) (t .is) (exist-as k ∙ all) b (sym e ∙ right)))
 
 returns-3 : tie.Need-returns-3
 returns-3 c =
-    let k = c .before .before .before .before .before .before .before .before .before .before .before .before .before .before .before in
+    let k = c .before .before .before .before .before .before .before .before .before .before .before .before .before .before .before .before in
     let is = answered (c .before) true (c .if2 .taken) in
     let area = all-zero (length (c .before .before .before .before .before .before .before .accepted .last .1 .1 .1 .1 .1 .0)) _ _ (c .before .before .before .clear2 .ensures) (same-length-2 c) in
     (is, (area ∙ sym (ap (λ o. workAfter o (start k .args .work .now)) (passed-on k .is)), demanded (start k) (low k) _ is))
@@ -146,7 +149,7 @@ same-length-3 c = search needs
 
 returns-4 : tie.Need-returns-4
 returns-4 c =
-    let k = c .before .before .before .before .before .before .before .before .before .before .before .before .before .before .before in
+    let k = c .before .before .before .before .before .before .before .before .before .before .before .before .before .before .before .before in
     let is = answered (c .before) false (c .if2 .left) in
     let area = all-zero (length (c .before .before .before .before .before .before .before .accepted .last .1 .1 .1 .1 .1 .0)) _ _ (c .before .before .before .clear2 .ensures) (same-length-3 c) in
     (is, (area ∙ sym (ap (λ o. workAfter o (start k .args .work .now)) (passed-on k .is)), demanded (start k) (low k) _ is))

@@ -10,7 +10,7 @@ use Rattle.search.specs.Loaded.{settingIn}
 use Rattle.states.specs.Spots.{front}
 use Rattle.states.proofs.Changes.{loop-start, loop-turn, loop-end, under-stretch, under-front}
 use Rattle.checker.specs.Walk.{marks, listTurn}
-use Rattle.workspace.proofs.Backs.{fit-same}
+use Rattle.expanding.proofs.Backs.{fit-same}
 use Rattle.checker.proofs.Moving.{front-word}
 use borrow.Author.Needs.{needs}
 use Rattle.checker.proofs.gather.Statement.{statement}

@@ -1,10 +1,11 @@
--- `checker::leads` meets its contract: the mask's positions are the first set, the chain moves it, and the end's mark says whether it
+-- `checker::leads` meets its contract: in the cleared pair the mask's positions are the first set, the chain moves it, and the end's mark says whether it
 -- came there. Assumes nothing.
-use mathlib.Core.Path.{_≡_, sym, ap, _∙_}
+use mathlib.Core.Path.{_≡_, sym, ap, _∙_, subst}
 use mathlib.Core.Bool.{Bool, true, false}
 use native.Mathlib.Omega.{arith}
 use lib.ListN.{length}
 use Rattle.automaton.specs.Columns.{Columns, columns, members}
+use Rattle.request.specs.Layout.{Laid}
 use Rattle.search.specs.Plain.{memb}
 use Rattle.search.specs.Product.{succs}
 use Rattle.search.specs.Along.{goal, starting}
@@ -13,8 +14,10 @@ use Rattle.search.specs.Loaded.{settingIn}
 use Rattle.states.specs.Spots.{front}
 use Rattle.search.specs.Front.{goal-in}
 use Rattle.states.proofs.Bounds.{stacks-pos}
-use Rattle.checker.specs.Walk.{walked}
-use Rattle.workspace.proofs.Backs.{fit-same}
+use Rattle.states.proofs.Changes.{cleared-under}
+use Rattle.workspace.specs.Chosen.{firstStates}
+use Rattle.checker.specs.Walk.{seeded, walked, marks, Advanced}
+use Rattle.expanding.proofs.Backs.{fit-same}
 use Rattle.checker.proofs.Moving.{begun, verdict}
 use borrow.Author.Needs.{needs}
 use Rattle.checker.proofs.leads.Statement.{statement}
@@ -29,26 +32,45 @@ answer c =
     let S = settingIn (cols c) (c .args .plan) (front (c .args .plan) (c .args .work .now)) in
     memb (goal S (c .args .to)) (moved (succs S) (starting S (c .args .from) (members (c .args .begin))) (c .args .chain .now))
 
+add-clear-stretch : tie.Need-add-clear-stretch
+add-clear-stretch c = omega (arith, c .before .before .before .before .pre .0 .laid .room)
+
+clear-stretch-requires : tie.Need-clear-stretch-requires
+clear-stretch-requires c κs = omega (arith, c .before .before .before .before .pre .0 .laid .room)
+
 over-next-requires : tie.Need-over-next-requires
 over-next-requires c κs =
-    let a = c .before .before .before in
-    (a .pre .1 .0 .ready, (a .pre .0 .laid, (omega (arith, a .pre .1 .1 .0, a .pre .1 .1 .1), a .pre .0 .depths-low)))
+    let a = c .before .before .before .before .before .before .before .before in
+    let p = a .args .plan in
+    let u = cleared-under (marks p) (p .size) (a .args .work .now) (omega (arith, a .pre .0 .laid .room)) (omega (arith, a .pre .0 .laid .small)) in
+    rw (c .before .before .before .clear-stretch .ensures) (u .ready, (subst (Laid p) (sym (u .long)) (a .pre .0 .laid), (omega (arith, a .pre .1 .1 .0, a .pre .1 .1 .1), a .pre .0 .depths-low)))
+
+-- ---- the first set
+
+abbrev top : tie.After-over-next → tie.Start
+top c = c .before .before .before .before .before .before .before .before .before
+
+first-set : (c : tie.After-over-next) → let x = top c .args in Advanced (x .plan) (λ _. seeded (x .plan .size) (firstStates (x .plan) (x .begin) (x .from))) 0 (x .work .now) (c .over-next .result) (c .over-next .last .0)
+first-set c =
+    let a = top c in
+    begun (a .args .plan) (cols a) (a .args .work .now) (a .pre .0) (a .args .begin) (a .args .from) (a .pre .1 .1 .0) (a .pre .1 .0) _ _ (rw (c .before .before .before .before .clear-stretch .ensures) at (c .over-next .ensures))
 
 run-chain-requires : tie.Need-run-chain-requires
 run-chain-requires c κs =
-    let a = c .before .before .before .before .before .before .before in
-    let b = begun (a .args .plan) (cols a) (a .args .work .now) (a .pre .0) (a .args .begin) (a .args .from) (a .pre .1 .1 .0) (a .pre .1 .0) _ _ (c .before .before .before .over-next .ensures) in
+    let o = c .before .before .before in
+    let a = top o in
+    let b = first-set o in
     (fit-same (b .long) (b .front) (a .pre .0), (b .alive, a .pre .1 .1 .2))
 
 state-at-requires : tie.Need-state-at-requires
 state-at-requires c κs =
-    let a = c .before .before .before .before .before .before .before .before .before .before in
+    let a = c .before .before .before .before .before .before .before .before .before .before .before .before .before .before .before in
     let l = a .pre .0 .laid in
     ((l .size-is, l .small, l .few-commands), (omega (arith, a .pre .1 .1 .0, a .pre .1 .1 .1), omega arith, stacks-pos l))
 
 add-dist-at : tie.Need-add-dist-at
 add-dist-at c =
-    let a = c .before .before .before .before .before .before .before .before .before .before .before .before .before in
+    let a = c .before .before .before .before .before .before .before .before .before .before .before .before .before .before .before .before .before .before in
     omega (arith, a .pre .0 .laid .room)
 
 dist-at-requires : tie.Need-dist-at-requires
@@ -58,13 +80,13 @@ dist-at-requires c κs = (c .before .before .before .before .before .run-chain .
 
 -- what the end's word says
 abbrev start : tie.After-dist-at → tie.Start
-start c = c .before .before .before .before .before .before .before .before .before .before .before .before .before .before
+start c = c .before .before .before .before .before .before .before .before .before .before .before .before .before .before .before .before .before .before .before
 
 said : (c : tie.After-dist-at) → (c .dist-at .result ≡ 0 → false ≡ answer (start c)) × ((c .dist-at .result ≡ 0 → ⊥) → true ≡ answer (start c))
 said c =
     let a = start c in
     let p = a .args .plan in
-    let b = begun p (cols a) (a .args .work .now) (a .pre .0) (a .args .begin) (a .args .from) (a .pre .1 .1 .0) (a .pre .1 .0) _ _ (c .before .before .before .before .before .before .before .before .before .before .over-next .ensures) in
+    let b = first-set (c .before .before .before .before .before .before .before .before .before .before) in
     let r = rw (b .front) at (c .before .before .before .before .before .before .run-chain .ensures) in
     let end = c .before .before .before .state-at .ensures .0 ∙ goal-in (cols a) p (length (a .args .work .now)) (a .pre .0 .laid) (front p (a .args .work .now)) (a .args .to) in
     let v = verdict p (cols a) (a .args .work .now) (a .pre .0) (a .args .begin) (a .args .from) (a .pre .1 .1 .0) (a .pre .1 .0) (a .args .chain .now) (a .pre .1 .1 .2) (a .args .to) (a .pre .1 .1 .1) _ (r .now-found ∙ ap (walked _ (p .size) (a .args .chain .now)) (b .now-found)) in
@@ -87,6 +109,8 @@ pub leads-spec : {M : Type 1} → statement M
 leads-spec =
     tie.close
     (tie.spec
+    add-clear-stretch
+    clear-stretch-requires
     over-next-requires
     run-chain-requires
     state-at-requires

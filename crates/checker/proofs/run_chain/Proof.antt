@@ -6,7 +6,7 @@ use Rattle.automaton.specs.Columns.{columns}
 use Rattle.search.specs.Product.{succs}
 use Rattle.search.specs.Loaded.{settingIn}
 use Rattle.states.specs.Spots.{front}
-use Rattle.workspace.proofs.Backs.{fit-same}
+use Rattle.expanding.proofs.Backs.{fit-same}
 use Rattle.checker.proofs.Moving.{Left, left-all, left-none, left-line, left-turn}
 use borrow.Author.Needs.{needs}
 use Rattle.checker.proofs.run_chain.Statement.{statement}

@@ -1,19 +1,18 @@
 -- `finder::both_phases` meets its contract: what phase one leaves in the area is what phase two goes by. Assumes nothing.
-use mathlib.Core.Path.{_∙_}
-use mathlib.Core.Bool.{true}
+use mathlib.Core.Path.{_≡_, _∙_}
 use mathlib.Core.List.{List}
 use Prim.Native.Nat.{ℕ}
 use native.Mathlib.Omega.{arith}
 use Rattle.automaton.specs.Columns.{Columns, columns}
 use Rattle.search.specs.Loaded.{settingIn}
+use Rattle.search.specs.Moves.{expand}
 use Rattle.search.specs.Product.{Setting}
 use Rattle.states.specs.Spots.{front}
 use Rattle.workspace.specs.Chosen.{firstStates}
-use Rattle.states.specs.Area.{Step}
-use Rattle.states.specs.Spots.{Fit, backward}
-use Rattle.linking.specs.Links.{Places, placeIn}
-use Rattle.linking.proofs.Turns.{kept-front}
-use Rattle.workspace.proofs.Backs.{fit-same}
+use Rattle.states.specs.Spots.{Fit}
+use Rattle.workspace.specs.Stopped.{fromGoal, Stopped}
+use Rattle.sorting.proofs.Turns.{kept-take}
+use Rattle.expanding.proofs.Backs.{fit-same, told-fit}
 use Rattle.finder.proofs.Written.{tables-same, told-none, told-long, told-written}
 use borrow.Author.Needs.{needs}
 use Rattle.finder.proofs.both_phases.Statement.{statement}
@@ -28,30 +27,31 @@ setting a = settingIn (cols a) (a .args .plan) (front (a .args .plan) (a .args .
 abbrev firsts : tie.Start → List ℕ
 firsts a = firstStates (a .args .plan) (a .args .begin) (a .args .from)
 
--- ---- the lines linked
+-- ---- the lines sorted
 
--- lines lead to places
-ends : (a : tie.Start) → Places (a .args .plan) true (a .args .work .now)
-unfolding placeIn
-ends a i h = a .pre .0 .ends i h
+file-lines-requires : tie.Need-file-lines-requires
+file-lines-requires c κs = let a = c .before .before .before in (a .pre .0 .laid, told-fit (a .pre .0))
 
-guide-requires : tie.Need-guide-requires
-guide-requires c κs = let a = c .before .before .before in (a .pre .0 .laid, ends a)
-
-abbrev start : tie.After-guide → tie.Start
+abbrev start : tie.After-file-lines → tie.Start
 start k = k .before .before .before .before
 
--- linking keeps the tables
-fit : (k : tie.After-guide) → Fit (start k .args .plan) (cols (start k)) (k .guide .last .0)
-fit k = fit-same (k .guide .ensures .1 .long) (kept-front (k .guide .ensures .1)) (start k .pre .0)
+-- the loaded tables are as they were
+front-same : (k : tie.After-file-lines) → front (start k .args .plan) (k .file-lines .last .0) ≡ front (start k .args .plan) (start k .args .work .now)
+front-same k = kept-take (k .file-lines .ensures .1) (start k .args .plan .base) (omega arith)
+
+fit : (k : tie.After-file-lines) → Fit (start k .args .plan) (cols (start k)) (k .file-lines .last .0)
+fit k = fit-same (k .file-lines .ensures .1 .long) (front-same k) (start k .pre .0)
 
 distances-requires : tie.Need-distances-requires
-distances-requires c κs = let k = c .before .before .before in (record { fit = fit k; guided = k .guide .ensures .0 }, start k .pre .1 .1)
+distances-requires c κs = let k = c .before .before .before in (record { fit = fit k; tables = k .file-lines .ensures .0 }, start k .pre .1)
 
 -- ---- phase one, in the setting that was given
 
-searched : (k : tie.After-distances) → Step (start (k .before .before .before .before) .args .plan .base) (start (k .before .before .before .before) .args .plan .size) (backward (setting (start (k .before .before .before .before))) (start (k .before .before .before .before) .args .plan .size) (start (k .before .before .before .before) .args .to)) 0 (k .before .before .before .before .guide .last .0) (k .distances .result) (k .distances .last .0)
-searched k = rw (kept-front (k .before .before .before .before .guide .ensures .1)) at (k .distances .ensures)
+abbrev first : tie.After-distances → tie.Start
+first k = start (k .before .before .before .before)
+
+searched : (k : tie.After-distances) → Stopped (first k .args .plan .base) (first k .args .plan .size) (expand (setting (first k))) (firsts (first k)) (fromGoal (setting (first k)) (first k .args .plan .size) (first k .args .to)) 0 (k .before .before .before .before .file-lines .last .0) (k .distances .result) (k .distances .last .0)
+searched k = rw (front-same (k .before .before .before .before)) at (k .distances .ensures)
 
 nearest-requires : tie.Need-nearest-requires
 nearest-requires c κs = search needs
@@ -82,9 +82,9 @@ returns-2 c =
 chain-into-requires : tie.Need-chain-into-requires
 chain-into-requires c κs =
     let a = c .before .before .before .before .before .before .before .before .before .before .before .before .before .before .before .before in
-    let step = searched (c .before .before .before .before .before .before .before .before) in
-    let same = tables-same (setting a) (a .args .plan) (firsts a) (a .args .to) step _ (c .before .before .before .before .nearest .ensures) (a .args .out .now) in
-    (fit-same (step .long) same (fit (c .before .before .before .before .before .before .before .before .before .before .before .before)), (a .pre .1 .0, omega (arith, c .before .before .before .if1 .left), omega (arith, c .before .before .if2 .left)))
+    let one = searched (c .before .before .before .before .before .before .before .before) in
+    let same = tables-same (setting a) (a .args .plan) (firsts a) (a .args .to) one _ (c .before .before .before .before .nearest .ensures) (a .args .out .now) in
+    (fit-same (one .step .long) same (fit (c .before .before .before .before .before .before .before .before .before .before .before .before)), (a .pre .1 .0, omega (arith, c .before .before .before .if1 .left), omega (arith, c .before .before .if2 .left)))
 
 same-length-3 : tie.Need-same-length-3
 same-length-3 c = search needs
@@ -95,10 +95,10 @@ same-length-4 c = search needs
 returns-3 : tie.Need-returns-3
 returns-3 c =
     let a = c .before .before .before .before .before .before .before .before .before .before .before .before .before .before .before .before .before .before .before .before .before in
-    let step = searched (c .before .before .before .before .before .before .before .before .before .before .before .before .before) in
+    let one = searched (c .before .before .before .before .before .before .before .before .before .before .before .before .before) in
     let word = c .before .before .before .before .before .before .before .before .before .nearest .ensures in
-    let same = tables-same (setting a) (a .args .plan) (firsts a) (a .args .to) step _ word (a .args .out .now) ∙ kept-front (c .before .before .before .before .before .before .before .before .before .before .before .before .before .before .before .before .before .guide .ensures .1) in
-    told-written (setting a) (a .args .plan) (firsts a) (a .args .to) step _ word (a .args .out .now)
+    let same = tables-same (setting a) (a .args .plan) (firsts a) (a .args .to) one _ word (a .args .out .now) ∙ front-same (c .before .before .before .before .before .before .before .before .before .before .before .before .before .before .before .before .before) in
+    told-written (setting a) (a .args .plan) (firsts a) (a .args .to) one _ word (a .args .out .now)
     (omega (arith, c .before .before .before .before .before .before .before .before .if1 .left)) (omega (arith, c .before .before .before .before .before .before .before .if2 .left)) _
     (rw same at (c .before .before .before .before .chain-into .ensures))
 
@@ -106,7 +106,7 @@ pub both-phases-spec : {M : Type 1} → statement M
 both-phases-spec =
     tie.close
     (tie.spec
-    guide-requires
+    file-lines-requires
     distances-requires
     nearest-requires
     same-length

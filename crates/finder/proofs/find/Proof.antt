@@ -6,7 +6,8 @@ use Prim.Native.Nat.{ℕ, _<_}
 use native.Mathlib.Omega.{arith}
 use lib.ListN.{length, getD}
 use Rattle.meaning.specs.Request.{askRequest, workAfter}
-use Rattle.request.specs.Reply.{requestNumber}
+use Rattle.record.specs.Whole.{linesOf}
+use Rattle.request.specs.Reply.{Numbers, requestNumber}
 use Rattle.request.specs.Told.{Parts, asked-parts, answers-refused, Told, answers-asked, told-loading, all-zero}
 use Rattle.request.specs.declared.Plan.{Plan}
 use Rattle.search.specs.Answer.{answer}
@@ -46,20 +47,20 @@ number-requires c κs = search needs
 
 returns : tie.Need-returns
 returns c =
-    let a = c .before .before .before .before .before .before .before .before in
+    let a = c .before .before .before .before .before .before .before .before .before in
     let x = a .args in
     let t = c .before .enum-told .given .1 in
-    let e = answers-refused (askRequest (x .day .now) (x .pattern .now) (x .from) (x .to) (length (x .work .now))) (length (x .work .now)) _ _ (c .before .before .before .ask-request .ensures) t in
+    let e = answers-refused (askRequest (x .day .now) (x .pattern .now) (x .from) (x .to) (length (x .work .now))) (length (x .work .now)) _ _ (c .before .before .before .ask-request .ensures .0) t in
     let f = find-refused (x .day .now) (x .pattern .now) (x .from) (x .to) (length (x .work .now)) (length (x .out .now)) _ e in
     let is : refusal (c .number .result) 0 ≡ said (finding a) = ap (λ (n : ℕ). refusal n 0) (c .number .ensures ∙ ap requestNumber t) ∙ sym (ap said f) in
     let kept = sym (ap (λ (f : Finding). outAfter f (x .out .now)) f) in
-    let bytes = c .before .before .before .before .before .before .before .shared-slice-known in
+    let bytes = c .before .before .before .before .before .before .before .before .shared-slice-known in
     (is, (sym (ap (λ o. workAfter o (x .work .now)) e), (kept, demanded a (λ i. omega (arith, bytes .given i)) _ is _ kept)))
 
 -- ---- where questions 1 to 17 are passed
 
 abbrev start : tie.After-known-told → tie.Start
-start k = k .before .before .before .before .before .before .before .before
+start k = k .before .before .before .before .before .before .before .before .before
 
 abbrev plan : tie.After-known-told → Plan
 plan k = k .before .asked .given .0 .0
@@ -67,21 +68,23 @@ plan k = k .before .asked .given .0 .0
 passed-on : (k : tie.After-known-told) → Told (askRequest (start k .args .day .now) (start k .args .pattern .now) (start k .args .from) (start k .args .to) (length (start k .args .work .now))) (length (start k .args .work .now)) (plan k)
 passed-on k =
     let x = start k .args in
-    answers-asked (askRequest (x .day .now) (x .pattern .now) (x .from) (x .to) (length (x .work .now))) (length (x .work .now)) _ _ (k .before .before .before .ask-request .ensures) (k .before .asked .given .1)
+    answers-asked (askRequest (x .day .now) (x .pattern .now) (x .from) (x .to) (length (x .work .now))) (length (x .work .now)) _ _ (k .before .before .before .ask-request .ensures .0) (k .before .asked .given .1)
 
 parts : (k : tie.After-known-told) → Parts (start k .args .day .now) (start k .args .pattern .now) (start k .args .from) (start k .args .to) (passed-on k .asked)
 parts k = let x = start k .args in asked-parts (x .day .now) (x .pattern .now) (x .from) (x .to) (length (x .work .now)) (passed-on k .asked) (passed-on k .is)
 
 low : (k : tie.After-known-told) (i : ℕ) → getD (start k .args .day .now) i 0 < 256
-low k i = omega (arith, k .before .before .before .before .before .before .before .shared-slice-known .given i)
+low k i = omega (arith, k .before .before .before .before .before .before .before .before .shared-slice-known .given i)
 
 load-requires : tie.Need-load-requires
-load-requires c κs = let k = c .before in told-loading (passed-on k) (parts k)
+load-requires c κs =
+    let k = c .before .before in
+    (told-loading (passed-on k) (parts k), subst (Numbers (linesOf (start k .args .day .now)) (k .before .before .before .ask-request .last .1 .1 .1 .1 .1 .0)) (k .before .asked .given .1) (k .before .before .before .ask-request .ensures .1))
 
 search-loaded-requires : tie.Need-search-loaded-requires
 search-loaded-requires c κs =
-    let k = c .before .before .before .before .before .before in
-    (passed-on k .asked, posed-from (passed-on k) (parts k) (low k) _ (c .before .before .before .before .load .ensures))
+    let k = c .before .before .before .before .before .before .before in
+    (passed-on k .asked, posed-from (start k .args .work .now) (passed-on k) (parts k) (low k) _ (c .before .before .before .before .load .ensures))
 
 clear-requires : tie.Need-clear-requires
 clear-requires c κs = search needs
@@ -97,11 +100,11 @@ same-length-2 c = search needs
 
 returns-2 : tie.Need-returns-2
 returns-2 c =
-    let k = c .before .before .before .before .before .before .before .before .before .before .before .before .before .before .before .before in
+    let k = c .before .before .before .before .before .before .before .before .before .before .before .before .before .before .before .before .before in
     let a = start k in
     let x = a .args in
     let t = passed-on k in
-    let found = c .before .before .before .before .before .before .before .before .before .search-loaded .ensures (t .asked) (posed-from t (parts k) (low k) _ (c .before .before .before .before .before .before .before .before .before .before .before .before .before .before .load .ensures)) in
+    let found = c .before .before .before .before .before .before .before .before .before .search-loaded .ensures (t .asked) (posed-from (x .work .now) t (parts k) (low k) _ (c .before .before .before .before .before .before .before .before .before .before .before .before .before .before .load .ensures)) in
     let f = find-searched (x .day .now) (x .pattern .now) (x .from) (x .to) (length (x .work .now)) (length (x .out .now)) (t .asked) (t .is) in
     let written = found .after-is ∙ sym (ap (λ (f : Finding). outAfter f (x .out .now)) f) in
     let o = answer (t .asked .day .lines) (t .asked .day .places) (t .asked .pattern) (x .from) (x .to) in

@@ -6,7 +6,7 @@ use mathlib.Core.List.{List}
 use Prim.Native.Nat.{ℕ, suc, _*_, _^_, _<_, _≤_}
 use native.Mathlib.Omega.{arith}
 use lib.Dec.{leb}
-use lib.ListN.{length}
+use lib.ListN.{length, take}
 use Rattle.meaning.specs.Record.{boats}
 use Rattle.meaning.specs.Request.{askBoth, sizeOf, need}
 use Rattle.record.specs.Whole.{linesOf, lines-short}
@@ -37,7 +37,7 @@ returns c =
     let a = c .before .before .before .before .before .before .args in
     let t = c .before .enum-told .given .1 in
     let e = both-refused (askBoth (a .day .now) (a .pattern .now)) _ (sym t ∙ c .before .before .before .ask-both .ensures .0) in
-    rw (refused-both (a .day .now) (a .pattern .now) _ (a .from) (a .to) (a .area) e) (ap Request.Refused (c .number .ensures ∙ ap bothNumber t))
+    rw (refused-both (a .day .now) (a .pattern .now) _ (a .from) (a .to) (a .area) e) (ap Request.Refused (c .number .ensures ∙ ap bothNumber t), tt)
 
 -- ---- where record and pattern have been read
 
@@ -85,48 +85,48 @@ returns-2 : tie.Need-returns-2
 returns-2 c =
     let b = c .before in
     let h = passes b in
-    rw (asked-from (rec b) (pat b) (from b) (to b) (area b) (h .asked) (h .both) (omega (arith, h .places-are, c .if1 .taken))) refl
+    rw (asked-from (rec b) (pat b) (from b) (to b) (area b) (h .asked) (h .both) (omega (arith, h .places-are, c .if1 .taken))) (refl, tt)
 
 returns-3 : tie.Need-returns-3
 returns-3 c =
     let b = c .before .before in
     let h = passes b in
-    rw (asked-to (rec b) (pat b) (from b) (to b) (area b) (h .asked) (h .both) (omega (arith, h .places-are, c .before .if1 .left)) (omega (arith, h .places-are, c .if2 .taken))) refl
+    rw (asked-to (rec b) (pat b) (from b) (to b) (area b) (h .asked) (h .both) (omega (arith, h .places-are, c .before .if1 .left)) (omega (arith, h .places-are, c .if2 .taken))) (refl, tt)
 
 measure-requires : tie.Need-measure-requires
 measure-requires c κs =
-    let b = c .before .before in
+    let b = c .before .before .before in
     let h = passes b in
     let s = small b in
     (h .lines-are ∙ sym (ap length (h .lines-of)), s .1, s .3)
 
-enum-known-boats : tie.Need-enum-known-boats
-enum-known-boats c = search needs
+enum-known-measured : tie.Need-enum-known-measured
+enum-known-measured c = search needs
 
 enum-told-2 : tie.Need-enum-told-2
 enum-told-2 c = search needs
 
 returns-4 : tie.Need-returns-4
 returns-4 c =
-    let d = c .before .before .before in
+    let d = c .before .before .before .before in
     let b = d .before .before in
     let h = passes b in
-    let no = above _ _ _ _ (sym (c .enum-told2 .given .1) ∙ c .before .before .measure .ensures) in
-    rw (asked-size (rec b) (pat b) (from b) (to b) (area b) (h .asked) (h .both) (from-below d) (to-below d) (ap (λ (n : ℕ). leb n 1048576) (sym (counted-size _ _ _ _ _ _ h)) ∙ no)) refl
+    let no = above _ _ _ _ (sym (c .enum-told2 .given .1) ∙ c .before .before .measure .ensures .0) in
+    rw (asked-size (rec b) (pat b) (from b) (to b) (area b) (h .asked) (h .both) (from-below d) (to-below d) (ap (λ (n : ℕ). leb n 1048576) (sym (counted-size _ _ _ _ _ _ h)) ∙ no)) (refl, tt)
 
 -- ---- where the size is known
 
 abbrev met : tie.After-known-told2 → tie.After-known-told
-met c = c .before .before .before .before .before .before
+met c = c .before .before .before .before .before .before .before
 
 abbrev count : tie.After-known-told2 → ℕ
 count c = length (boats (linesOf (rec (met c))))
 
 abbrev size : tie.After-known-told2 → ℕ
-size c = c .before .boats .given .0 .1 .0
+size c = c .before .measured .given .0 .1 .0
 
-size-is : (c : tie.After-known-told2) → (leb (places (met c) * suc (commands (met c)) * suc (count c) ^ keeps (met c)) 1048576 ≡ true) × (c .before .boats .given .0 .0 ≡ count c) × (size c ≡ places (met c) * suc (commands (met c)) * suc (count c) ^ keeps (met c)) × (size c ≤ 1048576)
-size-is c = measured _ _ _ _ _ _ (sym (c .before .boats .given .1) ∙ c .before .before .before .measure .ensures)
+size-is : (c : tie.After-known-told2) → (leb (places (met c) * suc (commands (met c)) * suc (count c) ^ keeps (met c)) 1048576 ≡ true) × (c .before .measured .given .0 .0 ≡ count c) × (size c ≡ places (met c) * suc (commands (met c)) * suc (count c) ^ keeps (met c)) × (size c ≤ 1048576)
+size-is c = measured _ _ _ _ _ _ (sym (c .before .measured .given .1) ∙ c .before .before .before .measure .ensures .0)
 
 fits : (c : tie.After-known-told2) → size c ≤ 1048576
 fits c = size-is c .3
@@ -142,7 +142,7 @@ few-boats c =
     let lines = linesOf (rec (met c)) in
     omega (arith, boats-few lines (length lines) (omega arith), ap (λ ls. length (boats ls)) (take-length lines), lines-short (rec (met c)))
 
-fitting : (c : tie.After-known-told2) → Fitting (places (met c)) (lines (met c)) (commands (met c)) (keeps (met c)) (c .before .boats .given .0 .0) (size c)
+fitting : (c : tie.After-known-told2) → Fitting (places (met c)) (lines (met c)) (commands (met c)) (keeps (met c)) (c .before .measured .given .0 .0) (size c)
 fitting c =
     let s = small (met c) in
     let y = size-is c in
@@ -165,10 +165,10 @@ add-if3 c = omega (arith, fits c)
 
 returns-5 : tie.Need-returns-5
 returns-5 c =
-    let d = c .before .before .before .before .before in
+    let d = c .before .before .before .before .before .before in
     let b = d .before .before in
     let h = passes b in
-    rw (asked-room (rec b) (pat b) (from b) (to b) (area b) (h .asked) (h .both) (from-below d) (to-below d) (allowed (c .before)) (omega (arith, whole (c .before), c .if3 .taken))) refl
+    rw (asked-room (rec b) (pat b) (from b) (to b) (area b) (h .asked) (h .both) (from-below d) (to-below d) (allowed (c .before)) (omega (arith, whole (c .before), c .if3 .taken))) (refl, tt)
 
 planned-requires : tie.Need-planned-requires
 planned-requires c κs = fitting (c .before)
@@ -176,15 +176,19 @@ planned-requires c κs = fitting (c .before)
 returns-6 : tie.Need-returns-6
 returns-6 c =
     let e = c .before .before in
-    let d = e .before .before .before .before in
+    let d = e .before .before .before .before .before in
     let b = d .before .before in
     let h = passes b in
     let room : need (sizeOf (h .asked)) ≤ area b = omega (arith, whole e, c .before .if3 .left) in
+    let same : c .planned .result .lines ≡ lines b = c .planned .ensures .lines-are in
     rw (asked-all (rec b) (pat b) (from b) (to b) (area b) (h .asked) (h .both) (from-below d) (to-below d) (allowed e) room) (
-      c .planned .result,
-      refl,
-      planned-of (h .asked) _ _ _ _ _ _ (c .planned .result) (c .planned .ensures) (h .places-are) (h .lines-are) (h .commands-are) (h .keeps-are) (size-is e .1 ∙ ap (λ ls. length (boats ls)) (h .lines-of)) (whole e),
-      laid _ _ _ _ _ _ (area b) (c .planned .result) (fitting e) (c .planned .ensures) (omega (arith, c .before .if3 .left)),
+      (
+        c .planned .result,
+        refl,
+        planned-of (h .asked) _ _ _ _ _ _ (c .planned .result) (c .planned .ensures) (h .places-are) (h .lines-are) (h .commands-are) (h .keeps-are) (size-is e .1 ∙ ap (λ ls. length (boats ls)) (h .lines-of)) (whole e),
+        laid _ _ _ _ _ _ (area b) (c .planned .result) (fitting e) (c .planned .ensures) (omega (arith, c .before .if3 .left)),
+      ),
+      ap (λ n. take n (e .before .before .before .measure .last .1 .1 .1 .1 .1 .0)) same ∙ e .before .before .before .measure .ensures .1,
     )
 
 pub ask-request-spec : {M : Type 1} → statement M
@@ -199,7 +203,7 @@ ask-request-spec =
     returns-2
     returns-3
     measure-requires
-    enum-known-boats
+    enum-known-measured
     enum-told-2
     returns-4
     mul-if3

@@ -1,14 +1,12 @@
--- `request::load` meets its contract: three stretches written end to end into zeros. Assumes nothing.
-use mathlib.Core.Path.{_∙_}
-use lib.ListN.{length}
+-- `request::load` meets its contract: two stretches written end to end. Assumes nothing.
+use mathlib.Core.Path.{_≡_, ap, _∙_}
+use lib.ListN.{take}
+use Rattle.boats.specs.Codes.{codes}
 use Rattle.record.specs.Whole.{linesOf}
-use Rattle.request.proofs.Tables.{tables-loaded}
+use Rattle.request.proofs.Tables.{codes-long, tables-loaded}
 use borrow.Author.Needs.{needs}
 use Rattle.request.proofs.load.Statement.{statement}
 use Rattle.request.proofs.load.Tie as tie
-
-clear-requires : tie.Need-clear-requires
-clear-requires c κs = search needs
 
 mul-load-codes : tie.Need-mul-load-codes
 mul-load-codes c = search needs
@@ -40,27 +38,21 @@ part-load-lines-end c = search needs
 load-lines-requires : tie.Need-load-lines-requires
 load-lines-requires c κs = search needs
 
-load-kept-requires : tie.Need-load-kept-requires
-load-kept-requires c κs = search needs
-
 same-length : tie.Need-same-length
 same-length c = search needs
 
 returns : tie.Need-returns
 returns c =
-    let k = c .before .before in
-    let l = k .before .before .before .before in
-    let o = l .before .before .before .before in
-    let z = o .before .before .before .before in
-    let a = z .before .before .before .before in
-    k .load-kept .ensures
-    ∙ rw (l .load-lines .ensures, o .load-codes .ensures, z .clear .ensures) (tables-loaded (linesOf (a .args .day .now)) (a .args .plan) (length (a .args .work .now)) (a .pre))
+    let o = c .before .before .before .before .before .before in
+    let a = o .before .before .before .before .before in
+    let lines = linesOf (a .args .day .now) in
+    let numbered : o .load-codes .last .1 .0 ≡ codes lines = o .load-codes .ensures ∙ (ap (λ n. take n (a .args .numbers .now)) (codes-long lines (a .args .plan) (a .args .work .now) (a .pre .0)) ∙ a .pre .1) in
+    rw (c .before .before .load-lines .ensures, numbered) (tables-loaded lines (a .args .plan) (a .args .work .now) (a .pre .0))
 
 pub load-spec : {M : Type 1} → statement M
 load-spec =
     tie.close
     (tie.spec
-    clear-requires
     mul-load-codes
     sub-load-codes
     part-load-codes-start
@@ -71,6 +63,5 @@ load-spec =
     part-load-lines-start
     part-load-lines-end
     load-lines-requires
-    load-kept-requires
     same-length
     returns)

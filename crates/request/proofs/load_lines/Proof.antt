@@ -5,7 +5,7 @@ use native.Mathlib.Omega.{arith}
 use mathlib.Core.List.{map}
 use lib.ListN.{length, getD, length-set, length-map}
 use Rattle.request.specs.Layout.{lineWord}
-use Rattle.request.specs.Codes.{map-at}
+use Rattle.boats.specs.Codes.{map-at}
 use Rattle.record.specs.Whole.{linesOf}
 use Rattle.request.proofs.Fills.{filled, fill-next, fill-all}
 use borrow.Author.Needs.{needs}

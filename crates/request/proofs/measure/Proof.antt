@@ -1,4 +1,4 @@
--- `request::measure` meets its contract, by what counting the boats and stepping to the size ensure. Assumes nothing.
+-- `request::measure` meets its contract, by what numbering the boats and stepping to the size ensure. Assumes nothing.
 use mathlib.Core.Path.{_∙_, sym}
 use Rattle.record.specs.Whole.{linesOf}
 use Rattle.request.proofs.Asking.{sizing-above, sizing-size}
@@ -6,8 +6,8 @@ use borrow.Author.Needs.{needs}
 use Rattle.request.proofs.measure.Statement.{statement}
 use Rattle.request.proofs.measure.Tie as tie
 
-count-boats-requires : tie.Need-count-boats-requires
-count-boats-requires c κs = search needs
+number-boats-requires : tie.Need-number-boats-requires
+number-boats-requires c κs = search needs
 
 add-size-of : tie.Need-add-size-of
 add-size-of c = search needs
@@ -24,20 +24,20 @@ enum-told c = search needs
 returns : tie.Need-returns
 returns c =
     let b = c .before .before .before in
-    let a = b .before .before .args in
-    sizing-above (linesOf (a .day .now)) (a .places) (a .commands) (a .keeps) _ (b .count-boats .ensures .0) (sym (c .enum-told .given .1) ∙ c .before .before .size-of .ensures)
+    let a = b .before .before .before .args in
+    (sizing-above (linesOf (a .day .now)) (a .places) (a .commands) (a .keeps) _ (b .number-boats .ensures .0) (sym (c .enum-told .given .1) ∙ c .before .before .size-of .ensures), b .number-boats .ensures .2)
 
 returns-2 : tie.Need-returns-2
 returns-2 c =
     let b = c .before .before .before .before in
-    let a = b .before .before .args in
-    sizing-size (linesOf (a .day .now)) (a .places) (a .commands) (a .keeps) _ (b .count-boats .ensures .0) _ (sym (c .before .sizing .given .1) ∙ c .before .before .before .size-of .ensures)
+    let a = b .before .before .before .args in
+    (sizing-size (linesOf (a .day .now)) (a .places) (a .commands) (a .keeps) _ (b .number-boats .ensures .0) _ (sym (c .before .sizing .given .1) ∙ c .before .before .before .size-of .ensures), b .number-boats .ensures .2)
 
 pub measure-spec : {M : Type 1} → statement M
 measure-spec =
     tie.close
     (tie.spec
-    count-boats-requires
+    number-boats-requires
     add-size-of
     size-of-requires
     enum-known-sizing

@@ -64,41 +64,41 @@ small c = subst Small (c .before .both .given .1) (c .before .before .before .as
 
 measure-requires : tie.Need-measure-requires
 measure-requires c κs =
-    let h = passes c in
-    let s = small c in
+    let h = passes (c .before) in
+    let s = small (c .before) in
     (h .lines-are ∙ sym (ap length (h .lines-of)), s .1, s .3)
 
-enum-known-size : tie.Need-enum-known-size
-enum-known-size c = search needs
+enum-known-measured : tie.Need-enum-known-measured
+enum-known-measured c = search needs
 
 enum-told-2 : tie.Need-enum-told-2
 enum-told-2 c = search needs
 
 returns-2 : tie.Need-returns-2
 returns-2 c =
-    let b = c .before .before .before in
+    let b = c .before .before .before .before in
     let h = passes b in
-    let no = above _ _ _ _ (sym (c .enum-told2 .given .1) ∙ c .before .before .measure .ensures) in
+    let no = above _ _ _ _ (sym (c .enum-told2 .given .1) ∙ c .before .before .measure .ensures .0) in
     sym (ap told (words-above (rec b) (pat b) (h .asked) (h .both) (ap (λ (n : ℕ). leb n 1048576) (sym (counted-size _ _ _ _ _ _ h)) ∙ no)))
 
 -- ---- where the size is known
 
-size-is : (c : tie.After-known-told2) → let b = c .before .before .before .before in
-    (leb (places b * suc (commands b) * suc (length (boats (linesOf (rec b)))) ^ keeps b) 1048576 ≡ true) × (c .before .size .given .0 .0 ≡ length (boats (linesOf (rec b)))) × (c .before .size .given .0 .1 .0 ≡ places b * suc (commands b) * suc (length (boats (linesOf (rec b)))) ^ keeps b) × (c .before .size .given .0 .1 .0 ≤ 1048576)
-size-is c = measured _ _ _ _ _ _ (sym (c .before .size .given .1) ∙ c .before .before .before .measure .ensures)
+size-is : (c : tie.After-known-told2) → let b = c .before .before .before .before .before in
+    (leb (places b * suc (commands b) * suc (length (boats (linesOf (rec b)))) ^ keeps b) 1048576 ≡ true) × (c .before .measured .given .0 .0 ≡ length (boats (linesOf (rec b)))) × (c .before .measured .given .0 .1 .0 ≡ places b * suc (commands b) * suc (length (boats (linesOf (rec b)))) ^ keeps b) × (c .before .measured .given .0 .1 .0 ≤ 1048576)
+size-is c = measured _ _ _ _ _ _ (sym (c .before .measured .given .1) ∙ c .before .before .before .measure .ensures .0)
 
-fits : (c : tie.After-known-told2) → c .before .size .given .0 .1 .0 ≤ 1048576
+fits : (c : tie.After-known-told2) → c .before .measured .given .0 .1 .0 ≤ 1048576
 fits c = size-is c .3
 
-mul-t11 : tie.Need-mul-t11
-mul-t11 c = omega (arith, fits c)
+mul-t13 : tie.Need-mul-t13
+mul-t13 c = omega (arith, fits c)
 
-add-t12 : tie.Need-add-t12
-add-t12 c = omega (arith, fits c)
+add-t14 : tie.Need-add-t14
+add-t14 c = omega (arith, fits c)
 
 returns-3 : tie.Need-returns-3
 returns-3 c =
-    let b = c .before .before .before .before in
+    let b = c .before .before .before .before .before in
     let h = passes b in
     let yes = size-is c in
     let whole = counted-size _ _ _ _ _ _ h in
@@ -114,9 +114,9 @@ words-needed-spec =
     number-requires
     returns
     measure-requires
-    enum-known-size
+    enum-known-measured
     enum-told-2
     returns-2
-    mul-t11
-    add-t12
+    mul-t13
+    add-t14
     returns-3)

@@ -1,39 +1,30 @@
--- `states::power` meets its contract. The invariant: after i turns it is radix^i. Assumes nothing.
-use mathlib.Core.Path.{_≡_, sym, ap, _∙_}
-use Prim.Native.Nat.{_-_, _^_, _≤_}
+-- `states::power` meets its contract: the first three powers are what they are, and the others a product. Assumes nothing.
+use mathlib.Core.Path.{sym, ap, _∙_}
+use Prim.Native.Nat.{_^_}
 use native.Mathlib.Nat.{pow-zero}
 use native.Mathlib.Omega.{arith}
-use Rattle.states.proofs.Bounds.{pow-turn}
+use Rattle.states.proofs.Bounds.{pow-one, pow-two}
 use borrow.Author.Needs.{needs}
 use Rattle.states.proofs.power.Statement.{statement}
 use Rattle.states.proofs.power.Tie as tie
 
-abbrev Inv-loop : tie.InvT-loop
-Inv-loop radix e p₀ i₀ p i = (i ≤ e) × (p ≡ radix ^ i)
+returns : tie.Need-returns
+returns c = let R = c .before .args .radix in sym (ap (R ^_) (c .if1 .taken) ∙ pow-zero R)
 
-abbrev μ-loop : tie.MeasureT-loop
-μ-loop radix e p₀ i₀ p i = e - i
+returns-2 : tie.Need-returns-2
+returns-2 c = pow-one (c .before .before .args .radix) (c .before .before .args .e) (c .if2 .taken)
 
-loop-holds : tie.Need-loop-holds Inv-loop μ-loop
-loop-holds c = (omega arith, sym (pow-zero _))
+mul-result : tie.Need-mul-result
+mul-result c = let a = c .before .before .before in omega (arith, a .pre .1, pow-two (a .args .radix) (a .args .e) (c .if3 .taken))
 
-mul-p : tie.Need-mul-p Inv-loop μ-loop
-mul-p c = omega (arith, pow-turn (c .before .before .args .radix) (c .before .before .args .e) (c .before .loop .i) (c .before .loop .p) (omega arith) (omega arith) (omega arith) (c .before .loop .inv .1) .0)
+returns-3 : tie.Need-returns-3
+returns-3 c = let a = c .before .before .before .args in pow-two (a .radix) (a .e) (c .if3 .taken)
 
-add-i : tie.Need-add-i Inv-loop μ-loop
-add-i c = search needs
+product-requires : tie.Need-product-requires
+product-requires c κs = search needs
 
-loop-less : tie.Need-loop-less Inv-loop μ-loop
-loop-less c = search needs
-
-loop-again : tie.Need-loop-again Inv-loop μ-loop
-loop-again c = (omega arith, pow-turn (c .before .before .args .radix) (c .before .before .args .e) (c .before .loop .i) (c .before .loop .p) (omega arith) (omega arith) (omega arith) (c .before .loop .inv .1) .1)
-
-returns : tie.Need-returns Inv-loop μ-loop
-returns c =
-    let e : c .before .loop .i ≡ c .before .before .args .e = omega arith in
-    c .before .loop .inv .1 ∙ ap (c .before .before .args .radix ^_) e
+returns-4 : tie.Need-returns-4
+returns-4 c = search needs
 
 pub power-spec : {M : Type 1} → statement M
-power-spec =
-    tie.close (tie.spec Inv-loop μ-loop loop-holds mul-p add-i loop-less loop-again returns)
+power-spec = tie.close (tie.spec returns returns-2 mul-result returns-3 product-requires returns-4)

@@ -28,24 +28,24 @@ wide-requires c κs = search needs
 power-requires : tie.Need-power-requires
 power-requires c κs = rw (c .wide .ensures .0) (c .before .before .before .before .pre .1, c .before .before .before .before .pre .3 _ (low (c .before .before .before .before)))
 
-div-t7 : tie.Need-div-t7
-div-t7 c = omega (arith, c .before .before .before .before .before .before .pre .0)
+rem-cut : tie.Need-rem-cut
+rem-cut c = omega (arith, c .before .before .before .before .before .before .pre .0)
+
+cut-requires : tie.Need-cut-requires
+cut-requires c κs = omega (arith, c .before .power .ensures, one-le-pow (c .before .before .wide .result) (c .before .before .before .before .before .before .args .plan .radix) (c .before .before .before .before .before .before .pre .1))
+
+div-t9 : tie.Need-div-t9
+div-t9 c = omega (arith, c .before .before .before .before .before .before .before .before .pre .0)
 
 add-t8 : tie.Need-add-t8
-add-t8 c = omega (arith, c .before .before .before .before .before .before .before .pre .2)
+add-t8 c = omega (arith, c .before .before .before .before .before .before .before .before .before .pre .2)
 
-div-t12 : tie.Need-div-t12
-div-t12 c = omega arith
-
-rem-t13 : tie.Need-rem-t13
-rem-t13 c = omega (arith, c .before .before .before .before .before .before .before .before .pre .0)
-
-rem-t14 : tie.Need-rem-t14
-rem-t14 c = omega (arith, c .before .before .before .power .ensures, one-le-pow (c .before .before .before .before .wide .result) (c .before .before .before .before .before .before .before .before .args .plan .radix) (c .before .before .before .before .before .before .before .before .pre .1))
+div-t13 : tie.Need-div-t13
+div-t13 c = omega arith
 
 returns : tie.Need-returns
 unfolding targetIn
-returns c = rw (c .before .before .before .power .ensures, c .before .before .before .before .wide .ensures .0)
+returns c = rw (c .before .before .cut .ensures .0, c .before .before .before .before .power .ensures, c .before .before .before .before .before .wide .ensures .0)
 
 pub target-of-spec : {M : Type 1} → statement M
 target-of-spec =
@@ -57,9 +57,9 @@ target-of-spec =
     element-copy-out-wide
     wide-requires
     power-requires
-    div-t7
+    rem-cut
+    cut-requires
+    div-t9
     add-t8
-    div-t12
-    rem-t13
-    rem-t14
+    div-t13
     returns)

@@ -1,4 +1,4 @@
--- `workspace::distances` meets its contract: a pair that is cleared holds nothing found, the goal is pushed, and the run goes on from there. Assumes nothing.
+-- `workspace::distances` meets its contract: a pair that is cleared holds nothing found, the goal is pushed, and the search goes on from there. Assumes nothing.
 use mathlib.Core.Path.{_∙_}
 use Prim.Native.Nat.{_+_, _≤_}
 use native.Mathlib.Omega.{arith}
@@ -7,8 +7,9 @@ use Rattle.automaton.specs.Columns.{Columns, columns}
 use Rattle.states.specs.Spots.{front, Fit}
 use Rattle.states.proofs.Bounds.{stacks-pos}
 use Rattle.search.specs.Front.{goal-in}
-use Rattle.workspace.proofs.Backs.{backing-under, backward-is}
-use Rattle.states.proofs.Changes.{cleared-ready, step-cleared, step-as, step-then, step-under, under-front}
+use Rattle.expanding.proofs.Backs.{backing-under}
+use Rattle.workspace.proofs.Stopping.{goal-begun, stopped-after}
+use Rattle.states.proofs.Changes.{cleared-ready, step-cleared, step-under, under-front}
 use borrow.Author.Needs.{needs}
 use Rattle.workspace.proofs.distances.Statement.{statement}
 use Rattle.workspace.proofs.distances.Tie as tie
@@ -27,7 +28,7 @@ clear-stretch-requires : tie.Need-clear-stretch-requires
 clear-stretch-requires c κs = omega (arith, room (c .before .before))
 
 state-at-requires : tie.Need-state-at-requires
-state-at-requires c κs = let laid = fit (c .before .before .before .before .before .before) .laid in ((laid .size-is, laid .small, laid .few-commands), (c .before .before .before .before .before .before .pre .1, omega arith, stacks-pos laid))
+state-at-requires c κs = let laid = fit (c .before .before .before .before .before .before) .laid in ((laid .size-is, laid .small, laid .few-commands), (c .before .before .before .before .before .before .pre .1 .1, omega arith, stacks-pos laid))
 
 push-if-new-requires : tie.Need-push-if-new-requires
 push-if-new-requires c κs =
@@ -41,7 +42,7 @@ search-back-requires c κs =
     let p = a .args .plan in
     let first = rw (c .before .before .before .before .before .before .before .before .clear-stretch .ensures) at (c .before .before .before .push-if-new .ensures) in
     let step = step-cleared (p .base) (p .size) (a .args .work .now) (room a) _ _ _ first in
-    (step .ready, backing-under (step-under step) (a .pre .0))
+    (step .ready, (backing-under (step-under step) (a .pre .0), a .pre .1 .0))
 
 same-length : tie.Need-same-length
 same-length c = search needs
@@ -55,7 +56,7 @@ returns c =
     let step = step-cleared (p .base) (p .size) (a .args .work .now) (room a) _ _ _ first in
     let rest = rw (under-front (step-under step) (p .base) (omega arith)) at (c .before .before .search-back .ensures) in
     let goal = c .before .before .before .before .before .before .before .state-at .ensures .0 ∙ goal-in (cols a) p (length (a .args .work .now)) laid (front p (a .args .work .now)) (a .args .to) in
-    step-as _ (step-then step rest) (backward-is _ _ _ _ _ goal)
+    stopped-after _ (λ st. goal-begun _ _ _ _ goal) step rest
 
 pub distances-spec : {M : Type 1} → statement M
 distances-spec =

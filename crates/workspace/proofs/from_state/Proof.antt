@@ -1,17 +1,16 @@
 -- `workspace::from_state` meets its contract: each test that stops the line makes the step of the setting none, and past them it is the loop over the next positions.
 -- Assumes nothing.
-use mathlib.Core.Path.{sym, ap, _∙_, subst}
-use Prim.Native.Nat.{_+_, _/_, _%_, _<_, _≤_}
+use mathlib.Core.Path.{_≡_, sym, _∙_, subst}
+use Prim.Native.Nat.{ℕ, _+_, _/_, _%_, _<_, _≤_}
 use native.Mathlib.Nat.{mod-lt}
 use native.Mathlib.Omega.{arith}
 use lib.ListN.{length}
 use Rattle.automaton.specs.Columns.{Columns, columns}
 use Rattle.request.specs.Layout.{toIn}
-use Rattle.search.specs.Loaded.{boatWordAt}
-use Rattle.states.specs.Spots.{front, Fit}
+use Rattle.states.specs.Spots.{Fit}
 use Rattle.states.proofs.Bounds.{word-low, code-low, base-in, word-front, code-front, stacks-pos, power-small, block-small, stacks-small, spot-sane}
 use Rattle.states.proofs.Changes.{step-as, step-none}
-use Rattle.workspace.proofs.Bridge.{from-elsewhere, from-other-kind, from-refused, from-taken}
+use Rattle.expanding.proofs.Bridge.{from-elsewhere, from-other-kind, from-refused, from-taken}
 use borrow.Author.Needs.{needs}
 use Rattle.workspace.proofs.from_state.Statement.{statement}
 use Rattle.workspace.proofs.from_state.Tie as tie
@@ -31,12 +30,12 @@ in-area c =
     let h = c .pre .1 .1 .0 in
     (omega (arith, word-low l (c .args .i) h, base-in l), omega (arith, code-low l (c .args .i) h, base-in l), omega arith)
 
--- the position and the stack of the state are in range
-pos-low : (c : tie.Start) → c .args .s / c .args .plan .stacks % (c .args .plan .done + 1) ≤ c .args .plan .done
-pos-low c = omega (arith, mod-lt (c .args .s / c .args .plan .stacks) {m = c .args .plan .done + 1} (omega arith))
+-- the position and the stack that a state stands at are in range
+pos-low : (c : tie.Start) (k : ℕ) → k ≡ c .args .s / c .args .plan .stacks % (c .args .plan .done + 1) → k ≤ c .args .plan .done
+pos-low c k e = omega (arith, e, mod-lt (c .args .s / c .args .plan .stacks) {m = c .args .plan .done + 1} (omega arith))
 
-stack-small : (c : tie.Start) → c .args .s % c .args .plan .stacks < 4294967296
-stack-small c = let l = fit c .laid in omega (arith, mod-lt (c .args .s) {m = c .args .plan .stacks} (stacks-pos l), stacks-small l, l .small)
+stack-small : (c : tie.Start) (v : ℕ) → v ≡ c .args .s % c .args .plan .stacks → v < 4294967296
+stack-small c v e = let l = fit c .laid in omega (arith, e, mod-lt (c .args .s) {m = c .args .plan .stacks} (stacks-pos l), stacks-small l, l .small)
 
 add-word : tie.Need-add-word
 add-word c = omega (arith, in-area (c .before .before .before) .0)
@@ -52,94 +51,95 @@ stands-at-requires c κs =
     let laid = fit (c .before .before .before .before) .laid in
     (stacks-pos laid, block-small laid, laid .few-commands, omega arith)
 
-div-at : tie.Need-div-at
-div-at c = omega (arith, stacks-pos (fit (c .before .before .before .before .before .before .before) .laid))
+standing-at-requires : tie.Need-standing-at-requires
+standing-at-requires c κs =
+    let laid = fit (c .before .before .before .before .before .before) .laid in
+    ((stacks-pos laid, block-small laid, laid .few-commands, omega arith), (sym (c .before .stands-at .ensures) ∙ c .if1 .taken, laid .inverse-is))
 
-add-at : tie.Need-add-at
-add-at c = omega (arith, fit (c .before .before .before .before .before .before .before .before) .laid .few-commands)
+element-copy-out-wide : tie.Need-element-copy-out-wide
+element-copy-out-wide c = omega (arith, pos-low (c .before .before .before .before .before .before .before) _ (c .standing-at .ensures .0), fit (c .before .before .before .before .before .before .before) .laid .few-commands)
 
-rem-at : tie.Need-rem-at
-rem-at c = omega arith
+wide-requires : tie.Need-wide-requires
+wide-requires c κs = search needs
 
 spot-at-requires : tie.Need-spot-at-requires
 spot-at-requires c κs =
-    let f = fit (c .before .before .before .before .before .before .before .before) in
-    let low = pos-low (c .before .before .before .before .before .before .before .before) in
+    let f = fit (c .before .before .before .before .before .before .before .before .before .before) in
+    let low = pos-low (c .before .before .before .before .before .before .before .before .before .before) _ (c .before .before .before .standing-at .ensures .0) in
     (omega (arith, low, f .laid .few-commands), f .laid .some-radix, power-small (f .laid) _ (f .levels-low _ low), power-small (f .laid) _ (f .depths-low _ low))
 
-rem-v : tie.Need-rem-v
-rem-v c = omega (arith, stacks-pos (fit (c .before .before .before .before .before .before .before .before .before .before .before .before) .laid))
-
 add-word-2 : tie.Need-add-word-2
-add-word-2 c = let h = in-area (c .before .before .before .before .before .before .before .before .before .before .before .before .before .before) in omega (arith, h .1, h .2)
+add-word-2 c = let h = in-area (c .before .before .before .before .before .before .before .before .before .before .before .before .before) in omega (arith, h .1, h .2)
 
 word-requires-2 : tie.Need-word-requires-2
-word-requires-2 c κs = in-area (c .before .before .before .before .before .before .before .before .before .before .before .before .before .before) .1
-
-cast-boat-word : tie.Need-cast-boat-word
-cast-boat-word c = search needs
-
-boat-word-requires : tie.Need-boat-word-requires
-boat-word-requires c κs = (fit (c .before .before .before .before .before .before .before .before .before .before .before .before .before .before .before .before) .laid, omega arith)
+word-requires-2 c κs = in-area (c .before .before .before .before .before .before .before .before .before .before .before .before .before) .1
 
 passes-requires : tie.Need-passes-requires
-passes-requires c κs = (fit (c .before .before .before .before .before .before .before .before .before .before .before .before .before .before .before .before .before .before) .laid, spot-sane (fit (c .before .before .before .before .before .before .before .before .before .before .before .before .before .before .before .before .before .before)) _ (pos-low (c .before .before .before .before .before .before .before .before .before .before .before .before .before .before .before .before .before .before)) _ (c .before .before .before .before .before .before .before .before .before .spot-at .ensures) .some-level)
+passes-requires c κs =
+    let f = fit (c .before .before .before .before .before .before .before .before .before .before .before .before .before .before) in
+    (f .laid .some-radix, spot-sane f _ (pos-low (c .before .before .before .before .before .before .before .before .before .before .before .before .before .before) _ (c .before .before .before .before .before .before .before .standing-at .ensures .0)) _ (c .before .before .before .spot-at .ensures) .some-level)
 
 put-on-requires : tie.Need-put-on-requires
-put-on-requires c κs = (spot-sane (fit (c .before .before .before .before .before .before .before .before .before .before .before .before .before .before .before .before .before .before .before .before)) _ (pos-low (c .before .before .before .before .before .before .before .before .before .before .before .before .before .before .before .before .before .before .before .before)) _ (c .before .before .before .before .before .before .before .before .before .before .before .spot-at .ensures) .small-weight, stack-small (c .before .before .before .before .before .before .before .before .before .before .before .before .before .before .before .before .before .before .before .before))
+put-on-requires c κs =
+    let here = c .before .before .before .before .before .before .before .before .before .standing-at .ensures in
+    (spot-sane (fit (c .before .before .before .before .before .before .before .before .before .before .before .before .before .before .before .before)) _ (pos-low (c .before .before .before .before .before .before .before .before .before .before .before .before .before .before .before .before) _ (here .0)) _ (c .before .before .before .before .before .spot-at .ensures) .small-weight, stack-small (c .before .before .before .before .before .before .before .before .before .before .before .before .before .before .before .before) _ (here .1))
 
 mul-over-next : tie.Need-mul-over-next
-mul-over-next c = omega (arith, pos-low (c .before .before .before .before .before .before .before .before .before .before .before .before .before .before .before .before .before .before .before .before .before .before), fit (c .before .before .before .before .before .before .before .before .before .before .before .before .before .before .before .before .before .before .before .before .before .before) .laid .few-commands)
+mul-over-next c = omega (arith, pos-low (c .before .before .before .before .before .before .before .before .before .before .before .before .before .before .before .before .before .before) _ (c .before .before .before .before .before .before .before .before .before .before .before .standing-at .ensures .0), fit (c .before .before .before .before .before .before .before .before .before .before .before .before .before .before .before .before .before .before) .laid .few-commands)
 
 element-copy-out-over-next : tie.Need-element-copy-out-over-next
-element-copy-out-over-next c = omega (arith, pos-low (c .before .before .before .before .before .before .before .before .before .before .before .before .before .before .before .before .before .before .before .before .before .before), fit (c .before .before .before .before .before .before .before .before .before .before .before .before .before .before .before .before .before .before .before .before .before .before) .laid .few-commands)
+element-copy-out-over-next c = omega (arith, pos-low (c .before .before .before .before .before .before .before .before .before .before .before .before .before .before .before .before .before .before) _ (c .before .before .before .before .before .before .before .before .before .before .before .standing-at .ensures .0), fit (c .before .before .before .before .before .before .before .before .before .before .before .before .before .before .before .before .before .before) .laid .few-commands)
 
 over-next-requires : tie.Need-over-next-requires
 over-next-requires c κs =
-    let f = fit (c .before .before .before .before .before .before .before .before .before .before .before .before .before .before .before .before .before .before .before .before .before .before .before) in
-    let p = word-front (f .laid) _ _ (c .before .before .before .before .before .before .before .before .before .before .before .before .before .before .before .before .before .before .before .before .before .before .before .pre .1 .1 .0) _ (c .before .before .before .before .before .before .before .before .before .before .before .before .before .before .before .before .before .before .before .word .ensures) in
-    (c .before .before .before .before .before .before .before .before .before .before .before .before .before .before .before .before .before .before .before .before .before .before .before .pre .0, (f .laid, (subst (λ z. toIn z < c .before .before .before .before .before .before .before .before .before .before .before .before .before .before .before .before .before .before .before .before .before .before .before .args .plan .places) (sym p) (f .ends _ (c .before .before .before .before .before .before .before .before .before .before .before .before .before .before .before .before .before .before .before .before .before .before .before .pre .1 .1 .0)), f .depths-low)))
+    let a = c .before .before .before .before .before .before .before .before .before .before .before .before .before .before .before .before .before .before .before in
+    let f = fit a in
+    let p = word-front (f .laid) _ _ (a .pre .1 .1 .0) _ (c .before .before .before .before .before .before .before .before .before .before .before .before .before .before .before .word .ensures) in
+    (a .pre .0, (f .laid, (subst (λ z. toIn z < a .args .plan .places) (sym p) (f .ends _ (a .pre .1 .1 .0)), f .depths-low)))
 
 same-length : tie.Need-same-length
 same-length c = search needs
 
 returns : tie.Need-returns
 returns c =
-    let a = c .before .before .before .before .before .before .before .before .before .before .before .before .before .before .before .before .before .before .before .before .before .before .before .before .before .before in
+    let a = c .before .before .before .before .before .before .before .before .before .before .before .before .before .before .before .before .before .before .before .before .before .before in
     let laid = fit a .laid in
-    let p = word-front laid _ _ (a .pre .1 .1 .0) _ (c .before .before .before .before .before .before .before .before .before .before .before .before .before .before .before .before .before .before .before .before .before .before .word .ensures) in
-    let x = code-front laid _ _ (a .pre .1 .1 .0) _ (c .before .before .before .before .before .before .before .before .before .before .before .word2 .ensures) in
-    let b = c .before .before .before .before .before .before .before .before .before .boat-word .ensures ∙ ap (boatWordAt (a .args .plan) (front (a .args .plan) (a .args .work .now))) x in
-    let here = sym (c .before .before .before .before .before .before .before .before .before .before .before .before .before .before .before .before .before .before .before .before .before .stands-at .ensures) ∙ c .before .before .before .before .before .before .before .before .before .before .before .before .before .before .before .before .before .before .before .before .if1 .taken in
+    let p = word-front laid _ _ (a .pre .1 .1 .0) _ (c .before .before .before .before .before .before .before .before .before .before .before .before .before .before .before .before .before .before .word .ensures) in
+    let x = code-front laid _ _ (a .pre .1 .1 .0) _ (c .before .before .before .before .before .before .before .before .word2 .ensures) in
+    let there = sym (c .before .before .before .before .before .before .before .before .before .before .before .before .before .before .before .before .before .stands-at .ensures) ∙ c .before .before .before .before .before .before .before .before .before .before .before .before .before .before .before .before .if1 .taken in
+    let here = c .before .before .before .before .before .before .before .before .before .before .before .before .before .before .before .standing-at .ensures in
+    let kind = c .before .before .before .before .before .before .before .before .before .before .before .before .if2 .taken ∙ c .before .before .before .before .before .before .before .before .before .before .before .before .before .wide .ensures .0 in
     let ok = sym (c .before .before .before .before .before .before .before .passes .ensures) ∙ c .before .before .before .before .before .before .if3 .taken in
     step-as _ (c .before .before .over-next .ensures)
-    (from-taken (cols a) _ _ (laid .stacks-is) (laid .few-commands) _ _ _ _ _ (a .pre .1 .1 .0) p here _ (c .before .before .before .before .before .before .before .before .before .before .before .before .before .before .before .before .before .spot-at .ensures) (c .before .before .before .before .before .before .before .before .before .before .before .before .before .before .before .if2 .taken) _ b ok _ _ x (c .before .before .before .before .before .put-on .ensures))
+    (from-taken (cols a) _ _ (laid .stacks-is) (laid .few-commands) _ _ _ _ _ (a .pre .1 .1 .0) p there _ _ (here .0) (here .1) kind _ (c .before .before .before .before .before .before .before .before .before .before .before .spot-at .ensures) _ x ok _ (c .before .before .before .before .before .put-on .ensures))
 
 same-length-2 : tie.Need-same-length-2
 same-length-2 c = search needs
 
 returns-2 : tie.Need-returns-2
 returns-2 c =
-    let a = c .before .before .before .before .before .before .before .before .before .before .before .before .before .before .before .before .before .before .before .before in
+    let a = c .before .before .before .before .before .before .before .before .before .before .before .before .before .before .before .before in
     let laid = fit a .laid in
-    let p = word-front laid _ _ (a .pre .1 .1 .0) _ (c .before .before .before .before .before .before .before .before .before .before .before .before .before .before .before .before .word .ensures) in
-    let x = code-front laid _ _ (a .pre .1 .1 .0) _ (c .before .before .before .before .before .word2 .ensures) in
-    let b = c .before .before .before .boat-word .ensures ∙ ap (boatWordAt (a .args .plan) (front (a .args .plan) (a .args .work .now))) x in
-    let here = sym (c .before .before .before .before .before .before .before .before .before .before .before .before .before .before .before .stands-at .ensures) ∙ c .before .before .before .before .before .before .before .before .before .before .before .before .before .before .if1 .taken in
+    let p = word-front laid _ _ (a .pre .1 .1 .0) _ (c .before .before .before .before .before .before .before .before .before .before .before .before .word .ensures) in
+    let x = code-front laid _ _ (a .pre .1 .1 .0) _ (c .before .before .word2 .ensures) in
+    let there = sym (c .before .before .before .before .before .before .before .before .before .before .before .stands-at .ensures) ∙ c .before .before .before .before .before .before .before .before .before .before .if1 .taken in
+    let here = c .before .before .before .before .before .before .before .before .before .standing-at .ensures in
+    let kind = c .before .before .before .before .before .before .if2 .taken ∙ c .before .before .before .before .before .before .before .wide .ensures .0 in
     let no-pass = sym (c .before .passes .ensures) ∙ c .if3 .left in
     step-none _ (a .pre .0)
-    (from-refused (cols a) _ _ (laid .stacks-is) (laid .few-commands) _ _ _ _ _ (a .pre .1 .1 .0) p here _ (c .before .before .before .before .before .before .before .before .before .before .before .spot-at .ensures) (c .before .before .before .before .before .before .before .before .before .if2 .taken) _ b no-pass)
+    (from-refused (cols a) _ _ (laid .stacks-is) (laid .few-commands) _ _ _ _ _ (a .pre .1 .1 .0) p there _ _ (here .0) (here .1) kind _ (c .before .before .before .before .before .spot-at .ensures) _ x no-pass)
 
 same-length-3 : tie.Need-same-length-3
 same-length-3 c = search needs
 
 returns-3 : tie.Need-returns-3
 returns-3 c =
-    let a = c .before .before .before .before .before .before .before .before .before .before .before in
+    let a = c .before .before .before .before .before .before .before .before .before .before in
     let laid = fit a .laid in
-    let p = word-front laid _ _ (a .pre .1 .1 .0) _ (c .before .before .before .before .before .before .before .word .ensures) in
-    let here = sym (c .before .before .before .before .before .before .stands-at .ensures) ∙ c .before .before .before .before .before .if1 .taken in
-    step-none _ (a .pre .0) (from-other-kind (cols a) _ _ (laid .stacks-is) (laid .few-commands) _ _ _ _ _ (a .pre .1 .1 .0) p here _ (c .before .before .spot-at .ensures) (c .if2 .left))
+    let p = word-front laid _ _ (a .pre .1 .1 .0) _ (c .before .before .before .before .before .before .word .ensures) in
+    let there = sym (c .before .before .before .before .before .stands-at .ensures) ∙ c .before .before .before .before .if1 .taken in
+    let here = c .before .before .before .standing-at .ensures in
+    step-none _ (a .pre .0) (from-other-kind (cols a) _ _ (laid .stacks-is) (laid .few-commands) _ _ _ _ _ (a .pre .1 .1 .0) p there _ _ (here .0) (here .1) (λ k. c .if2 .left (k ∙ sym (c .before .wide .ensures .0))))
 
 same-length-4 : tie.Need-same-length-4
 same-length-4 c = search needs
@@ -159,15 +159,12 @@ from-state-spec =
     word-requires
     cast-line
     stands-at-requires
-    div-at
-    add-at
-    rem-at
+    standing-at-requires
+    element-copy-out-wide
+    wide-requires
     spot-at-requires
-    rem-v
     add-word-2
     word-requires-2
-    cast-boat-word
-    boat-word-requires
     passes-requires
     put-on-requires
     mul-over-next

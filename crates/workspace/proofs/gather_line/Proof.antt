@@ -8,7 +8,7 @@ use Rattle.search.specs.PhaseTwo.{gather}
 use Rattle.search.specs.Loaded.{settingIn}
 use Rattle.search.specs.Moves.{fromState}
 use Rattle.states.specs.Spots.{front, Fit}
-use Rattle.workspace.proofs.Backs.{fit-same}
+use Rattle.expanding.proofs.Backs.{fit-same}
 use Rattle.workspace.proofs.Ahead.{gatherTurn, gather-turns, gather-at}
 use Rattle.states.proofs.Changes.{under-as, loop-turn, loop-end, under-front, under-stretch, ready-long, step-as}
 use borrow.Author.Needs.{needs}

@@ -1,4 +1,5 @@
--- `workspace::walk_lines` meets its contract: what is written so far and the walk from the frontier that is reached are the whole walk. Assumes nothing.
+-- `workspace::walk_lines` meets its contract: what is written so far and the walk from the frontier that is reached are the whole walk, and each
+-- frontier stands at one place. Assumes nothing.
 use mathlib.Core.Path.{_≡_, refl, _∙_}
 use mathlib.Core.List.{_++_}
 use Prim.Native.Nat.{_+_, _-_, _≤_, _<_}
@@ -9,9 +10,10 @@ use Rattle.states.specs.Area.{stretch, found, Under}
 use Rattle.search.specs.PhaseTwo.{walk}
 use Rattle.search.specs.Loaded.{settingIn}
 use Rattle.search.specs.Moves.{fromState}
-use Rattle.states.specs.Spots.{front, Fit}
+use Rattle.states.specs.Spots.{front}
 use Rattle.workspace.specs.Chosen.{anything}
-use Rattle.workspace.proofs.Backs.{fit-same}
+use Rattle.workspace.specs.Leading.{Leading, Together}
+use Rattle.workspace.proofs.Places.{leading-under, try-together}
 use Rattle.workspace.proofs.Ahead.{anything-same, walk-on, walk-kept, walk-end}
 use Rattle.states.proofs.Changes.{under-start, under-step, under-front, under-stretch, ready-long}
 use borrow.Author.Needs.{needs}
@@ -23,6 +25,7 @@ Inv-loop work₀ plan kinds tests levels depths pushes follow far tail out₀ lo
     ((j + left ≡ far) × (lo ≤ t) × (length out ≡ length out₀))
     × (take j out ++ walk (fromState (settingIn (columns kinds tests levels depths pushes follow) plan (front plan work₀)) (stretch (plan .base) (plan .size) work₀)) (plan .lines) left lo (found (plan .base + plan .size) (plan .size) t work) ≡ walk (fromState (settingIn (columns kinds tests levels depths pushes follow) plan (front plan work₀)) (stretch (plan .base) (plan .size) work₀)) (plan .lines) far 0 (found (plan .base + plan .size) (plan .size) tail work₀))
     × (drop j out ≡ drop j out₀)
+    × Together plan lo t work
     × Under (plan .base + plan .size) (plan .size) anything tail work₀ anything t work
 
 abbrev μ-loop : tie.MeasureT-loop
@@ -31,24 +34,24 @@ abbrev μ-loop : tie.MeasureT-loop
 abbrev cols : tie.Start Inv-loop μ-loop → Columns
 cols c = columns (c .args .kinds .now) (c .args .tests .now) (c .args .levels .now) (c .args .depths .now) (c .args .pushes .now) (c .args .follow .now)
 
-fit : (c : tie.Start Inv-loop μ-loop) → Fit (c .args .plan) (cols c) (c .args .work .now)
-fit c = c .pre .1 .0
+leading : (c : tie.Start Inv-loop μ-loop) → Leading (c .args .plan) (cols c) (c .args .work .now)
+leading c = c .pre .1 .0
 
 -- there is room for one line more
 j-low : (c : tie.At-loop Inv-loop μ-loop) → 0 < c .loop .left → c .loop .j < length (c .loop .out)
-j-low c some = let h = c .loop .inv .0 in omega (arith, h .0, h .2, some, c .before .before .before .pre .1 .1)
+j-low c some = let h = c .loop .inv .0 in omega (arith, h .0, h .2, some, c .before .before .before .pre .1 .1 .0)
 
 loop-holds : tie.Need-loop-holds Inv-loop μ-loop
-loop-holds c = ((omega arith, omega arith, refl), refl, refl, under-start _ (c .before .before .pre .0))
+loop-holds c = ((omega arith, omega arith, refl), refl, refl, c .before .before .pre .1 .1 .1, under-start _ (c .before .before .pre .0))
 
 choose-line-requires : tie.Need-choose-line-requires Inv-loop μ-loop
 choose-line-requires c κs =
     let a = c .before .before .before .before .before in
-    let u = c .before .before .loop .inv .3 in
-    (u .ready, (fit-same (u .long) (under-front u (a .args .plan .base) (omega arith)) (fit a), (c .before .loop-test .taken, c .before .before .loop .inv .0 .1)))
+    let (count, written, kept, together, u) = c .before .before .loop .inv in
+    (u .ready, (leading-under u (leading a), (c .before .loop-test .taken, count .1, together)))
 
 cast-out : tie.Need-cast-out Inv-loop μ-loop
-cast-out c = omega (arith, c .before .before .before .choose-line .ensures .0 .1, fit (c .before .before .before .before .before .before .before .before .before) .laid .few-lines)
+cast-out c = omega (arith, c .before .before .before .choose-line .ensures .low, leading (c .before .before .before .before .before .before .before .before .before) .fit .laid .few-lines)
 
 mul-out : tie.Need-mul-out Inv-loop μ-loop
 mul-out c = omega (arith, j-low (c .before .before .before .before .before .before) (c .before .before .before .before .before .loop-test .taken))
@@ -69,12 +72,12 @@ loop-again : tie.Need-loop-again Inv-loop μ-loop
 loop-again c =
     let a = c .before .before .before .before .before .before .before .before .before in
     let p = a .args .plan in
-    let (count, written, kept, u) = c .before .before .before .before .before .before .loop .inv in
+    let (count, written, kept, together, u) = c .before .before .before .before .before .before .loop .inv in
     let some = c .before .before .before .before .before .loop-test .taken in
     let front-same = under-front u (p .base) (omega arith) in
     let dist-same = under-stretch u (p .base) (p .size) (omega arith) in
-    let line = rw (front-same, dist-same) at (c .before .before .before .choose-line .ensures .0 .0) in
-    let step = rw (front-same, dist-same) at (c .before .before .before .choose-line .ensures .1) in
+    let line = rw (front-same, dist-same) at (c .before .before .before .choose-line .ensures .line-is) in
+    let step = rw (front-same, dist-same) at (c .before .before .before .choose-line .ensures .step) in
     let low = j-low (c .before .before .before .before .before .before) some in
     let j = c .before .before .before .before .before .before .loop .j in
     let out = c .before .before .before .before .before .before .loop .out in
@@ -82,6 +85,7 @@ loop-again c =
       (omega (arith, count .0, some), omega (arith, step .grows), length-set out j x ∙ count .2),
       walk-on _ _ _ _ _ _ _ _ _ _ _ some low line (step .now-found) (ready-long (u .ready)) written,
       walk-kept j x out (a .args .out .now) kept,
+      try-together (leading a .fit) (front p (a .args .work .now)) _ (c .before .before .before .before .before .before .loop .left) (c .before .before .before .before .before .before .loop .lo) (p .lines) (u .ready) step,
       under-step u anything step (anything-same _ _),
     )
 
@@ -93,7 +97,7 @@ same-length-2 c = search needs
 
 returns : tie.Need-returns Inv-loop μ-loop
 returns c =
-    let (count, written, kept, u) = c .before .loop .inv in
+    let (count, written, kept, together, u) = c .before .loop .inv in
     let none : c .before .loop .left ≡ 0 = omega (arith, c .loop-test .left) in
     let all : c .before .loop .j ≡ c .before .before .before .before .args .far = omega (arith, count .0, none) in
     walk-end _ _ _ _ _ _ _ _ _ _ none all written kept

@@ -1,0 +1,146 @@
+-- Case by case: what undoing a stack, a line and a position does; and that what the loops go by stays.
+use mathlib.Core.Path.{_≡_, refl, sym, subst}
+use mathlib.Core.Bool.{Bool, true, false}
+use mathlib.Core.List.{List}
+use Prim.Native.Nat.{ℕ, _+_, _*_, _-_, _^_, _/_, _%_, _<_, _≤_}
+use native.Mathlib.Nat.{mod-lt, div-lt-iff-lt-mul}
+use native.Mathlib.Omega.{arith}
+use lib.Dec.{eqb}
+use lib.ListN.{length, getD, drop}
+use borrow.Author.Tests.{eq-eqb, ne-eqb}
+use Rattle.automaton.specs.Columns.{Columns, bitOf}
+use Rattle.automaton.specs.Shape.{deeper}
+use Rattle.request.specs.Layout.{Laid, toIn}
+use Rattle.request.specs.declared.Plan.{Plan}
+use Rattle.search.specs.Loops.{turns}
+use Rattle.search.specs.Table.{Search, push}
+use Rattle.search.specs.Loaded.{codeAt, wordAt}
+use Rattle.states.specs.Area.{Under}
+use Rattle.sorting.specs.Runs.{sorted-same}
+use Rattle.sorting.specs.declared.Order.{Order}
+use Rattle.sorting.specs.declared.Order.the-variants as Order
+use Rattle.thinning.specs.Runs.{thin-same}
+use Rattle.ways.specs.Filed.{kindsAt, boatsAt, thinAt}
+use Rattle.ways.specs.Stacked.{stackedTurn}
+use Rattle.ways.specs.Ways.{laneTurn, runTurn, Told, Runs}
+use Rattle.ways.specs.declared.Lane.{Lane}
+use Rattle.expanding.proofs.Bridge.{turns-within}
+use Rattle.expanding.specs.Backing.{Backing}
+use Rattle.search.specs.Front.{stateIn}
+use Rattle.states.specs.Spots.{front, Starts, Fit, spotIn, off, on, okay, stackAt, stackTurn, lineTurn, targetIn, Aimed, spotTurn}
+use Rattle.states.specs.declared.Spot.{Spot}
+use Rattle.states.specs.declared.Target.{Target}
+use Rattle.states.proofs.Changes.{under-front, under-back}
+use Rattle.states.proofs.Bounds.{power-pos, stacks-pos}
+
+-- ---- a stack undone, to u
+
+module _ (R : ℕ) (s : Spot) (d home x v : ℕ) (st : Search) (u : ℕ) (eu : u ≡ off s v) where
+  pub stack-taken : on s u x ≡ v → okay R s x u ≡ true → stackAt R s d home x v st ≡ push d (home + u) st
+  unfolding stackAt
+  stack-taken h k = rw (← eu, eq-eqb _ _ h, k)
+
+  pub stack-refused : on s u x ≡ v → okay R s x u ≡ false → stackAt R s d home x v st ≡ st
+  unfolding stackAt
+  stack-refused h k = rw (← eu, eq-eqb _ _ h, k)
+
+  pub stack-other : (on s u x ≡ v → ⊥) → stackAt R s d home x v st ≡ st
+  unfolding stackAt
+  stack-other h = rw (← eu, ne-eqb _ _ h)
+
+-- ---- a line, with the word p
+
+module _ (plan : Plan) (g : List ℕ) (s : Spot) (t : Target) (d c count i : ℕ) (st : Search) (p : ℕ) (e : p ≡ wordAt plan g i) where
+  pub line-elsewhere : (p / 16 % 1024 ≡ t .place → ⊥) → lineTurn plan g s t d c count i st ≡ st
+  unfolding lineTurn
+  line-elsewhere h = rw (← e, ne-eqb _ _ h)
+
+  module _ (h : p / 16 % 1024 ≡ t .place) where
+    pub line-other-kind : (p % 16 ≡ s .kind → ⊥) → lineTurn plan g s t d c count i st ≡ st
+    unfolding lineTurn
+    line-other-kind k = rw (← e, eq-eqb _ _ h, ne-eqb _ _ k)
+
+    pub line-taken : p % 16 ≡ s .kind → (x home : ℕ) → x ≡ codeAt plan g i → home ≡ stateIn plan (p / 16384) c 0
+        → lineTurn plan g s t d c count i st ≡ turns (stackTurn (plan .radix) s d home x (t .weight) (t .stack)) 0 count st
+    unfolding lineTurn
+    line-taken k x home ex eh = rw (← ex, ← e, ← eh, eq-eqb _ _ h, eq-eqb _ _ k)
+
+-- ---- a word of the sorted lines, read as r
+
+module _ (plan : Plan) (s : Spot) (t : Target) (d c count e : ℕ) (st : Search) where
+  pub stacked-is : (r : ℕ) → r ≡ e → (home : ℕ) → home ≡ stateIn plan (r / 8192) c 0
+      → stackedTurn plan s t d c count e st ≡ turns (stackTurn (plan .radix) s d home (r % 8192) (t .weight) (t .stack)) 0 count st
+  unfolding stackedTurn
+  stacked-is r er home eh = rw (eh, er)
+
+-- ---- a position
+
+module _ (a : Columns) (plan : Plan) (g : List ℕ) (t : Target) (d c : ℕ) (st : Search) where
+  pub spot-passed : (bitOf (getD (a .follow) c 0) (t .position) ≡ 1 → ⊥) → spotTurn a plan g t d c st ≡ st
+  unfolding spotTurn
+  spot-passed h = rw (ne-eqb _ _ h)
+
+  pub spot-taken : bitOf (getD (a .follow) c 0) (t .position) ≡ 1
+      → (sp : Spot) (count : ℕ) → sp ≡ spotIn a (plan .radix) c → count ≡ plan .radix ^ (deeper (eqb (getD (a .pushes) c 0) 1) (getD (a .depths) c 0) - t .depth)
+      → spotTurn a plan g t d c st ≡ turns (lineTurn plan g sp t d c count) 0 (plan .lines) st
+  unfolding spotTurn
+  spot-taken h sp count es ec = rw (eq-eqb _ _ h, es, ec)
+
+-- ---- what the loops go by
+
+pub fit-same : {plan : Plan} {a : Columns} {w v : List ℕ} → length v ≡ length w → front plan v ≡ front plan w → Fit plan a w → Fit plan a v
+fit-same {plan} l e f =
+    record {
+      laid = subst (Laid plan) (sym l) (f .laid);
+      starts = subst (Starts plan) (sym e) (f .starts);
+      ends = subst (λ g. (i : ℕ) → i < plan .lines → toIn (wordAt plan g i) < plan .places) (sym e) (f .ends);
+      codes-low = subst (λ g. (i : ℕ) → i < plan .lines → codeAt plan g i < plan .radix) (sym e) (f .codes-low);
+      kinds-low = f .kinds-low;
+      levels-low = f .levels-low;
+      depths-low = f .depths-low;
+      leaves-low = f .leaves-low;
+    }
+
+-- a state's place is one of the places
+pub place-at : {plan : Plan} {area : ℕ} → Laid plan area → (t : ℕ) → t < plan .size → t / plan .stacks / (plan .done + 1) < plan .places
+place-at {plan} laid t less =
+    let some : 0 < plan .done + 1 = omega arith in
+    let both : t / plan .stacks < plan .places * (plan .done + 1) = div-lt-iff-lt-mul (stacks-pos laid) .1 (subst (t <_) (laid .size-is) less) in
+    div-lt-iff-lt-mul some .1 both
+
+-- what a way is chosen by
+pub told-fit : {plan : Plan} {a : Columns} {w : List ℕ} → Fit plan a w → Told plan (front plan w)
+told-fit f = record { codes-low = f .codes-low; starts = f .starts; ends = f .ends }
+
+-- a run that is right does what all lines do
+pub run-lines : {o : Order} {plan : Plan} {s : Spot} {t : Target} {c count k : ℕ} {lane : Lane} → Runs o plan s t c count k lane → {g : List ℕ} → Told plan g → (d : ℕ) (st : Search)
+    → turns (lineTurn plan g s t d c count) 0 (plan .lines) st ≡ turns (runTurn o plan g k (laneTurn d lane)) 0 (plan .lines) st
+run-lines {o} {plan} {s} {t} {c} {count} {k} {lane} r {g} told d st =
+    turns-within (lineTurn plan g s t d c count) (runTurn o plan g k (laneTurn d lane)) 0 (plan .lines) (plan .lines) (omega arith) (λ i less b. r .same g told d i less b) st
+
+-- in a loop of phase one both the loaded tables and the sorted lines stay
+pub backing-under : {filed : Bool} {plan : Plan} {a : Columns} {F : Search → Search} {t₀ : ℕ} {w₀ : List ℕ} {G : Search → Search} {t : ℕ} {w : List ℕ}
+    → Under (plan .base) (plan .size) F t₀ w₀ G t w → Backing filed plan a w₀ → Backing filed plan a w
+backing-under {plan = plan} {w₀ = w₀} {w = w} u b =
+    let f = under-front u (plan .base) (omega arith) in
+    let behind : (at : ℕ) → kindsAt plan ≤ at → drop at w ≡ drop at w₀ = λ at le. under-back u at (omega (arith, u .ready .fits)) in
+    record {
+      fit = fit-same (u .long) f (b .fit);
+      tables = λ e.
+          let t = b .tables e in
+          record {
+            room = omega (arith, t .room, u .long);
+            kinds = sorted-same Order.Kind plan (kindsAt plan) w₀ w (t .kinds) f (behind (kindsAt plan) (omega arith));
+            boats = sorted-same Order.Boat plan (boatsAt plan) w₀ w (t .boats) f (behind (boatsAt plan) (omega arith));
+            thin = thin-same plan (kindsAt plan) (thinAt plan) w₀ w (t .kinds) (t .thin) (behind (kindsAt plan) (omega arith)) (omega arith);
+          };
+    }
+
+pub aimed : {plan : Plan} {a : Columns} {w : List ℕ} → Fit plan a w → (t : ℕ) → t < plan .size → (x : Target) → x ≡ targetIn (a .depths) plan t → Aimed plan x
+unfolding targetIn
+aimed {plan} {a} f t less x e =
+    let k = t / plan .stacks % (plan .done + 1) in
+    let low : k ≤ plan .done = omega (arith, mod-lt (t / plan .stacks) {m = plan .done + 1} (omega arith)) in
+    let d = getD (a .depths) k 0 in
+    subst (Aimed plan) (sym e)
+    (record { place-low = place-at (f .laid) t less; position-low = low; depth-low = f .depths-low k low; weight-is = refl; stack-low = mod-lt (t % plan .stacks) (power-pos (f .laid) d) })

@@ -1,0 +1,98 @@
+-- `expanding::over_way` meets its contract: the run chosen does what all lines do. Assumes nothing.
+use mathlib.Core.Path.{subst}
+use Prim.Native.Nat.{_-_, _^_}
+use native.Mathlib.Omega.{arith}
+use Rattle.sorting.specs.declared.Order.the-variants as Order
+use Rattle.states.proofs.Changes.{step-as}
+use Rattle.ways.specs.Ways.{Right}
+use Rattle.expanding.proofs.Backs.{run-lines}
+use borrow.Author.Needs.{needs}
+use Rattle.expanding.proofs.over_way.Statement.{statement}
+use Rattle.expanding.proofs.over_way.Tie as tie
+
+way-of-requires : tie.Need-way-of-requires
+way-of-requires c κs = c .before .pre .1 .1 .0
+
+-- the way that was chosen is right
+right : (c : tie.After-way-of) → let x = c .before .before .args in Right (x .plan) (x .spot) (x .target) (x .c) (x .plan .radix ^ (x .leaves - x .target .depth)) (c .way-of .result)
+right c = c .way-of .ensures
+
+-- ---- the lines of one boat
+
+enum-known-k : tie.Need-enum-known-k
+enum-known-k c = search needs
+
+boats-at-requires : tie.Need-boats-at-requires
+boats-at-requires c κs = let l = c .before .before .before .before .before .pre .1 .0 .0 in (l .few-words, l .small, l .few-places, l .few-lines)
+
+over-run-requires : tie.Need-over-run-requires
+over-run-requires c κs =
+    let a = c .before .before .before .before .before .before .before in
+    let r = subst (Right _ _ _ _ _) (c .before .before .before .k .given .1) (right (c .before .before .before .before .before)) in
+    let f = a .pre .1 .1 .1 .1 in
+    let (some, near) = a .pre .1 .1 .1 .0 in
+    rw (c .before .boats-at .ensures)
+    (a .pre .0, ((f .boats, omega (arith, f .room), r .key-low), ((r .narrow, r .gives _ (a .pre .1 .0 .1)), (some, near, omega arith))))
+
+same-length : tie.Need-same-length
+same-length c = search needs
+
+returns : tie.Need-returns
+returns c =
+    let a = c .before .before .before .before .before .before .before .before .before .before in
+    let r = subst (Right _ _ _ _ _) (c .before .before .before .before .before .before .k .given .1) (right (c .before .before .before .before .before .before .before .before)) in
+    step-as _ (c .before .before .over-run .ensures) (run-lines r (a .pre .1 .0 .1) _ _)
+
+-- ---- the lines of one kind
+
+enum-known-k-2 : tie.Need-enum-known-k-2
+enum-known-k-2 c = search needs
+
+over-kind-requires : tie.Need-over-kind-requires
+over-kind-requires c κs =
+    let a = c .before .before .before .before .before .before in
+    let r = subst (Right _ _ _ _ _) (c .before .before .k2 .given .1) (right (c .before .before .before .before)) in
+    let (near, filed) = a .pre .1 .1 .1 in
+    (a .pre .0, ((a .pre .1 .0 .0, filed, r .key-low), ((r .narrow, r .gives _ (a .pre .1 .0 .1)), near)))
+
+same-length-2 : tie.Need-same-length-2
+same-length-2 c = search needs
+
+returns-2 : tie.Need-returns-2
+returns-2 c =
+    let a = c .before .before .before .before .before .before .before .before .before in
+    let r = subst (Right _ _ _ _ _) (c .before .before .before .before .before .k2 .given .1) (right (c .before .before .before .before .before .before .before)) in
+    step-as _ (c .before .before .over-kind .ensures) (run-lines r (a .pre .1 .0 .1) _ _)
+
+-- ---- each stack
+
+enum-told : tie.Need-enum-told
+enum-told c = search needs
+
+by-sorted-requires : tie.Need-by-sorted-requires
+by-sorted-requires c κs = c .before .before .before .before .before .pre
+
+same-length-3 : tie.Need-same-length-3
+same-length-3 c = search needs
+
+returns-3 : tie.Need-returns-3
+returns-3 c = c .before .before .by-sorted .ensures
+
+pub over-way-spec : {M : Type 1} → statement M
+over-way-spec =
+    tie.close
+    (tie.spec
+    way-of-requires
+    enum-known-k
+    boats-at-requires
+    over-run-requires
+    enum-known-k-2
+    over-kind-requires
+    enum-told
+    by-sorted-requires
+    same-length
+    returns
+    same-length-2
+    returns-2
+    same-length-3
+    returns-3)

@@ -1,0 +1,394 @@
+// A state expanded, backward: each state before it that has no word gets one, by the sorted lines where they are there.
+ghost use mathlib.Core.Path.{_≡_};
+ghost use Prim.Native.Nat.{ℕ, suc, _+_, _*_, _-_, _^_, _/_, _%_, _≤_, _<_};
+ghost use lib.Dec.{eqb};
+ghost use lib.ListN.{length, getD};
+ghost use Rattle.automaton.specs.Columns.{columns, bitOf};
+ghost use Rattle.automaton.specs.Shape.{deeper};
+ghost use Rattle.request.specs.Layout.{Laid};
+ghost use Rattle.search.specs.Loops.{turns};
+ghost use Rattle.search.specs.Table.{push};
+ghost use Rattle.states.specs.Area.{Ready, Step};
+ghost use Rattle.search.specs.Loaded.{settingIn};
+ghost use Rattle.search.specs.Moves.{expand};
+ghost use Rattle.sorting.specs.Sorting.{keys};
+ghost use Rattle.sorting.specs.declared.Order.the-variants as Orders;
+ghost use Rattle.ways.specs.Ways.{laneTurn, Narrow, runTurn, Told, Gives, Before};
+ghost use Rattle.ways.specs.Filed.{Filed};
+ghost use Rattle.ways.specs.Stacked.{stackedTurn, Enough};
+ghost use Rattle.expanding.specs.Backing.{Backing};
+ghost use Rattle.states.specs.Spots.{front, Sane, stackAt, stackTurn, lineTurn, Aimed, Stacks, Starts, spotTurn};
+use request::Plan;
+use sorting::Order;
+use states::Spot;
+use states::Target;
+use ways::Lane;
+use ways::Way;
+
+// ---- backward
+
+// One stack `v` after the position: it is undone for the line's boat, and the state before is pushed.
+pub fn one_stack(
+    work: &mut [u32],
+    plan: Plan,
+    spot: Spot,
+    d: u32,
+    home: usize,
+    code: u32,
+    v: usize,
+    tail: usize,
+) -> usize
+    requires { ⌜ Ready (plan .base) (plan .size) tail (now work) ⌝ }
+    requires { ⌜ Laid plan (length (now work)) ⌝ }
+    requires { ⌜ Sane spot ⌝ }
+    requires { ⌜ (0 < d) × (d ≤ suc tail) × (home + v < plan .size) ⌝ }
+    ensures { λ r. ⌜ Step (plan .base) (plan .size) (stackAt (plan .radix) spot d home code v) tail (now (work .entry)) r (now (work .exit)) ⌝ }
+{
+    let u = states::take_off(spot, v);
+    if states::put_on(spot, u, code) == v {
+        if states::passes(plan.radix, spot, code, u) {
+            return states::push_if_new(work, plan.base, plan.size, d, home + u, tail);
+        }
+    }
+    tail
+}
+
+// Each stack x * weight + w, of `count`.
+pub fn over_stacks(
+    work: &mut [u32],
+    plan: Plan,
+    spot: Spot,
+    d: u32,
+    home: usize,
+    code: u32,
+    weight: usize,
+    w: usize,
+    count: usize,
+    tail: usize,
+) -> usize
+    requires { ⌜ Ready (plan .base) (plan .size) tail (now work) ⌝ }
+    requires { ⌜ Laid plan (length (now work)) ⌝ }
+    requires { ⌜ Sane spot ⌝ }
+    requires { ⌜ (0 < d) × (d ≤ suc tail) × ((x : ℕ) → x < count → home + (x * weight + w) < plan .size) ⌝ }
+    ensures { λ r. ⌜ Step (plan .base) (plan .size) (turns (stackTurn (plan .radix) spot d home code weight w) 0 count) tail (now (work .entry)) r (now (work .exit)) ⌝ }
+{
+    let mut t = tail;
+    for x in 0..count {
+        t = one_stack(work, plan, spot, d, home, code, x * weight + w, t);
+    }
+    t
+}
+
+// Line `i`, if it leads to the target's place and is of the position's kind: gone back over to the position `c`.
+pub fn one_line(
+    work: &mut [u32],
+    plan: Plan,
+    spot: Spot,
+    target: Target,
+    d: u32,
+    c: usize,
+    count: usize,
+    i: usize,
+    tail: usize,
+) -> usize
+    requires { ⌜ Ready (plan .base) (plan .size) tail (now work) ⌝ }
+    requires { ⌜ Laid plan (length (now work)) × Starts plan (front plan (now work)) ⌝ }
+    requires { ⌜ Sane spot ⌝ }
+    requires { ⌜ (0 < d) × (d ≤ suc tail) × (c ≤ plan .done) × (i < plan .lines) × Stacks count (target .weight) (target .stack) (plan .stacks) ⌝ }
+    ensures { λ r. ⌜ Step (plan .base) (plan .size) (lineTurn plan (front plan (now (work .entry))) spot target d c count i) tail (now (work .entry)) r (now (work .exit)) ⌝ }
+{
+    let line = states::word(work, plan.words + i) as usize;
+    if line / 16 % 1024 == target.place {
+        if line % 16 == spot.kind {
+            let code = states::word(work, plan.codes + i);
+            let home = states::state_at(plan, line / 16384, c, 0);
+            return over_stacks(
+                work,
+                plan,
+                spot,
+                d,
+                home,
+                code,
+                target.weight,
+                target.stack,
+                count,
+                tail,
+            );
+        }
+    }
+    tail
+}
+
+// Each line, one after the other.
+fn over_lines(
+    work: &mut [u32],
+    plan: Plan,
+    spot: Spot,
+    target: Target,
+    d: u32,
+    c: usize,
+    count: usize,
+    tail: usize,
+) -> usize
+    requires { ⌜ Ready (plan .base) (plan .size) tail (now work) ⌝ }
+    requires { ⌜ Laid plan (length (now work)) × Starts plan (front plan (now work)) ⌝ }
+    requires { ⌜ Sane spot ⌝ }
+    requires { ⌜ (0 < d) × (d ≤ suc tail) × (c ≤ plan .done) × Stacks count (target .weight) (target .stack) (plan .stacks) ⌝ }
+    ensures { λ r. ⌜ Step (plan .base) (plan .size) (turns (lineTurn plan (front plan (now (work .entry))) spot target d c count) 0 (plan .lines)) tail (now (work .entry)) r (now (work .exit)) ⌝ }
+{
+    let lines = plan.lines;
+    let mut t = tail;
+    for i in 0..lines {
+        t = one_line(work, plan, spot, target, d, c, count, i, t);
+    }
+    t
+}
+
+// The stack's depth after a position.
+fn leaves_of(depth: u8, push: u8) -> usize
+    ensures { λ r. ⌜ r ≡ deeper (eqb push 1) depth ⌝ }
+{
+    if push == 1 {
+        states::wide(depth) + 1
+    } else {
+        states::wide(depth)
+    }
+}
+
+// How many stacks of depth `deep` there are over one of depth `e`: radix^(deep - e), and 1 where `e` is not below.
+fn stacks_over(radix: usize, deep: usize, e: usize) -> usize
+    requires { ⌜ (0 < radix) × (radix ^ (deep - e) ≤ 1048576) ⌝ }
+    ensures { λ r. ⌜ r ≡ radix ^ (deep - e) ⌝ }
+{
+    if e < deep {
+        states::power(radix, deep - e)
+    } else {
+        1
+    }
+}
+
+// Each line, for each stack of the depth `leaves`.
+fn by_stack(
+    work: &mut [u32],
+    plan: Plan,
+    spot: Spot,
+    target: Target,
+    d: u32,
+    c: usize,
+    leaves: usize,
+    tail: usize,
+) -> usize
+    requires { ⌜ Ready (plan .base) (plan .size) tail (now work) ⌝ }
+    requires { ⌜ Laid plan (length (now work)) × Told plan (front plan (now work)) ⌝ }
+    requires { ⌜ Before plan spot target c leaves ⌝ }
+    requires { ⌜ (0 < d) × (d ≤ suc tail) ⌝ }
+    ensures { λ r. ⌜ Step (plan .base) (plan .size) (turns (lineTurn plan (front plan (now (work .entry))) spot target d c (plan .radix ^ (leaves - target .depth))) 0 (plan .lines)) tail (now (work .entry)) r (now (work .exit)) ⌝ }
+{
+    let count = stacks_over(plan.radix, leaves, target.depth);
+    over_lines(work, plan, spot, target, d, c, count, tail)
+}
+
+// The word `p` of the sorted lines: gone back over to the position `c`, for each of `count` stacks.
+fn one_stacked(
+    work: &mut [u32],
+    plan: Plan,
+    spot: Spot,
+    target: Target,
+    d: u32,
+    c: usize,
+    count: usize,
+    p: usize,
+    tail: usize,
+) -> usize
+    requires { ⌜ Ready (plan .base) (plan .size) tail (now work) ⌝ }
+    requires { ⌜ Laid plan (length (now work)) × Sane spot ⌝ }
+    requires { ⌜ (p < length (now work)) × (getD (now work) p 0 / 8192 < plan .places) ⌝ }
+    requires { ⌜ (0 < d) × (d ≤ suc tail) × (c ≤ plan .done) × Stacks count (target .weight) (target .stack) (plan .stacks) ⌝ }
+    ensures { λ r. ⌜ Step (plan .base) (plan .size) (stackedTurn plan spot target d c count (getD (now (work .entry)) p 0)) tail (now (work .entry)) r (now (work .exit)) ⌝ }
+{
+    let e = states::word(work, p);
+    let home = states::state_at(plan, (e / 8192) as usize, c, 0);
+    over_stacks(
+        work,
+        plan,
+        spot,
+        d,
+        home,
+        e % 8192,
+        target.weight,
+        target.stack,
+        count,
+        tail,
+    )
+}
+
+// The words from `lo` up to `hi`, which stand after the pair of stretches.
+fn over_stacked(
+    work: &mut [u32],
+    plan: Plan,
+    spot: Spot,
+    target: Target,
+    d: u32,
+    c: usize,
+    count: usize,
+    lo: usize,
+    hi: usize,
+    tail: usize,
+) -> usize
+    requires { ⌜ Ready (plan .base) (plan .size) tail (now work) ⌝ }
+    requires { ⌜ Laid plan (length (now work)) × Sane spot ⌝ }
+    requires { ⌜ Enough plan spot target (now work) lo hi ⌝ }
+    requires { ⌜ (0 < d) × (d ≤ suc tail) × (c ≤ plan .done) × Stacks count (target .weight) (target .stack) (plan .stacks) ⌝ }
+    ensures { λ r. ⌜ Step (plan .base) (plan .size) (turns (λ p. stackedTurn plan spot target d c count (getD (now (work .entry)) p 0)) lo (hi - lo)) tail (now (work .entry)) r (now (work .exit)) ⌝ }
+{
+    let mut t = tail;
+    for p in lo..hi {
+        t = one_stacked(work, plan, spot, target, d, c, count, p, t);
+    }
+    t
+}
+
+// Each stack of the depth `leaves`, for those of the sorted lines that are enough.
+fn by_sorted(
+    work: &mut [u32],
+    plan: Plan,
+    spot: Spot,
+    target: Target,
+    d: u32,
+    c: usize,
+    leaves: usize,
+    tail: usize,
+) -> usize
+    requires { ⌜ Ready (plan .base) (plan .size) tail (now work) ⌝ }
+    requires { ⌜ Laid plan (length (now work)) × Told plan (front plan (now work)) ⌝ }
+    requires { ⌜ Before plan spot target c leaves ⌝ }
+    requires { ⌜ (0 < d) × (d ≤ suc tail) ⌝ }
+    requires { ⌜ Filed plan (now work) ⌝ }
+    ensures { λ r. ⌜ Step (plan .base) (plan .size) (turns (lineTurn plan (front plan (now (work .entry))) spot target d c (plan .radix ^ (leaves - target .depth))) 0 (plan .lines)) tail (now (work .entry)) r (now (work .exit)) ⌝ }
+{
+    let count = stacks_over(plan.radix, leaves, target.depth);
+    let run = ways::lines_for(work, plan, spot, target);
+    over_stacked(work, plan, spot, target, d, c, count, run.lo, run.hi, tail)
+}
+
+// The lines of the kind that the key `k` says; where their numbers have no weight, the thin ones are enough.
+fn over_kind(work: &mut [u32], plan: Plan, k: usize, lane: Lane, d: u32, tail: usize) -> usize
+    requires { ⌜ Ready (plan .base) (plan .size) tail (now work) ⌝ }
+    requires { ⌜ Laid plan (length (now work)) × Filed plan (now work) × (k < keys Orders.Kind plan) ⌝ }
+    requires { ⌜ Narrow lane × Gives Orders.Kind plan (front plan (now work)) k lane ⌝ }
+    requires { ⌜ (0 < d) × (d ≤ suc tail) ⌝ }
+    ensures { λ r. ⌜ Step (plan .base) (plan .size) (turns (runTurn Orders.Kind plan (front plan (now (work .entry))) k (laneTurn d lane)) 0 (plan .lines)) tail (now (work .entry)) r (now (work .exit)) ⌝ }
+{
+    let kinds = ways::kinds_at(plan);
+    if lane.only {
+        return ways::over_run(work, plan, Order::Kind, kinds, k, lane, d, tail);
+    }
+    if lane.weight == 0 {
+        let thin = ways::thin_at(plan);
+        return ways::over_thin(work, plan, kinds, thin, k, lane, d, tail);
+    }
+    ways::over_run(work, plan, Order::Kind, kinds, k, lane, d, tail)
+}
+
+// The lines that lead back to position `c`, from the run of the sorted lines that has them where there is one.
+fn over_way(
+    work: &mut [u32],
+    plan: Plan,
+    spot: Spot,
+    target: Target,
+    d: u32,
+    c: usize,
+    leaves: usize,
+    tail: usize,
+) -> usize
+    requires { ⌜ Ready (plan .base) (plan .size) tail (now work) ⌝ }
+    requires { ⌜ Laid plan (length (now work)) × Told plan (front plan (now work)) ⌝ }
+    requires { ⌜ Before plan spot target c leaves ⌝ }
+    requires { ⌜ (0 < d) × (d ≤ suc tail) ⌝ }
+    requires { ⌜ Filed plan (now work) ⌝ }
+    ensures { λ r. ⌜ Step (plan .base) (plan .size) (turns (lineTurn plan (front plan (now (work .entry))) spot target d c (plan .radix ^ (leaves - target .depth))) 0 (plan .lines)) tail (now (work .entry)) r (now (work .exit)) ⌝ }
+{
+    match ways::way_of(plan, spot, target, leaves, c) {
+        Way::ByBoat(k, lane) => {
+            let at = ways::boats_at(plan);
+            ways::over_run(work, plan, Order::Boat, at, k, lane, d, tail)
+        }
+        Way::ByKind(k, lane) => over_kind(work, plan, k, lane, d, tail),
+        Way::ByStack => by_sorted(work, plan, spot, target, d, c, leaves, tail),
+    }
+}
+
+// The position `c`, which the target's may come after: the lines that lead back to it. `filed` says that the lines are sorted.
+pub fn one_spot(
+    work: &mut [u32],
+    plan: Plan,
+    filed: bool,
+    kinds: &[u8; 64],
+    tests: &[u8; 64],
+    levels: &[u8; 64],
+    depths: &[u8; 64],
+    pushes: &[u8; 64],
+    follow: &[u64; 64],
+    target: Target,
+    d: u32,
+    c: usize,
+    tail: usize,
+) -> usize
+    requires { ⌜ Ready (plan .base) (plan .size) tail (now work) ⌝ }
+    requires { ⌜ Backing filed plan (columns (now kinds) (now tests) (now levels) (now depths) (now pushes) (now follow)) (now work) ⌝ }
+    requires { ⌜ Aimed plan target ⌝ }
+    requires { ⌜ (0 < d) × (d ≤ suc tail) × (c < plan .done) × (bitOf (getD (now follow) c 0) (target .position) ≡ 1) ⌝ }
+    ensures { λ r. ⌜ Step (plan .base) (plan .size) (spotTurn (columns (now (kinds .entry)) (now (tests .entry)) (now (levels .entry)) (now (depths .entry)) (now (pushes .entry)) (now (follow .entry))) plan (front plan (now (work .entry))) target d c) tail (now (work .entry)) r (now (work .exit)) ⌝ }
+{
+    let spot = states::spot_at(kinds, tests, levels, depths, pushes, follow, plan.radix, c);
+    let leaves = leaves_of(depths[c], pushes[c]);
+    if filed {
+        return over_way(work, plan, spot, target, d, c, leaves, tail);
+    }
+    by_stack(work, plan, spot, target, d, c, leaves, tail)
+}
+
+// The state `t` is expanded: each state before it that has no word gets the word `d`.
+pub fn expand_state(
+    work: &mut [u32],
+    plan: Plan,
+    filed: bool,
+    kinds: &[u8; 64],
+    tests: &[u8; 64],
+    levels: &[u8; 64],
+    depths: &[u8; 64],
+    pushes: &[u8; 64],
+    follow: &[u64; 64],
+    d: u32,
+    t: usize,
+    tail: usize,
+) -> usize
+    requires { ⌜ Ready (plan .base) (plan .size) tail (now work) ⌝ }
+    requires { ⌜ Backing filed plan (columns (now kinds) (now tests) (now levels) (now depths) (now pushes) (now follow)) (now work) ⌝ }
+    requires { ⌜ (0 < d) × (d ≤ suc tail) × (t < plan .size) ⌝ }
+    ensures { λ r. ⌜ Step (plan .base) (plan .size) (expand (settingIn (columns (now (kinds .entry)) (now (tests .entry)) (now (levels .entry)) (now (depths .entry)) (now (pushes .entry)) (now (follow .entry))) plan (front plan (now (work .entry)))) d t) tail (now (work .entry)) r (now (work .exit)) ⌝ }
+{
+    let target = states::target_of(depths, plan, t);
+    let done = plan.done;
+    let mut u = tail;
+    for c in 0..done {
+        if (follow[c] >> target.position) % 2 == 1 {
+            u = one_spot(
+                work,
+                plan,
+                filed,
+                kinds,
+                tests,
+                levels,
+                depths,
+                pushes,
+                follow,
+                target,
+                d,
+                c,
+                u,
+            );
+        }
+    }
+    u
+}

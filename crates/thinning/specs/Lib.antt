@@ -1,0 +1,3 @@
+pub mod Thinning
+pub mod Marks
+pub mod Runs

@@ -1,0 +1,43 @@
+-- Of the lines of one kind into one place, as they are written in a sorted table, those that are needed where only the place that a line
+-- comes from matters and one boat may be left out: of each place the first line, and the first with another boat than that one.
+use mathlib.Core.Path.{_≡_}
+use mathlib.Core.List.{List, [], _∷_, _++_}
+use Prim.Native.Nat.{ℕ, suc, _+_, _-_, _/_, _%_, _≤_, _<_}
+use lib.ListN.{getD}
+use Rattle.automaton.specs.Listed.{_∈_}
+use Rattle.request.specs.declared.Plan.{Plan}
+use Rattle.sorting.specs.Sorting.{keys, packIn, linesFrom, sortedEnd}
+use Rattle.sorting.specs.declared.Order.the-variants as Order
+use Rattle.states.specs.Area.{stretch}
+use Rattle.states.specs.Spots.{front}
+
+-- a word written of a line is the place that it comes from times 8192 and its boat's number: whichever number is left out, a word of ys that
+-- is not left out comes from the same place as x
+abbrev pub Covered : List ℕ → ℕ → Type 0
+Covered ys x = (n : ℕ) → (x % 8192 ≡ n → ⊥) → (y : ℕ) × (y ∈ ys) × (y / 8192 ≡ x / 8192) × (y % 8192 ≡ n → ⊥)
+
+-- ys are the words of xs, in their order, without some that those before them cover
+pub data Thin : List ℕ → List ℕ → Type 0 where
+  empty : {xs ys : List ℕ} → xs ≡ [] → ys ≡ [] → Thin xs ys
+  kept : {xs ys : List ℕ} (us vs : List ℕ) (x : ℕ) → xs ≡ us ++ (x ∷ []) → ys ≡ vs ++ (x ∷ []) → Thin us vs → Thin xs ys
+  left : {xs ys : List ℕ} (us : List ℕ) (x : ℕ) → xs ≡ us ++ (x ∷ []) → Thin us ys → Covered ys x → Thin xs ys
+
+-- what is written of each line says a place that it comes from
+abbrev pub FromPlaces : Plan → List ℕ → Type 0
+FromPlaces plan w = (i : ℕ) → i < plan .lines → packIn Order.Kind plan (front plan w) i / 8192 < plan .places
+
+-- ---- the table, from word `at` on, of a table sorted by kind that begins at word `of`
+
+-- two words for each place follow it, for making it
+abbrev pub thinEnd : Plan → ℕ → ℕ
+thinEnd plan at = sortedEnd Order.Kind plan at + plan .places + plan .places
+
+-- the words of key k stand from the word that word at + k says up to the word that the next one says
+pub record ThinRun (plan : Plan) (of at : ℕ) (w : List ℕ) (k : ℕ) : Type 0 where
+  pub low : linesFrom Order.Kind plan at ≤ getD w (at + k) 0
+  pub rising : getD w (at + k) 0 ≤ getD w (at + suc k) 0
+  pub high : getD w (at + suc k) 0 ≤ sortedEnd Order.Kind plan at
+  pub has : Thin (stretch (getD w (of + k) 0) (getD w (of + suc k) 0 - getD w (of + k) 0) w) (stretch (getD w (at + k) 0) (getD w (at + suc k) 0 - getD w (at + k) 0) w)
+
+abbrev pub Thinned : Plan → ℕ → ℕ → List ℕ → Type 0
+Thinned plan of at w = (k : ℕ) → k < keys Order.Kind plan → ThinRun plan of at w k

@@ -1,0 +1,294 @@
+-- The way chosen does what all lines and all stacks do: for one line, by what a stack undone is in each case (`stack-*`), and the line's key
+-- and written word (`kind-way`, `boat-way`).
+use mathlib.Core.Path.{_≡_, refl, sym, ap, _∙_}
+use mathlib.Core.Bool.{Bool, true, false, cond, _&&_, not}
+use mathlib.Core.List.{List}
+use Prim.Native.Nat.{ℕ, zero, suc, _+_, _*_, _-_, _/_, _%_, _<_, _≤_}
+use native.Mathlib.Nat.{zero-mul, mul-zero, zero-add, add-mul, mul-assoc, mod-eq-of-lt, mod-lt, div-add-mod'}
+use native.Mathlib.Decide.{ℕ-discrete}
+use native.Mathlib.Omega.{arith}
+use lib.Arith.{digits-lt, digits-div, digits-mod}
+use lib.Dec.{eqb}
+use borrow.Author.Tests.{eq-eqb, ne-eqb}
+use Rattle.meaning.specs.Language.{meets, same-boat, other-boat}
+use Rattle.meaning.specs.Pattern.{same, other}
+use Rattle.request.specs.Layout.{Laid, fromIn, toIn, kindIn}
+use Rattle.request.specs.declared.Plan.{Plan}
+use Rattle.search.specs.Front.{stateIn}
+use Rattle.search.specs.Loaded.{codeAt, wordAt}
+use Rattle.search.specs.Loops.{turns}
+use Rattle.search.specs.Table.{Search, push}
+use Rattle.sorting.specs.Sorting.{keys, keyIn, packIn}
+use Rattle.sorting.specs.declared.Order.the-variants as Order
+use Rattle.states.specs.Spots.{metBy, off, on, okay, stackAt, stackTurn, lineTurn}
+use Rattle.states.specs.declared.Spot.{Spot}
+use Rattle.states.specs.declared.Target.{Target}
+use Rattle.states.proofs.Bounds.{state-low, block-small, power-fits}
+use Rattle.ways.specs.Ways.{laneState, takenBy, laneTurn, LaneTo, Narrow, runTurn, Told, Runs, Before}
+use Rattle.ways.specs.Stacked.{stackedTurn}
+use Rattle.ways.specs.declared.Lane.{Lane}
+
+-- ---- two numbers in one
+
+-- numbers by two digits are equal exactly where both digits are
+pub pair-eqb : (m a b q x : ℕ) → b < m → x < m → eqb (a * m + b) (q * m + x) ≡ (eqb a q && eqb b x)
+pair-eqb m a b q x hb hx = elim (ℕ-discrete a q) [
+  | yes e ↦ elim (ℕ-discrete b x) [
+    | yes f ↦ rw (eq-eqb a q e, eq-eqb b x f) (eq-eqb _ _ (λ i. e i * m + f i))
+    | no n ↦ rw (eq-eqb a q e, ne-eqb b x n) (ne-eqb _ _ (λ z. n (sym (digits-mod a hb) ∙ (ap (_% m) z ∙ digits-mod q hx))))
+  ]
+  | no n ↦ rw (ne-eqb a q n) (ne-eqb _ _ (λ z. n (sym (digits-div a hb) ∙ (ap (_/ m) z ∙ digits-div q hx))))
+]
+
+-- ---- a loop in which one number does something
+
+module _ (x : ℕ) (f : ℕ → Search → Search) where
+  abbrev at-x : ℕ → Search → Search
+  at-x n st = cond (eqb x n) (f n st) st
+
+  turns-past : (i n : ℕ) (st : Search) → x < i → turns at-x i n st ≡ st
+  unfolding turns
+  turns-past i zero st h = refl
+  turns-past i (suc n) st h = rw (ne-eqb x i (λ e. omega (arith, h, e))) (turns-past (suc i) n st (omega arith))
+
+  turns-one : (i n : ℕ) (st : Search) → i ≤ x → x < i + n → turns at-x i n st ≡ f x st
+  unfolding turns
+  turns-one i zero st h l = absurd (omega arith)
+  turns-one i (suc n) st h l = elim (ℕ-discrete x i) [
+    | yes e ↦ (ap (λ b. turns at-x (suc i) n (cond b (f i st) st)) (eq-eqb x i e) ∙ (turns-past (suc i) n (f i st) (omega (arith, e)) ∙ ap (λ j. f j st) (sym e)))
+    | no ne ↦ (ap (λ b. turns at-x (suc i) n (cond b (f i st) st)) (ne-eqb x i ne) ∙ turns-one (suc i) n st (omega (arith, ne)) (omega arith))
+  ]
+
+-- a body may be changed for one that does the same at the numbers that the loop meets
+pub turns-alike : (f g : ℕ → Search → Search) (i n m : ℕ) → i + n ≤ m → ((x : ℕ) → x < m → (b : Search) → f x b ≡ g x b) → (a : Search) → turns f i n a ≡ turns g i n a
+unfolding turns
+turns-alike f g i zero m l h a = refl
+turns-alike f g i (suc n) m l h a = turns-alike f g (suc i) n m (omega arith) h (f i a) ∙ ap (turns g (suc i) n) (h i (omega arith) a)
+
+-- ---- a test by its number
+
+module _ (R : ℕ) (s : Spot) (x v : ℕ) where
+  pub okay-any : s .test ≡ 1 → okay R s x v ≡ true
+  unfolding okay
+  okay-any e = rw (eq-eqb _ _ e)
+
+  pub okay-same : s .test ≡ 2 → okay R s x v ≡ eqb x (v / s .level % R)
+  unfolding okay metBy
+  okay-same e = rw e (go (eqb x (v / s .level % R)))
+    where
+      go : (b : Bool) → meets same (cond b same-boat other-boat) ≡ b
+      go true = refl
+      go false = refl
+
+  pub okay-none : (s .test ≡ 1 → ⊥) → (s .test ≡ 2 → ⊥) → (s .test ≡ 3 → ⊥) → okay R s x v ≡ false
+  unfolding okay metBy
+  okay-none a b c = rw (ne-eqb _ _ a, ne-eqb _ _ b, ne-eqb _ _ c)
+
+  pub okay-other : s .test ≡ 3 → okay R s x v ≡ not (eqb x (v / s .level % R))
+  unfolding okay metBy
+  okay-other e = rw e (go (eqb x (v / s .level % R)))
+    where
+      go : (b : Bool) → meets other (cond b same-boat other-boat) ≡ not b
+      go true = refl
+      go false = refl
+
+-- ---- the stacks of one line, with the boat number x
+
+module _ (R : ℕ) (s : Spot) (d home x W w : ℕ) (st : Search) where
+  abbrev turn : ℕ → Search → Search
+  turn = stackTurn R s d home x W w
+
+  first-is : turns turn 0 1 st ≡ stackAt R s d home x w st
+  unfolding turns stackTurn
+  first-is = ap (λ n. stackAt R s d home x n st) (ap (_+ w) (zero-mul W) ∙ zero-add w)
+
+  -- the stack after the position is w: without a push it is the one before
+  pub stack-plain : (s .push ≡ 1 → ⊥) → turns turn 0 1 st ≡ cond (okay R s x w) (push d (home + w) st) st
+  stack-plain n = first-is ∙ unfold stackAt on off in rw (ne-eqb _ _ n, eq-eqb w w refl)
+
+  pushed-stands : s .push ≡ 1 → s .test ≡ 1 → stackAt R s d home x w st ≡ cond (eqb (x * s .weight + w % s .weight) w && true) (push d (home + w % s .weight) st) st
+  unfolding stackAt on off
+  pushed-stands e f = rw (eq-eqb _ _ e, okay-any R s x (w % s .weight) f)
+
+  -- with a push its top is the line's boat
+  pub stack-pushed : s .push ≡ 1 → s .test ≡ 1 → 0 < s .weight → turns turn 0 1 st ≡ cond (eqb x (w / s .weight)) (push d (home + w % s .weight) st) st
+  stack-pushed e f some =
+      let D = s .weight in
+      let again : eqb (x * D + w % D) w ≡ (eqb x (w / D) && eqb (w % D) (w % D)) = ap (eqb (x * D + w % D)) (sym (div-add-mod' w D)) ∙ pair-eqb D x (w % D) (w / D) (w % D) (mod-lt w some) (mod-lt w some) in
+      let whole = again ∙ ap (eqb x (w / D) &&_) (eq-eqb (w % D) (w % D) refl) in
+      first-is ∙ (pushed-stands e f ∙ ap (λ b. cond b (push d (home + w % D) st) st) (ap (_&& true) whole ∙ both (eqb x (w / D))))
+    where
+      both : (b : Bool) → (b && true && true) ≡ b
+      both true = refl
+      both false = refl
+
+  forgotten-stands : (n : ℕ) (b : Search) → s .push ≡ 1 → s .test ≡ 1
+      → turn n b ≡ cond (eqb (x * s .weight + (n * W + w) % s .weight) (n * W + w) && true) (push d (home + (n * W + w) % s .weight) b) b
+  unfolding stackTurn stackAt on off
+  forgotten-stands n b e f = rw (eq-eqb _ _ e, okay-any R s x ((n * W + w) % s .weight) f)
+
+  -- where the boat on top is forgotten after a push: once, for the line's own
+  pub stack-forgotten : s .push ≡ 1 → s .test ≡ 1 → s .weight ≡ W → w < W → x < R → turns turn 0 R st ≡ push d (home + w) st
+  stack-forgotten e f equal low below =
+      turns-alike turn (at-x x (λ n. push d (home + w))) 0 R R (omega arith) (λ n less b. pushed-turn e f equal low n b) st ∙ turns-one x (λ n. push d (home + w)) 0 R st (omega arith) (omega arith)
+    where
+      keep : (b : Bool) → (b && true && true) ≡ b
+      keep true = refl
+      keep false = refl
+
+      pushed-turn : s .push ≡ 1 → s .test ≡ 1 → s .weight ≡ W → w < W → (n : ℕ) (b : Search) → turn n b ≡ at-x x (λ n. push d (home + w)) n b
+      pushed-turn e f equal low n b =
+          let v = n * W + w in
+          let top : v % s .weight ≡ w = ap (v %_) equal ∙ digits-mod n low in
+          let again : eqb (x * s .weight + w) v ≡ (eqb x n && eqb w w) = ap (λ D. eqb (x * D + w) v) equal ∙ pair-eqb W x w n w low low in
+          let one = ap (λ u. cond (eqb (x * s .weight + u) v && true) (push d (home + u) b) b) top in
+          forgotten-stands n b e f ∙ (one ∙ ap (λ c. cond c (push d (home + w) b) b) (ap (_&& true) (again ∙ ap (eqb x n &&_) (eq-eqb w w refl)) ∙ keep (eqb x n)))
+
+  pub tested-stands : (n : ℕ) (b : Search) → (s .push ≡ 1 → ⊥) → turn n b ≡ cond (okay R s x (n * W + w)) (push d (home + (n * W + w)) b) b
+  unfolding stackTurn stackAt on off
+  tested-stands n b ne = rw (ne-eqb _ _ ne, eq-eqb (n * W + w) (n * W + w) refl)
+
+  -- where the boat on top is forgotten after it was the line's
+  pub stack-left : (s .push ≡ 1 → ⊥) → s .test ≡ 2 → s .level ≡ W → w < W → x < R → turns turn 0 R st ≡ push d (home + (x * W + w)) st
+  stack-left ne f equal low below =
+      turns-alike turn (at-x x (λ n. push d (home + (n * W + w)))) 0 R R (omega arith) tested-turn st ∙ turns-one x (λ n. push d (home + (n * W + w))) 0 R st (omega arith) (omega arith)
+    where
+      tested-turn : (n : ℕ) → n < R → (b : Search) → turn n b ≡ at-x x (λ n. push d (home + (n * W + w))) n b
+      tested-turn n less b =
+          let v = n * W + w in
+          let there : v / s .level % R ≡ n = ap (λ z. v / z % R) equal ∙ (ap (_% R) (digits-div n low) ∙ mod-eq-of-lt less) in
+          tested-stands n b ne ∙ ap (λ z. cond z (push d (home + v) b) b) (okay-same R s x v f ∙ ap (eqb x) there)
+
+-- ---- a line by its key and its written word
+
+module _ (plan : Plan) (g : List ℕ) (told : Told plan g) (few : plan .radix ≤ 4097) (i : ℕ) (h : i < plan .lines) where
+  abbrev from : ℕ
+  from = fromIn (wordAt plan g i)
+
+  abbrev code : ℕ
+  code = codeAt plan g i
+
+  code-small : code < 8192
+  code-small = omega (arith, told .codes-low i h)
+
+  kind-small : kindIn (wordAt plan g i) < 8192
+  kind-small = omega (arith, mod-lt (wordAt plan g i) {m = 16} (omega arith))
+
+  -- the state that a lane gives a word with this place and the number y
+  module _ (c u weight number : ℕ) (only : Bool) (lane : Lane) (is : LaneTo plan c u weight number only lane) (y : ℕ) (small : y < 8192) where
+    state-split : (v : ℕ) → stateIn plan from c 0 + v ≡ from * ((plan .done + 1) * plan .stacks) + (c * plan .stacks + v)
+    state-split v =
+        let n = plan .done + 1 in
+        omega (arith, add-mul (from * n) c (plan .stacks), mul-assoc from n (plan .stacks))
+
+    pub lane-is : laneState lane (from * 8192 + y) ≡ stateIn plan from c 0 + (u + y * weight)
+    unfolding laneState
+    lane-is =
+        let split = state-split (u + y * weight) in
+        rw (digits-div from small, digits-mod from small, is .block-is, is .home-is, is .weight-is) (omega (arith, split))
+
+    number-of : (from * 8192 + y) % 8192 ≡ y
+    number-of = digits-mod from small
+
+    lane-turn : (d : ℕ) (st : Search) → laneTurn d lane (from * 8192 + y) st ≡ cond (takenBy only y number) (push d (stateIn plan from c 0 + (u + y * weight)) st) st
+    unfolding laneTurn
+    lane-turn d st = rw (number-of, lane-is, is .number-is, is .only-is)
+
+  module _ (s : Spot) (t : Target) (d c count : ℕ) (st : Search) where
+    abbrev stacks-of : Search → Search
+    stacks-of = turns (stackTurn (plan .radix) s d (stateIn plan from c 0) code (t .weight) (t .stack)) 0 count
+
+    -- by its kind
+    kind-way : (f : ℕ → Search → Search) → s .kind ≤ 15 → stacks-of st ≡ f (packIn Order.Kind plan g i) st
+        → lineTurn plan g s t d c count i st ≡ runTurn Order.Kind plan g (t .place * 16 + s .kind) f i st
+    unfolding lineTurn runTurn keyIn
+    kind-way f low e =
+        let w = wordAt plan g i in
+        rw (pair-eqb 16 (toIn w) (kindIn w) (t .place) (s .kind) (mod-lt w {m = 16} (omega arith)) (omega (arith, low)), e)
+
+    -- by its kind, for each stack
+    stacked-pack : stacks-of st ≡ stackedTurn plan s t d c count (packIn Order.Kind plan g i) st
+    unfolding stackedTurn packIn
+    stacked-pack = rw (digits-div from code-small, digits-mod from code-small)
+
+    pub stacked-line : s .kind ≤ 15 → lineTurn plan g s t d c count i st ≡ runTurn Order.Kind plan g (t .place * 16 + s .kind) (stackedTurn plan s t d c count) i st
+    stacked-line low = kind-way (stackedTurn plan s t d c count) low stacked-pack
+
+    -- by its boat
+    boat-way : (lane : Lane) (x : ℕ) → x < plan .radix → (P : Search) → stacks-of st ≡ cond (eqb code x) P st → laneTurn d lane (packIn Order.Boat plan g i) st ≡ cond (eqb (kindIn (wordAt plan g i)) (s .kind)) P st
+        → lineTurn plan g s t d c count i st ≡ runTurn Order.Boat plan g (t .place * plan .radix + x) (laneTurn d lane) i st
+    unfolding lineTurn runTurn keyIn
+    boat-way lane x low P e f =
+        let w = wordAt plan g i in
+        rw (pair-eqb (plan .radix) (toIn w) code (t .place) x (told .codes-low i h) low, e, f)
+        (go (eqb (toIn w) (t .place)) (eqb (kindIn w) (s .kind)) (eqb code x))
+      where
+        go : (a k b : Bool) → cond (a && k) (cond b P st) st ≡ cond (a && b) (cond k P st) st
+        go true true b = ends b
+          where
+            ends : (b : Bool) → cond b P st ≡ cond (true && b) (cond true P st) st
+            ends true = refl
+            ends false = refl
+        go true false true = refl
+        go true false false = refl
+        go false k b = refl
+
+-- ---- a lane's bounds
+
+module _ (plan : Plan) (area : ℕ) (laid : Laid plan area) (c u weight number : ℕ) (only : Bool) (lane : Lane) (is : LaneTo plan c u weight number only lane) (c-low : c ≤ plan .done) (u-low : u < plan .stacks) where
+  lane-narrow : weight ≤ 1048576 → Narrow lane
+  lane-narrow low =
+      let c< : c < plan .done + 1 = omega arith in
+      let in-block : c * plan .stacks + u < (plan .done + 1) * plan .stacks = digits-lt c< u-low in
+      record { block-low = omega (arith, is .block-is, block-small laid); home-low = omega (arith, is .home-is, in-block, block-small laid); weight-low = omega (arith, is .weight-is, low) }
+
+  lane-low : (g : List ℕ) (told : Told plan g) (i : ℕ) (h : i < plan .lines) (y : ℕ) → y < 8192 → u + y * weight < plan .stacks → laneState lane (fromIn (wordAt plan g i) * 8192 + y) < plan .size
+  lane-low g told i h y small fits =
+      let q = fromIn (wordAt plan g i) in
+      let low = state-low (plan .places) (plan .done + 1) (plan .stacks) (plan .size) q c (u + y * weight) (laid .size-is) (told .starts i h) (omega arith) fits in
+      rw (lane-is plan g told (laid .few-boats) i h c u weight number only lane is y small) (omega (arith, low))
+
+-- ---- the runs
+
+module _ (plan : Plan) (s : Spot) (t : Target) (c leaves : ℕ) (b : Before plan s t c leaves) where
+  pub stack-fits : t .stack < plan .stacks
+  stack-fits = omega (arith, b .aimed .stack-low, b .aimed .weight-is, power-fits (b .laid) (t .depth) (b .aimed .depth-low))
+
+  module _ (count k : ℕ) (lane : Lane) where
+    pub kind-runs : (weight number : ℕ) → LaneTo plan c (t .stack) weight number false lane → k ≡ t .place * 16 + s .kind → weight ≤ 1048576
+        → ((x : ℕ) → x < plan .radix → t .stack + x * weight < plan .stacks)
+        → ((d home x : ℕ) → x < plan .radix → (st : Search) → turns (stackTurn (plan .radix) s d home x (t .weight) (t .stack)) 0 count st ≡ cond (not (eqb x number)) (push d (home + (t .stack + x * weight)) st) st)
+        → Runs Order.Kind plan s t c count k lane
+    unfolding keys packIn
+    kind-runs weight number is key low fits law =
+        record {
+          key-low = let q< = b .aimed .place-low in let k< : t .place * 16 + s .kind < plan .places * 16 = digits-lt q< (omega (arith, b .kind-low)) in omega (arith, key, k<);
+          narrow = lane-narrow plan (b .area) (b .laid) c (t .stack) weight number false lane is (b .position-low) stack-fits low;
+          gives = λ g told i h. lane-low plan (b .area) (b .laid) c (t .stack) weight number false lane is (b .position-low) stack-fits g told i h (codeAt plan g i) (omega (arith, told .codes-low i h, b .laid .few-boats)) (fits (codeAt plan g i) (told .codes-low i h));
+          same = λ g told d i h st.
+              let few = b .laid .few-boats in
+              let x = codeAt plan g i in
+              let small = code-small plan g told few i h in
+              let by-lane = lane-turn plan g told few i h c (t .stack) weight number false lane is x small d st in
+              let way = kind-way plan g told few i h s t d c count st (laneTurn d lane) (b .kind-low) (law d (stateIn plan (fromIn (wordAt plan g i)) c 0) x (told .codes-low i h) st ∙ sym (by-lane ∙ unfold takenBy in refl)) in
+              way ∙ ap (λ z. runTurn Order.Kind plan g z (laneTurn d lane) i st) (sym key);
+        }
+
+    pub boat-runs : (u x₀ : ℕ) → LaneTo plan c u 0 (s .kind) true lane → k ≡ t .place * plan .radix + x₀ → x₀ < plan .radix → u < plan .stacks
+        → ((d home x : ℕ) → x < plan .radix → (st : Search) → turns (stackTurn (plan .radix) s d home x (t .weight) (t .stack)) 0 count st ≡ cond (eqb x x₀) (push d (home + u) st) st)
+        → Runs Order.Boat plan s t c count k lane
+    unfolding keys packIn
+    boat-runs u x₀ is key low fits law =
+        record {
+          key-low = let k< : t .place * plan .radix + x₀ < plan .places * plan .radix = digits-lt (b .aimed .place-low) low in omega (arith, key, k<);
+          narrow = lane-narrow plan (b .area) (b .laid) c u 0 (s .kind) true lane is (b .position-low) fits (omega arith);
+          gives = λ g told i h. lane-low plan (b .area) (b .laid) c u 0 (s .kind) true lane is (b .position-low) fits g told i h (kindIn (wordAt plan g i)) (kind-small plan g told (b .laid .few-boats) i h) (omega (arith, mul-zero (kindIn (wordAt plan g i)), fits));
+          same = λ g told d i h st.
+              let few = b .laid .few-boats in
+              let y = kindIn (wordAt plan g i) in
+              let home = stateIn plan (fromIn (wordAt plan g i)) c 0 in
+              let sum : home + (u + y * 0) ≡ home + u = omega (arith, mul-zero y) in
+              let by-lane = lane-turn plan g told few i h c u 0 (s .kind) true lane is y (kind-small plan g told few i h) d st ∙ ap (λ z. cond (takenBy true y (s .kind)) (push d z st) st) sum in
+              let way = boat-way plan g told few i h s t d c count st lane x₀ low (push d (home + u) st) (law d home (codeAt plan g i) (told .codes-low i h) st) (by-lane ∙ unfold takenBy in refl) in
+              way ∙ ap (λ z. runTurn Order.Boat plan g z (laneTurn d lane) i st) (sym key);
+        }

@@ -1,0 +1,293 @@
+-- The thin words of a run do what all of its words do, where each word pushes states by the place that it says and at most one number is left
+-- out: a word that was left out would push states that have their words already (`thin-loop`). So it is in a lane without weight
+-- (`lane-pushing`), and for the stacks of a position that neither pushes nor tests `same` (`stack-pushing`).
+use mathlib.Core.Path.{_≡_, refl, sym, ap, _∙_, subst}
+use mathlib.Core.Bool.{Bool, true, false, cond, not, false≢true}
+use mathlib.Core.List.{List, [], _∷_, _++_, List·Memᴰ·head, List·Memᴰ·cases-cons, List·Memᴰ·append-cases, Memᴰ·append-left, Memᴰ·append-right}
+use mathlib.Core.Logic.{⊎-elim}
+use Prim.Native.Nat.{ℕ, zero, suc, _+_, _*_, _-_, _/_, _%_, _<_, _≤_}
+use native.Mathlib.Nat.{mul-zero}
+use native.Mathlib.Decide.{ℕ-discrete}
+use native.Mathlib.Omega.{arith}
+use lib.Dec.{eqb}
+use lib.ListN.{length, getD, set, length-set}
+use lib.Seq.{getD-set-same, getD-set-other}
+use borrow.Author.Tests.{eqb-true, eqb-false, eq-eqb, ne-eqb}
+use Rattle.automaton.specs.Listed.{_∈_, none-in}
+use Rattle.request.specs.declared.Plan.{Plan}
+use Rattle.search.specs.Front.{stateIn}
+use Rattle.search.specs.Loops.{loop, turns, loop-append, turns-same, turns-idle}
+use Rattle.search.specs.Table.{Search, push}
+use Rattle.sorting.specs.Runs.{turns-run, loop-stretch}
+use Rattle.sorting.specs.Sorting.{sortedEnd, Run}
+use Rattle.sorting.specs.declared.Order.the-variants as Order
+use Rattle.states.specs.Area.{stretch}
+use Rattle.states.specs.Spots.{front, okay}
+use Rattle.states.specs.declared.Spot.{Spot}
+use Rattle.states.specs.declared.Target.{Target}
+use Rattle.thinning.specs.Thinning.{Covered, Thin, empty, kept, left, ThinRun}
+use Rattle.ways.specs.Stacked.{stackedTurn}
+use Rattle.ways.specs.Ways.{laneState, takenBy, laneTurn, runTurn, Gives}
+use Rattle.ways.specs.declared.Lane.{Lane}
+use Rattle.ways.proofs.Lanes.{run-in, run-turn, stretch-word}
+use Rattle.ways.proofs.Right.{okay-any, okay-other, okay-none, tested-stands}
+
+-- numbers that are not equal
+not-equal : (a b : ℕ) → not (eqb a b) ≡ true → a ≡ b → ⊥
+not-equal a b h e = false≢true (ap not (sym (eq-eqb a b e)) ∙ h)
+
+-- ---- a state that has a word keeps one
+
+-- the word of t
+abbrev wordOf : ℕ → Search → ℕ
+wordOf t st = getD (st .dist) t 0
+
+module _ (d : ℕ) (some : 0 < d) where
+  push-long : (s : ℕ) (st : Search) → length (push d s st .dist) ≡ length (st .dist)
+  unfolding push
+  push-long s st = go (eqb (wordOf s st) 0)
+    where
+      go : (b : Bool) → length ((cond b (record { dist = set (st .dist) s d; queue = st .queue ++ (s ∷ []) }) st) .dist) ≡ length (st .dist)
+      go true = length-set (st .dist) s d
+      go false = refl
+
+  push-has : (s : ℕ) (st : Search) → s < length (st .dist) → 0 < wordOf s (push d s st)
+  unfolding push
+  push-has s st low = go (eqb (wordOf s st) 0) refl
+    where
+      go : (b : Bool) → eqb (wordOf s st) 0 ≡ b → 0 < wordOf s (cond b (record { dist = set (st .dist) s d; queue = st .queue ++ (s ∷ []) }) st)
+      go true e = subst (0 <_) (sym (getD-set-same (st .dist) s d 0 low)) some
+      go false e = let n = eqb-false (wordOf s st) 0 e in omega (arith, n)
+
+  push-keeps : (s t : ℕ) (st : Search) → 0 < wordOf t st → 0 < wordOf t (push d s st)
+  unfolding push
+  push-keeps s t st h = go (eqb (wordOf s st) 0) refl
+    where
+      go : (b : Bool) → eqb (wordOf s st) 0 ≡ b → 0 < wordOf t (cond b (record { dist = set (st .dist) s d; queue = st .queue ++ (s ∷ []) }) st)
+      go true e =
+          let zero-there = eqb-true (wordOf s st) 0 e in
+          subst (0 <_) (sym (getD-set-other (st .dist) s t d 0 (λ q. let z : wordOf t st ≡ 0 = ap (λ n. wordOf n st) q ∙ zero-there in omega (arith, z, h)))) h
+      go false e = h
+
+  -- a state that has a word is not pushed
+  push-nothing : (s : ℕ) (st : Search) → 0 < wordOf s st → push d s st ≡ st
+  unfolding push
+  push-nothing s st h = rw (ne-eqb (wordOf s st) 0 (λ e. omega (arith, e, h)))
+
+  -- ---- pushes one after the other, of those numbers that are taken
+
+  module _ (takes : ℕ → Bool) (gives : ℕ → ℕ) where
+    abbrev pushIf : ℕ → Search → Search
+    pushIf n st = cond (takes n) (push d (gives n) st) st
+
+    if-long : (n : ℕ) (st : Search) → length (pushIf n st .dist) ≡ length (st .dist)
+    if-long n st = go (takes n)
+      where
+        go : (b : Bool) → length ((cond b (push d (gives n) st) st) .dist) ≡ length (st .dist)
+        go true = push-long (gives n) st
+        go false = refl
+
+    if-keeps : (n t : ℕ) (st : Search) → 0 < wordOf t st → 0 < wordOf t (pushIf n st)
+    if-keeps n t st h = go (takes n)
+      where
+        go : (b : Bool) → 0 < wordOf t (cond b (push d (gives n) st) st)
+        go true = push-keeps (gives n) t st h
+        go false = h
+
+    if-has : (n : ℕ) (st : Search) → takes n ≡ true → gives n < length (st .dist) → 0 < wordOf (gives n) (pushIf n st)
+    if-has n st goes low = subst (λ b. 0 < wordOf (gives n) (cond b (push d (gives n) st) st)) (sym goes) (push-has (gives n) st low)
+
+    if-nothing : (n : ℕ) (st : Search) → (takes n ≡ true → 0 < wordOf (gives n) st) → pushIf n st ≡ st
+    if-nothing n st h = go (takes n) h
+      where
+        go : (b : Bool) → (b ≡ true → 0 < wordOf (gives n) st) → cond b (push d (gives n) st) st ≡ st
+        go true h = push-nothing (gives n) st (h refl)
+        go false h = refl
+
+    all-long : (i n : ℕ) (st : Search) → length (turns pushIf i n st .dist) ≡ length (st .dist)
+    unfolding turns
+    all-long i zero st = refl
+    all-long i (suc n) st = all-long (suc i) n (pushIf i st) ∙ if-long i st
+
+    all-keeps : (i n t : ℕ) (st : Search) → 0 < wordOf t st → 0 < wordOf t (turns pushIf i n st)
+    unfolding turns
+    all-keeps i zero t st h = h
+    all-keeps i (suc n) t st h = all-keeps (suc i) n t (pushIf i st) (if-keeps i t st h)
+
+    all-has : (i n k : ℕ) (st : Search) → i ≤ k → k < i + n → takes k ≡ true → gives k < length (st .dist) → 0 < wordOf (gives k) (turns pushIf i n st)
+    unfolding turns
+    all-has i zero k st from less goes low = absurd (omega arith)
+    all-has i (suc n) k st from less goes low = elim (ℕ-discrete k i) [
+      | yes e ↦ all-keeps (suc i) n (gives k) (pushIf i st) (subst (λ j. 0 < wordOf (gives k) (pushIf j st)) e (if-has k st goes low))
+      | no ne ↦ all-has (suc i) n k (pushIf i st) (omega (arith, ne)) (omega arith) goes (subst (gives k <_) (sym (if-long i st)) low)
+    ]
+
+-- ---- words that push states
+
+-- where Does e s, the word e pushes the state s: what it does is that, and a word that is covered pushes no further state
+pub record Pushing (f : ℕ → Search → Search) (Does : ℕ → ℕ → Type 0) : Type 0 where
+  pub long : (e : ℕ) (st : Search) → length (f e st .dist) ≡ length (st .dist)
+  pub keeps : (e s : ℕ) (st : Search) → 0 < wordOf s st → 0 < wordOf s (f e st)
+  pub has : (e s : ℕ) (st : Search) → Does e s → s < length (st .dist) → 0 < wordOf s (f e st)
+  pub idle : (e : ℕ) (st : Search) → ((s : ℕ) → Does e s → 0 < wordOf s st) → f e st ≡ st
+  pub cover : (ys : List ℕ) (x s : ℕ) → Covered ys x → Does x s → (y : ℕ) × (y ∈ ys) × Does y s
+
+module _ {f : ℕ → Search → Search} {Does : ℕ → ℕ → Type 0} (p : Pushing f Does) where
+  loop-keeps : (ys : List ℕ) (s : ℕ) (st : Search) → 0 < wordOf s st → 0 < wordOf s (loop f ys st)
+  unfolding loop
+  loop-keeps [] s st h = h
+  loop-keeps (y ∷ ys) s st h = loop-keeps ys s (f y st) (p .keeps y s st h)
+
+  -- a state that a word of the list pushes has a word
+  loop-has : (ys : List ℕ) (y s : ℕ) (st : Search) → y ∈ ys → Does y s → s < length (st .dist) → 0 < wordOf s (loop f ys st)
+  unfolding loop
+  loop-has [] y s st m does low = none-in m
+  loop-has (x ∷ ys) y s st m does low = ⊎-elim
+      (λ (e : y ≡ x). loop-keeps ys s (f x st) (subst (λ z. 0 < wordOf s (f z st)) e (p .has y s st does low)))
+      (λ j. loop-has ys y s (f x st) j does (subst (s <_) (sym (p .long x st)) low))
+      (List·Memᴰ·cases-cons m)
+
+  -- a word that is covered does nothing more
+  covered-nothing : (ys : List ℕ) (x : ℕ) (st : Search) → Covered ys x → ((s : ℕ) → Does x s → s < length (st .dist)) → f x (loop f ys st) ≡ loop f ys st
+  covered-nothing ys x st covered low = p .idle x (loop f ys st) (λ s does. let (y, m, too) = p .cover ys x s covered does in loop-has ys y s st m too (low s does))
+
+  loop-end : (us : List ℕ) (x : ℕ) (st : Search) → loop f (us ++ (x ∷ [])) st ≡ f x (loop f us st)
+  loop-end us x st = loop-append f us (x ∷ []) st ∙ unfold loop in refl
+
+  pub thin-loop : (xs ys : List ℕ) → Thin xs ys → (st : Search) → ((x : ℕ) → x ∈ xs → (s : ℕ) → Does x s → s < length (st .dist)) → loop f xs st ≡ loop f ys st
+  thin-loop xs ys (empty e g) st low = λ t. loop f ((e ∙ sym g) t) st
+  thin-loop xs ys (kept us vs x e g h) st low =
+      ap (λ l. loop f l st) e
+      ∙ (loop-end us x st
+      ∙ (ap (f x) (thin-loop us vs h st (λ z m. low z (subst (z ∈_) (sym e) (Memᴰ·append-left (x ∷ []) m))))
+      ∙ (sym (loop-end vs x st) ∙ ap (λ l. loop f l st) (sym g))))
+  thin-loop xs ys (left us x e h covered) st low =
+      ap (λ l. loop f l st) e
+      ∙ (loop-end us x st
+      ∙ (ap (f x) (thin-loop us ys h st (λ z m. low z (subst (z ∈_) (sym e) (Memᴰ·append-left (x ∷ []) m))))
+      ∙ covered-nothing ys x st covered (low x (subst (x ∈_) (sym e) (Memᴰ·append-right us (List·Memᴰ·head refl))))))
+
+-- ---- words that push, each, some of so many states
+
+module _ (many : ℕ) (takes : ℕ → ℕ → Bool) (gives : ℕ → ℕ → ℕ) where
+  abbrev pub Gets : ℕ → ℕ → Type 0
+  Gets e s = (n : ℕ) × (n < many) × (takes e n ≡ true) × (s ≡ gives e n)
+
+  pub pushing : (d : ℕ) → 0 < d → (f : ℕ → Search → Search) → ((e : ℕ) (st : Search) → f e st ≡ turns (λ n b. cond (takes e n) (push d (gives e n) b) b) 0 many st)
+      → ((ys : List ℕ) (x s : ℕ) → Covered ys x → Gets x s → (y : ℕ) × (y ∈ ys) × Gets y s) → Pushing f Gets
+  pushing d some f is cover =
+      record {
+        long = λ e st. ap (λ u. length (u .dist)) (is e st) ∙ all-long d some (takes e) (gives e) 0 many st;
+        keeps = λ e s st h. subst (λ u. 0 < wordOf s u) (sym (is e st)) (all-keeps d some (takes e) (gives e) 0 many s st h);
+        has = λ e s st gets low.
+            let (n, less, goes, there) = gets in
+            let word = all-has d some (takes e) (gives e) 0 many n st (omega arith) (omega (arith, less)) goes (subst (_< length (st .dist)) there low) in
+            subst (λ u. 0 < wordOf s u) (sym (is e st)) (subst (λ z. 0 < wordOf z (turns (λ n b. cond (takes e n) (push d (gives e n) b) b) 0 many st)) (sym there) word);
+        idle = λ e st h.
+            is e st ∙ turns-idle (λ n b. cond (takes e n) (push d (gives e n) b) b) 0 many st (λ n from less. if-nothing d some (takes e) (gives e) n st (λ goes. h (gives e n) (n, omega (arith, less), goes, refl)));
+        cover = cover;
+      }
+
+-- ---- the words of a lane without weight: one state each
+
+module _ (lane : Lane) where
+  abbrev pub LaneGets : ℕ → ℕ → Type 0
+  LaneGets = Gets 1 (λ e n. takenBy (lane .only) (e % 8192) (lane .number)) (λ e n. laneState lane e)
+
+  module _ (flat : lane .weight ≡ 0) (other : lane .only ≡ false) where
+    -- without weight only the place matters
+    same-state : (x y : ℕ) → y / 8192 ≡ x / 8192 → laneState lane y ≡ laneState lane x
+    unfolding laneState
+    same-state x y e = λ t. e t * lane .block + (lane .home + (none y ∙ sym (none x)) t)
+      where
+        none : (z : ℕ) → z % 8192 * lane .weight ≡ 0
+        none z = ap (z % 8192 *_) flat ∙ mul-zero (z % 8192)
+
+    taken-is : (y : ℕ) → takenBy (lane .only) (y % 8192) (lane .number) ≡ not (eqb (y % 8192) (lane .number))
+    unfolding takenBy
+    taken-is y = rw other
+
+    lane-cover : (ys : List ℕ) (x s : ℕ) → Covered ys x → LaneGets x s → (y : ℕ) × (y ∈ ys) × LaneGets y s
+    lane-cover ys x s covered (n, less, goes, there) =
+        let (y, m, from, differs) = covered (lane .number) (not-equal _ _ (sym (taken-is x) ∙ goes)) in
+        (y, m, (n, less, taken-is y ∙ ap not (ne-eqb _ _ differs), there ∙ sym (same-state x y from)))
+
+    pub lane-pushing : (d : ℕ) → 0 < d → Pushing (laneTurn d lane) LaneGets
+    lane-pushing d some = pushing 1 (λ e n. takenBy (lane .only) (e % 8192) (lane .number)) (λ e n. laneState lane e) d some (laneTurn d lane) (λ e st. unfold laneTurn turns in refl) lane-cover
+
+-- ---- the words of a position that neither pushes nor tests `same`: for each stack one state
+
+module _ (plan : Plan) (s : Spot) (t : Target) (c count : ℕ) where
+  abbrev stackOf : ℕ → ℕ
+  stackOf n = n * t .weight + t .stack
+
+  abbrev pub StackGets : ℕ → ℕ → Type 0
+  StackGets = Gets count (λ e n. okay (plan .radix) s (e % 8192) (stackOf n)) (λ e n. stateIn plan (e / 8192) c 0 + stackOf n)
+
+  module _ (plain : s .push ≡ 1 → ⊥) (free : s .test ≡ 2 → ⊥) where
+    -- whichever boat is compared, a word that is not left out covers
+    stack-cover : (ys : List ℕ) (x u : ℕ) → Covered ys x → StackGets x u → (y : ℕ) × (y ∈ ys) × StackGets y u
+    stack-cover ys x u covered (n, less, goes, there) = elim (ℕ-discrete (s .test) 1) [
+      | yes any ↦
+          (let (y, m, from, differs) = covered (suc (x % 8192)) (λ e. omega (arith, e)) in
+          (y, m, (n, less, okay-any (plan .radix) s (y % 8192) (stackOf n) any, moved y from)))
+      | no tests ↦ elim (ℕ-discrete (s .test) 3) [
+        | yes other ↦
+            (let (y, m, from, differs) = covered (stackOf n / s .level % plan .radix) (not-equal _ _ (sym (okay-other (plan .radix) s (x % 8192) (stackOf n) other) ∙ goes)) in
+            (y, m, (n, less, okay-other (plan .radix) s (y % 8192) (stackOf n) other ∙ ap not (ne-eqb _ _ differs), moved y from)))
+        | no nothing ↦ absurd (false≢true (sym (okay-none (plan .radix) s (x % 8192) (stackOf n) tests free nothing) ∙ goes))
+      ]
+    ]
+      where
+        moved : (y : ℕ) → y / 8192 ≡ x / 8192 → u ≡ stateIn plan (y / 8192) c 0 + stackOf n
+        moved y from = there ∙ ap (λ q. stateIn plan q c 0 + stackOf n) (sym from)
+
+    stack-is : (d e : ℕ) (st : Search)
+        → stackedTurn plan s t d c count e st ≡ turns (λ n b. cond (okay (plan .radix) s (e % 8192) (stackOf n)) (push d (stateIn plan (e / 8192) c 0 + stackOf n) b) b) 0 count st
+    unfolding stackedTurn
+    stack-is d e st = turns-same _ _ (λ n b. tested-stands (plan .radix) s d (stateIn plan (e / 8192) c 0) (e % 8192) (t .weight) (t .stack) st n b plain) 0 count st
+
+    pub stack-pushing : (d : ℕ) → 0 < d → Pushing (stackedTurn plan s t d c count) StackGets
+    stack-pushing d some =
+        pushing count (λ e n. okay (plan .radix) s (e % 8192) (stackOf n)) (λ e n. stateIn plan (e / 8192) c 0 + stackOf n) d some (stackedTurn plan s t d c count) (stack-is d) stack-cover
+
+-- ---- a thin run in the area
+
+-- thin words are words of the run
+pub thin-in : (xs ys : List ℕ) → Thin xs ys → (y : ℕ) → y ∈ ys → y ∈ xs
+thin-in xs ys (empty e f) y m = none-in (subst (y ∈_) f m)
+thin-in xs ys (kept us vs x e f h) y m =
+    subst (y ∈_) (sym e) (⊎-elim (λ j. Memᴰ·append-left (x ∷ []) (thin-in us vs h y j)) (λ j. Memᴰ·append-right us j) (List·Memᴰ·append-cases vs (subst (y ∈_) f m)))
+thin-in xs ys (left us x e h covered) y m = subst (y ∈_) (sym e) (Memᴰ·append-left (x ∷ []) (thin-in us ys h y m))
+
+module _ (plan : Plan) (of at : ℕ) (w : List ℕ) (k : ℕ) (run : Run Order.Kind plan of w k) (thin : ThinRun plan of at w k) (end : sortedEnd Order.Kind plan at ≤ length w) where
+  abbrev pub from : ℕ
+  from = getD w (of + k) 0
+
+  abbrev pub many : ℕ
+  many = getD w (of + suc k) 0 - from
+
+  abbrev pub first : ℕ
+  first = getD w (at + k) 0
+
+  abbrev pub few : ℕ
+  few = getD w (at + suc k) 0 - first
+
+  -- its words are words of the run
+  pub thin-word : (p : ℕ) → first ≤ p → p < getD w (at + suc k) 0 → getD w p 0 ∈ stretch from many w
+  thin-word p low high = thin-in _ _ (thin .has) (getD w p 0) (stretch-word w first (getD w (at + suc k) 0) p (omega (arith, thin .high, end)) low high)
+
+  -- and do what all lines do
+  pub thin-turns : sortedEnd Order.Kind plan of ≤ length w → {f : ℕ → Search → Search} {Does : ℕ → ℕ → Type 0} → Pushing f Does
+      → (st : Search) → ((y : ℕ) → y ∈ stretch from many w → (s : ℕ) → Does y s → s < length (st .dist))
+      → turns (runTurn Order.Kind plan (front plan w) k f) 0 (plan .lines) st ≡ turns (λ p. f (getD w p 0)) first few st
+  thin-turns room {f} p st low =
+      let all : turns (runTurn Order.Kind plan (front plan w) k f) 0 (plan .lines) st ≡ turns (λ p. f (getD w p 0)) from many st = turns-run Order.Kind plan of w k run room _ f (λ i less b. run-turn _ _ _ _ _ i b) st in
+      let whole : loop f (stretch from many w) st ≡ turns (λ p. f (getD w p 0)) from many st = loop-stretch f from many w st (omega (arith, run .rising, run .high, room)) in
+      let part : loop f (stretch first few w) st ≡ turns (λ p. f (getD w p 0)) first few st = loop-stretch f first few w st (omega (arith, thin .rising, thin .high, end)) in
+      all ∙ (sym whole ∙ (thin-loop p _ _ (thin .has) st low ∙ part))
+
+-- each word of a run gives a state
+pub run-gives : (plan : Plan) (of : ℕ) (w : List ℕ) (k : ℕ) (run : Run Order.Kind plan of w k) → (lane : Lane) → Gives Order.Kind plan (front plan w) k lane
+    → (y : ℕ) → y ∈ stretch (getD w (of + k) 0) (getD w (of + suc k) 0 - getD w (of + k) 0) w → laneState lane y < plan .size
+run-gives plan of w k run lane gives y m = let (i, less, is) = run-in Order.Kind plan of w k run y m in subst (λ e. laneState lane e < plan .size) is (gives i less)

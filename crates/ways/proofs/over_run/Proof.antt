@@ -1,0 +1,57 @@
+-- `ways::over_run` meets its contract: the loop over all lines is the loop over the run's words, and each gives a state. Assumes nothing.
+use mathlib.Core.Path.{_≡_, sym, _∙_, subst}
+use Prim.Native.Nat.{ℕ, suc, _+_, _-_, _<_, _≤_}
+use native.Mathlib.Omega.{arith}
+use lib.ListN.{getD}
+use Rattle.search.specs.Loops.{turns}
+use Rattle.search.specs.Table.{Search}
+use Rattle.sorting.specs.Runs.{turns-run}
+use Rattle.states.specs.Area.{found}
+use Rattle.states.proofs.Changes.{step-as}
+use Rattle.ways.specs.Ways.{laneState, laneTurn}
+use Rattle.ways.proofs.Lanes.{run-word, run-turn}
+use borrow.Author.Needs.{needs}
+use Rattle.ways.proofs.over_run.Statement.{statement}
+use Rattle.ways.proofs.over_run.Tie as tie
+
+run-of-requires : tie.Need-run-of-requires
+run-of-requires c κs = let (s, room, low) = c .before .before .pre .1 .0 in (s, (low, room))
+
+over-words-requires : tie.Need-over-words-requires
+over-words-requires c κs =
+    let a = c .before .before .before .before in
+    let (s, room, low) = a .pre .1 .0 in
+    let (narrow, gives) = a .pre .1 .1 .0 in
+    let (some, near, behind) = a .pre .1 .1 .1 in
+    let (lo, hi, rising, inside) = c .before .run-of .ensures in
+    let run = s (a .args .k) low in
+    let begins = subst (λ x. a .args .plan .base + a .args .plan .size + a .args .plan .size ≤ x) (sym lo) (omega (arith, behind, run .low)) in (
+      a .pre .0,
+      (
+        narrow,
+        (
+          (some, near, begins, rising, inside),
+          λ p from less.
+              let (i, li, is) = run-word _ _ _ _ _ run room p (omega (arith, lo, from)) (omega (arith, hi, less)) in
+              subst (λ e. laneState (a .args .lane) e < a .args .plan .size) is (gives i li),
+        ),
+      ),
+    )
+
+same-length : tie.Need-same-length
+same-length c = search needs
+
+returns : tie.Need-returns
+returns c =
+    let a = c .before .before .before .before .before .before .before in
+    let (s, room, low) = a .pre .1 .0 in
+    let (lo, hi, rising, inside) = c .before .before .before .before .run-of .ensures in
+    let w = a .args .work .now in
+    let st = found (a .args .plan .base) (a .args .plan .size) (a .args .tail) w in
+    let all = turns-run (a .args .order) (a .args .plan) (a .args .at) w (a .args .k) (s (a .args .k) low) room _ (laneTurn (a .args .d) (a .args .lane)) (λ i less b. run-turn _ _ _ _ _ i b) st in
+    let turn : ℕ → Search → Search = λ p. laneTurn (a .args .d) (a .args .lane) (getD w p 0) in
+    let bounds : turns turn (c .before .before .before .before .run-of .result .lo) (c .before .before .before .before .run-of .result .hi - c .before .before .before .before .run-of .result .lo) st ≡ turns turn (getD w (a .args .at + a .args .k) 0) (getD w (a .args .at + suc (a .args .k)) 0 - getD w (a .args .at + a .args .k) 0) st = λ t. turns turn (lo t) (hi t - lo t) st in
+    step-as _ (c .before .before .over-words .ensures) (all ∙ sym bounds)
+
+pub over-run-spec : {M : Type 1} → statement M
+over-run-spec = tie.close (tie.spec run-of-requires over-words-requires same-length returns)

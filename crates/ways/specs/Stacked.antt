@@ -1,0 +1,26 @@
+-- The ways back that go over stacks one by one: what one word written of a line does, and which words of the sorted lines are enough.
+use mathlib.Core.Path.{_≡_}
+use mathlib.Core.List.{List}
+use Prim.Native.Nat.{ℕ, _+_, _-_, _/_, _%_, _≤_, _<_}
+use lib.ListN.{length, getD}
+use Rattle.request.specs.declared.Plan.{Plan}
+use Rattle.search.specs.Front.{stateIn}
+use Rattle.search.specs.Loops.{turns}
+use Rattle.search.specs.Table.{Search}
+use Rattle.states.specs.Spots.{front, stackTurn, lineTurn, Stacks}
+use Rattle.states.specs.declared.Spot.{Spot}
+use Rattle.states.specs.declared.Target.{Target}
+
+module _ (plan : Plan) (s : Spot) (t : Target) where
+  -- the word e, the place that a line comes from times 8192 and its boat's number: gone back over to the position c, for `count` stacks
+  unfoldable pub stackedTurn : ℕ → ℕ → ℕ → ℕ → Search → Search
+  stackedTurn d c count e = turns (stackTurn (plan .radix) s d (stateIn plan (e / 8192) c 0) (e % 8192) (t .weight) (t .stack)) 0 count
+
+  -- the words from lo up to hi stand after the pair of stretches, say places, and do what all lines do, for all positions and stacks
+  pub record Enough (w : List ℕ) (lo hi : ℕ) : Type 0 where
+    pub behind : plan .base + plan .size + plan .size ≤ lo
+    pub rising : lo ≤ hi
+    pub inside : hi ≤ length w
+    pub starts : (p : ℕ) → lo ≤ p → p < hi → getD w p 0 / 8192 < plan .places
+    pub same : (d c count : ℕ) → 0 < d → c ≤ plan .done → Stacks count (t .weight) (t .stack) (plan .stacks) → (st : Search) → length (st .dist) ≡ plan .size
+        → turns (lineTurn plan (front plan w) s t d c count) 0 (plan .lines) st ≡ turns (λ p. stackedTurn d c count (getD w p 0)) lo (hi - lo) st

@@ -1,0 +1,100 @@
+-- The ways back over lines from a state that is expanded to a position: most need only one run of the sorted lines, and of each line only
+-- the word written of it, which gives one state before. A lane says which of the run's words are taken and what state each gives.
+-- `proofs/Right` shows that the way chosen does what going over all lines and all stacks does.
+use mathlib.Core.Path.{_≡_}
+use mathlib.Core.Bool.{Bool, false, cond, not}
+use mathlib.Core.List.{List}
+use Prim.Native.Nat.{ℕ, _+_, _*_, _-_, _/_, _%_, _≤_, _<_}
+use lib.Dec.{eqb}
+use lib.ListN.{getD}
+use Rattle.request.specs.Layout.{Laid, fromIn, toIn}
+use Rattle.request.specs.declared.Plan.{Plan}
+use Rattle.search.specs.Loaded.{codeAt, wordAt}
+use Rattle.search.specs.Table.{Search, push}
+use Rattle.sorting.specs.Sorting.{keys, keyIn, packIn}
+use Rattle.sorting.specs.declared.Order.{Order}
+use Rattle.sorting.specs.declared.Order.the-variants as Order
+use Rattle.states.specs.Spots.{lineTurn, Aimed, Sane}
+use Rattle.states.specs.declared.Spot.{Spot}
+use Rattle.states.specs.declared.Target.{Target}
+use Rattle.ways.specs.declared.Lane.{Lane}
+use Rattle.ways.specs.declared.Way.{Way}
+use Rattle.ways.specs.declared.Way.the-variants as Way
+
+-- ---- a lane
+
+-- a word written of a line is the place that it comes from times 8192 and a number; the state before, by that place and that number
+unfoldable pub laneState : Lane → ℕ → ℕ
+laneState lane e = e / 8192 * lane .block + (lane .home + e % 8192 * lane .weight)
+
+-- is a line with the number y taken? Only those with the lane's number x, or only the others
+unfoldable pub takenBy : Bool → ℕ → ℕ → Bool
+takenBy only y x = cond only (eqb y x) (not (eqb y x))
+
+unfoldable pub laneTurn : ℕ → Lane → ℕ → Search → Search
+laneTurn d lane e st = cond (takenBy (lane .only) (e % 8192) (lane .number)) (push d (laneState lane e) st) st
+
+-- the lane to position c with the stack u
+pub record LaneTo (plan : Plan) (c u weight number : ℕ) (only : Bool) (lane : Lane) : Type 0 where
+  pub block-is : lane .block ≡ (plan .done + 1) * plan .stacks
+  pub home-is : lane .home ≡ c * plan .stacks + u
+  pub weight-is : lane .weight ≡ weight
+  pub number-is : lane .number ≡ number
+  pub only-is : lane .only ≡ only
+
+-- its numbers are small
+pub record Narrow (lane : Lane) : Type 0 where
+  pub block-low : lane .block ≤ 1048576
+  pub home-low : lane .home ≤ 1048576
+  pub weight-low : lane .weight ≤ 1048576
+
+-- each of the words from lo up to hi gives one of so many states
+abbrev pub Within : Lane → ℕ → ℕ → ℕ → List ℕ → Type 0
+Within lane size lo hi w = (p : ℕ) → lo ≤ p → p < hi → laneState lane (getD w p 0) < size
+
+-- ---- the lines of a key
+
+-- line i, if it has the key k, by the word written of it
+unfoldable pub runTurn : Order → Plan → List ℕ → ℕ → (ℕ → Search → Search) → ℕ → Search → Search
+runTurn o plan g k f i st = cond (eqb (keyIn o plan g i) k) (f (packIn o plan g i) st) st
+
+-- what the loaded words g have to be: boats have numbers below the radix, and lines go between the places
+pub record Told (plan : Plan) (g : List ℕ) : Type 0 where
+  pub codes-low : (i : ℕ) → i < plan .lines → codeAt plan g i < plan .radix
+  pub starts : (i : ℕ) → i < plan .lines → fromIn (wordAt plan g i) < plan .places
+  pub ends : (i : ℕ) → i < plan .lines → toIn (wordAt plan g i) < plan .places
+
+-- every line of the key gives a state
+abbrev pub Gives : Order → Plan → List ℕ → ℕ → Lane → Type 0
+Gives o plan g k lane = (i : ℕ) → i < plan .lines → laneState lane (packIn o plan g i) < plan .size
+
+-- ---- a way
+
+-- the run of the key k and the lane do what line i does for all `count` stacks
+pub record Runs (o : Order) (plan : Plan) (s : Spot) (t : Target) (c count k : ℕ) (lane : Lane) : Type 0 where
+  pub key-low : k < keys o plan
+  pub narrow : Narrow lane
+  pub gives : (g : List ℕ) → Told plan g → Gives o plan g k lane
+  pub same : (g : List ℕ) → Told plan g → (d i : ℕ) → i < plan .lines → (st : Search) → lineTurn plan g s t d c count i st ≡ runTurn o plan g k (laneTurn d lane) i st
+
+-- a way is right for so many stacks
+abbrev pub Right : Plan → Spot → Target → ℕ → ℕ → Way → Type 0
+Right plan s t c count (Way.ByBoat k lane) = Runs Order.Boat plan s t c count k lane
+Right plan s t c count (Way.ByKind k lane) = Runs Order.Kind plan s t c count k lane
+Right plan s t c count Way.ByStack = Unit {0}
+
+-- a way over all lines of the position's kind, with their boats' numbers at a weight in the stack
+abbrev pub Open : Plan → Spot → Target → ℕ → ℕ → Way → Type 0
+Open plan s t c weight (Way.ByBoat k lane) = ⊥
+Open plan s t c weight (Way.ByKind k lane) = (k ≡ t .place * 16 + s .kind) × LaneTo plan c (t .stack) weight 8192 false lane
+Open plan s t c weight Way.ByStack = ⊥
+
+-- what a way is chosen from: a state and a position before it, by their numbers
+pub record Before (plan : Plan) (s : Spot) (t : Target) (c leaves : ℕ) : Type 0 where
+  pub area : ℕ
+  pub laid : Laid plan area
+  pub aimed : Aimed plan t
+  pub sane : Sane s
+  pub kind-low : s .kind ≤ 15
+  pub position-low : c ≤ plan .done
+  pub leaves-low : leaves ≤ plan .keeps
