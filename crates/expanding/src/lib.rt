@@ -1,5 +1,6 @@
 // A state expanded, backward: each state before it that has no word gets one, by the sorted lines where they are there.
 ghost use mathlib.Core.Path.{_≡_};
+ghost use mathlib.Core.Bool.{true};
 ghost use Prim.Native.Nat.{ℕ, suc, _+_, _*_, _-_, _^_, _/_, _%_, _≤_, _<_};
 ghost use lib.Dec.{eqb};
 ghost use lib.ListN.{length, getD};
@@ -17,6 +18,7 @@ ghost use Rattle.ways.specs.Ways.{laneTurn, Narrow, runTurn, Told, Gives, Befor
 ghost use Rattle.ways.specs.Filed.{Filed};
 ghost use Rattle.ways.specs.Stacked.{stackedTurn, Enough};
 ghost use Rattle.expanding.specs.Backing.{Backing};
+ghost use Rattle.expanding.specs.Stepping.{Steps, Entries, WantsSame, EntryBelow, EntryAmong};
 ghost use Rattle.states.specs.Spots.{front, Sane, stackAt, stackTurn, lineTurn, Aimed, Stacks, Starts, spotTurn};
 use request::Plan;
 use sorting::Order;
@@ -53,8 +55,8 @@ pub fn one_stack(
     tail
 }
 
-// Each stack x * weight + w, of `count`.
-pub fn over_stacks(
+// Each stack x * weight + w, of `count`, one after the other.
+fn over_each(
     work: &mut [u32],
     plan: Plan,
     spot: Spot,
@@ -77,6 +79,168 @@ pub fn over_stacks(
         t = one_stack(work, plan, spot, d, home, code, x * weight + w, t);
     }
     t
+}
+
+// The states `first`, `first` + `weight` and so on, `many` of them, are pushed.
+fn over_low(
+    work: &mut [u32],
+    plan: Plan,
+    d: u32,
+    first: usize,
+    weight: usize,
+    many: usize,
+    tail: usize,
+) -> usize
+    requires { ⌜ Ready (plan .base) (plan .size) tail (now work) ⌝ }
+    requires { ⌜ (0 < d) × (d ≤ suc tail) × (plan .size ≤ 1048576) × Steps first weight many (plan .size) ⌝ }
+    ensures { λ r. ⌜ Step (plan .base) (plan .size) (turns (λ l. push d (first + l * weight)) 0 many) tail (now (work .entry)) r (now (work .exit)) ⌝ }
+{
+    let mut t = tail;
+    for l in 0..many {
+        t = states::push_if_new(work, plan.base, plan.size, d, first + l * weight, t);
+    }
+    t
+}
+
+// Each stack whose entry at one level is the line's boat: `below` stacks of the entries under that level, for each of `above` over it.
+fn over_entries(
+    work: &mut [u32],
+    plan: Plan,
+    d: u32,
+    home: usize,
+    code: usize,
+    weight: usize,
+    w: usize,
+    below: usize,
+    above: usize,
+    tail: usize,
+) -> usize
+    requires { ⌜ Ready (plan .base) (plan .size) tail (now work) ⌝ }
+    requires { ⌜ (0 < weight) × (0 < below) ⌝ }
+    requires { ⌜ (0 < d) × (d ≤ suc tail) × (plan .size ≤ 1048576) × Entries home (plan .radix) code weight w below above (plan .size) ⌝ }
+    ensures { λ r. ⌜ Step (plan .base) (plan .size) (turns (λ h. turns (λ l. push d (home + ((h * plan .radix + code) * below * weight + w) + l * weight)) 0 below) 0 above) tail (now (work .entry)) r (now (work .exit)) ⌝ }
+{
+    let mut t = tail;
+    for h in 0..above {
+        let first = home + ((h * plan.radix + code) * below * weight + w);
+        t = over_low(work, plan, d, first, weight, below, t);
+    }
+    t
+}
+
+// Is the entry at the level one of those below the weight?
+fn entry_below(radix: usize, level: usize, weight: usize) -> bool
+    requires { ⌜ (0 < radix) × (0 < level) ⌝ }
+    ensures { λ r. ⌜ (r ≡ true → EntryBelow radix level weight) ⌝ }
+{
+    if weight % level != 0 {
+        return false;
+    }
+    weight / level % radix == 0
+}
+
+// Is the entry at the level one of those of `count` stacks over the weight, and is the boat one that it can be?
+fn entry_among(radix: usize, level: usize, weight: usize, count: usize, code: u32) -> bool
+    requires { ⌜ (0 < radix) × (0 < level) × (0 < weight) ⌝ }
+    ensures { λ r. ⌜ (r ≡ true → EntryAmong radix level weight count code) ⌝ }
+{
+    if level % weight != 0 {
+        return false;
+    }
+    let below = level / weight;
+    if below == 0 {
+        return false;
+    }
+    if count % below != 0 {
+        return false;
+    }
+    if count / below % radix != 0 {
+        return false;
+    }
+    (code as usize) < radix
+}
+
+// Each stack, of a position that wants the boat at its level and does not push. The entry at that level is one of the state's, the same
+// for all of them, or one of those that are gone over, of which the line's boat is taken alone.
+fn over_same(
+    work: &mut [u32],
+    plan: Plan,
+    spot: Spot,
+    d: u32,
+    home: usize,
+    code: u32,
+    weight: usize,
+    w: usize,
+    count: usize,
+    tail: usize,
+) -> usize
+    requires { ⌜ Ready (plan .base) (plan .size) tail (now work) ⌝ }
+    requires { ⌜ Laid plan (length (now work)) ⌝ }
+    requires { ⌜ Sane spot × WantsSame spot weight w ⌝ }
+    requires { ⌜ (0 < d) × (d ≤ suc tail) × ((x : ℕ) → x < count → home + (x * weight + w) < plan .size) ⌝ }
+    ensures { λ r. ⌜ Step (plan .base) (plan .size) (turns (stackTurn (plan .radix) spot d home code weight w) 0 count) tail (now (work .entry)) r (now (work .exit)) ⌝ }
+{
+    if entry_below(plan.radix, spot.level, weight) {
+        if states::entry_at(w, spot.level, plan.radix) != code as usize {
+            return tail;
+        }
+        return over_each(work, plan, spot, d, home, code, weight, w, count, tail);
+    }
+    let below = spot.level / weight;
+    if entry_among(plan.radix, spot.level, weight, count, code) {
+        let above = count / below / plan.radix;
+        return over_entries(
+            work,
+            plan,
+            d,
+            home,
+            code as usize,
+            weight,
+            w,
+            below,
+            above,
+            tail,
+        );
+    }
+    over_each(work, plan, spot, d, home, code, weight, w, count, tail)
+}
+
+// Does a position want the boat at its level, without a push? And is the stack that is kept below the weight?
+fn wants_same(spot: Spot, weight: usize, w: usize) -> bool
+    ensures { λ r. ⌜ (r ≡ true → WantsSame spot weight w) ⌝ }
+{
+    if spot.push == 1 {
+        return false;
+    }
+    if spot.test != 2 {
+        return false;
+    }
+    w < weight
+}
+
+// Each stack x * weight + w, of `count`.
+pub fn over_stacks(
+    work: &mut [u32],
+    plan: Plan,
+    spot: Spot,
+    d: u32,
+    home: usize,
+    code: u32,
+    weight: usize,
+    w: usize,
+    count: usize,
+    tail: usize,
+) -> usize
+    requires { ⌜ Ready (plan .base) (plan .size) tail (now work) ⌝ }
+    requires { ⌜ Laid plan (length (now work)) ⌝ }
+    requires { ⌜ Sane spot ⌝ }
+    requires { ⌜ (0 < d) × (d ≤ suc tail) × ((x : ℕ) → x < count → home + (x * weight + w) < plan .size) ⌝ }
+    ensures { λ r. ⌜ Step (plan .base) (plan .size) (turns (stackTurn (plan .radix) spot d home code weight w) 0 count) tail (now (work .entry)) r (now (work .exit)) ⌝ }
+{
+    if wants_same(spot, weight, w) {
+        return over_same(work, plan, spot, d, home, code, weight, w, count, tail);
+    }
+    over_each(work, plan, spot, d, home, code, weight, w, count, tail)
 }
 
 // Line `i`, if it leads to the target's place and is of the position's kind: gone back over to the position `c`.

@@ -43,7 +43,7 @@ pair-eqb m a b q x hb hx = elim (ℕ-discrete a q) [
 -- ---- a loop in which one number does something
 
 module _ (x : ℕ) (f : ℕ → Search → Search) where
-  abbrev at-x : ℕ → Search → Search
+  abbrev pub at-x : ℕ → Search → Search
   at-x n st = cond (eqb x n) (f n st) st
 
   turns-past : (i n : ℕ) (st : Search) → x < i → turns at-x i n st ≡ st
@@ -51,7 +51,7 @@ module _ (x : ℕ) (f : ℕ → Search → Search) where
   turns-past i zero st h = refl
   turns-past i (suc n) st h = rw (ne-eqb x i (λ e. omega (arith, h, e))) (turns-past (suc i) n st (omega arith))
 
-  turns-one : (i n : ℕ) (st : Search) → i ≤ x → x < i + n → turns at-x i n st ≡ f x st
+  pub turns-one : (i n : ℕ) (st : Search) → i ≤ x → x < i + n → turns at-x i n st ≡ f x st
   unfolding turns
   turns-one i zero st h l = absurd (omega arith)
   turns-one i (suc n) st h l = elim (ℕ-discrete x i) [

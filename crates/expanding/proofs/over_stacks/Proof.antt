@@ -1,68 +1,28 @@
--- `expanding::over_stacks` meets its contract, by what is left of its turns. Assumes nothing.
-use mathlib.Core.Path.{sym, subst}
-use Prim.Native.Nat.{_-_, _≤_}
-use native.Mathlib.Omega.{arith}
-use Rattle.request.specs.Layout.{Laid}
-use Rattle.search.specs.Loops.{turns}
-use Rattle.states.specs.Area.{Under}
-use Rattle.states.specs.Spots.{stackTurn}
-use Rattle.states.proofs.Changes.{loop-start, loop-turn, loop-end}
+-- `expanding::over_stacks` meets its contract, by either loop. Assumes nothing.
 use borrow.Author.Needs.{needs}
 use Rattle.expanding.proofs.over_stacks.Statement.{statement}
 use Rattle.expanding.proofs.over_stacks.Tie as tie
 
-abbrev Inv-loop : tie.InvT-loop
-Inv-loop work₀ plan spot d home code weight w count tail t₀ x₀ work t x = (x ≤ count) × Under (plan .base) (plan .size) (turns (stackTurn (plan .radix) spot d home code weight w) 0 count) tail work₀ (turns (stackTurn (plan .radix) spot d home code weight w) x (count - x)) t work
+wants-same-requires : tie.Need-wants-same-requires
+wants-same-requires c κs = search needs
 
-abbrev μ-loop : tie.MeasureT-loop
-μ-loop work₀ plan spot d home code weight w count tail t₀ x₀ work t x = count - x
+over-same-requires : tie.Need-over-same-requires
+over-same-requires c κs = let a = c .before .before .before .before in (a .pre .0, (a .pre .1 .0, ((a .pre .1 .1 .0, c .before .before .wants-same .ensures (c .before .if1 .taken)), a .pre .1 .1 .1)))
 
-loop-holds : tie.Need-loop-holds Inv-loop μ-loop
-loop-holds c = (omega arith, loop-start _ _ (c .before .pre .0))
-
-mul-one-stack : tie.Need-mul-one-stack Inv-loop μ-loop
-mul-one-stack c = let a = c .before .before .before .before in omega (arith, a .pre .1 .1 .1 .2 (c .before .before .loop .x) (omega arith), a .pre .1 .0 .small)
-
-add-one-stack : tie.Need-add-one-stack Inv-loop μ-loop
-add-one-stack c = let a = c .before .before .before .before in omega (arith, a .pre .1 .1 .1 .2 (c .before .before .loop .x) (omega arith), a .pre .1 .0 .small)
-
-one-stack-requires : tie.Need-one-stack-requires Inv-loop μ-loop
-one-stack-requires c κs =
-    let a = c .before .before .before .before in
-    let u = c .before .before .loop .inv .1 in
-    let (some, near, there) = a .pre .1 .1 .1 in
-    (u .ready, (subst (Laid (a .args .plan)) (sym (u .long)) (a .pre .1 .0), (a .pre .1 .1 .0, (some, omega (arith, near, u .grows), there (c .before .before .loop .x) (omega arith)))))
-
-add-x : tie.Need-add-x Inv-loop μ-loop
-add-x c = search needs
-
-loop-less : tie.Need-loop-less Inv-loop μ-loop
-loop-less c = search needs
-
-loop-again : tie.Need-loop-again Inv-loop μ-loop
-unfolding stackTurn
-loop-again c =
-    let u = c .before .before .before .before .before .loop .inv .1 in
-    (omega arith, loop-turn _ _ _ u (omega arith) (c .before .before .one-stack .ensures))
-
-same-length : tie.Need-same-length Inv-loop μ-loop
+same-length : tie.Need-same-length
 same-length c = search needs
 
-returns : tie.Need-returns Inv-loop μ-loop
-returns c = loop-end _ _ _ (c .before .loop .inv .1) (omega arith)
+returns : tie.Need-returns
+returns c = c .before .before .over-same .ensures
+
+over-each-requires : tie.Need-over-each-requires
+over-each-requires c κs = c .before .before .before .before .pre
+
+same-length-2 : tie.Need-same-length-2
+same-length-2 c = search needs
+
+returns-2 : tie.Need-returns-2
+returns-2 c = c .before .before .over-each .ensures
 
 pub over-stacks-spec : {M : Type 1} → statement M
-over-stacks-spec =
-    tie.close
-    (tie.spec
-    Inv-loop
-    μ-loop
-    loop-holds
-    mul-one-stack
-    add-one-stack
-    one-stack-requires
-    add-x
-    loop-less
-    loop-again
-    same-length
-    returns)
+over-stacks-spec = tie.close (tie.spec wants-same-requires over-same-requires same-length returns over-each-requires same-length-2 returns-2)

@@ -1,0 +1,89 @@
+-- `expanding::over_same` meets its contract: the entry compared is the same for all stacks, or the line's boat alone is gone over. Assumes nothing.
+use native.Mathlib.Omega.{arith}
+use Rattle.states.proofs.Changes.{step-as, step-none}
+use Rattle.expanding.proofs.Entries.{same-none, same-entries, entries-low}
+use borrow.Author.Needs.{needs}
+use Rattle.expanding.proofs.over_same.Statement.{statement}
+use Rattle.expanding.proofs.over_same.Tie as tie
+
+entry-below-requires : tie.Need-entry-below-requires
+entry-below-requires c κs = (c .before .pre .1 .0 .some-radix, c .before .pre .1 .1 .0 .0 .some-level)
+
+entry-at-requires : tie.Need-entry-at-requires
+entry-at-requires c κs = (c .before .before .before .pre .1 .1 .0 .0 .some-level, c .before .before .before .pre .1 .0 .some-radix)
+
+returns : tie.Need-returns
+returns c =
+    let a = c .before .before .before .before .before in
+    let (sane, wants) = a .pre .1 .1 .0 in
+    let x = a .args in
+    step-none _ (a .pre .0) (same-none (x .plan .radix) (x .spot) (x .d) (x .home) (x .code) (x .weight) (x .w) wants (sane .some-level) (c .before .before .before .entry-below .ensures (c .before .before .if1 .taken)) (λ e. absurd (omega (arith, e, c .before .entry-at .ensures .0, c .if2 .taken))) (x .count) _)
+
+over-each-requires : tie.Need-over-each-requires
+over-each-requires c κs = let a = c .before .before .before .before .before .before in (a .pre .0, (a .pre .1 .0, (a .pre .1 .1 .0 .0, a .pre .1 .1 .1)))
+
+same-length : tie.Need-same-length
+same-length c = search needs
+
+returns-2 : tie.Need-returns-2
+returns-2 c = c .before .before .over-each .ensures
+
+div-below : tie.Need-div-below
+div-below c = let a = c .before .before .before .before in omega (arith, a .pre .1 .1 .0 .1 .low)
+
+entry-among-requires : tie.Need-entry-among-requires
+entry-among-requires c κs = let a = c .before .before .before .before in (a .pre .1 .0 .some-radix, a .pre .1 .1 .0 .0 .some-level, omega (arith, a .pre .1 .1 .0 .1 .low))
+
+div-above : tie.Need-div-above
+div-above c = let among = c .before .entry-among .ensures (c .if3 .taken) in omega (arith, among .some)
+
+div-above-2 : tie.Need-div-above-2
+div-above-2 c = omega (arith, c .before .before .before .before .before .before .before .pre .1 .0 .some-radix)
+
+over-entries-requires : tie.Need-over-entries-requires
+over-entries-requires c κs =
+    let a = c .before .before .before .before .before .before .before .before in
+    let x = a .args in
+    let among = c .before .before .before .entry-among .ensures (c .before .before .if3 .taken) in
+    let (some, near, there) = a .pre .1 .1 .1 in
+    (a .pre .0, ((omega (arith, a .pre .1 .1 .0 .1 .low), among .some), (some, near, a .pre .1 .0 .small, entries-low (x .plan .radix) (x .home) (x .code) (x .weight) (x .w) (x .spot .level) (x .count) (x .plan .size) among there)))
+
+same-length-2 : tie.Need-same-length-2
+same-length-2 c = search needs
+
+returns-3 : tie.Need-returns-3
+returns-3 c =
+    let a = c .before .before .before .before .before .before .before .before .before .before .before in
+    let x = a .args in
+    let among = c .before .before .before .before .before .before .entry-among .ensures (c .before .before .before .before .before .if3 .taken) in
+    step-as _ (c .before .before .over-entries .ensures) (same-entries (x .plan .radix) (x .spot) (x .d) (x .home) (x .code) (x .weight) (x .w) (a .pre .1 .1 .0 .1) (x .count) among _)
+
+over-each-requires-2 : tie.Need-over-each-requires-2
+over-each-requires-2 c κs = let a = c .before .before .before .before .before .before .before in (a .pre .0, (a .pre .1 .0, (a .pre .1 .1 .0 .0, a .pre .1 .1 .1)))
+
+same-length-3 : tie.Need-same-length-3
+same-length-3 c = search needs
+
+returns-4 : tie.Need-returns-4
+returns-4 c = c .before .before .over-each2 .ensures
+
+pub over-same-spec : {M : Type 1} → statement M
+over-same-spec =
+    tie.close
+    (tie.spec
+    entry-below-requires
+    entry-at-requires
+    returns
+    over-each-requires
+    same-length
+    returns-2
+    div-below
+    entry-among-requires
+    div-above
+    div-above-2
+    over-entries-requires
+    same-length-2
+    returns-3
+    over-each-requires-2
+    same-length-3
+    returns-4)
