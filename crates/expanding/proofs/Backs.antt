@@ -24,7 +24,7 @@ use Rattle.ways.specs.Filed.{kindsAt, boatsAt, thinAt}
 use Rattle.ways.specs.Stacked.{stackedTurn}
 use Rattle.ways.specs.Ways.{laneTurn, runTurn, Told, Runs}
 use Rattle.ways.specs.declared.Lane.{Lane}
-use Rattle.expanding.proofs.Bridge.{turns-within}
+use Rattle.ways.proofs.Right.{turns-alike}
 use Rattle.expanding.specs.Backing.{Backing}
 use Rattle.search.specs.Front.{stateIn}
 use Rattle.states.specs.Spots.{front, Starts, Fit, spotIn, off, on, okay, stackAt, stackTurn, lineTurn, targetIn, Aimed, spotTurn}
@@ -116,7 +116,7 @@ told-fit f = record { codes-low = f .codes-low; starts = f .starts; ends = f .en
 pub run-lines : {o : Order} {plan : Plan} {s : Spot} {t : Target} {c count k : ℕ} {lane : Lane} → Runs o plan s t c count k lane → {g : List ℕ} → Told plan g → (d : ℕ) (st : Search)
     → turns (lineTurn plan g s t d c count) 0 (plan .lines) st ≡ turns (runTurn o plan g k (laneTurn d lane)) 0 (plan .lines) st
 run-lines {o} {plan} {s} {t} {c} {count} {k} {lane} r {g} told d st =
-    turns-within (lineTurn plan g s t d c count) (runTurn o plan g k (laneTurn d lane)) 0 (plan .lines) (plan .lines) (omega arith) (λ i less b. r .same g told d i less b) st
+    turns-alike (lineTurn plan g s t d c count) (runTurn o plan g k (laneTurn d lane)) 0 (plan .lines) (plan .lines) (omega arith) (λ i less b. r .same g told d i less b) st
 
 -- in a loop of phase one both the loaded tables and the sorted lines stay
 pub backing-under : {filed : Bool} {plan : Plan} {a : Columns} {F : Search → Search} {t₀ : ℕ} {w₀ : List ℕ} {G : Search → Search} {t : ℕ} {w : List ℕ}

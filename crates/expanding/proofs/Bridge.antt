@@ -29,15 +29,7 @@ use Rattle.search.specs.Moves.{overStacks, overLines, expand, overNext, onward}
 use Rattle.states.specs.Spots.{metBy, spotIn, off, offBy, on, onBy, okay, stackAt, stackTurn, lineTurn, nextTurn, targetIn, spotTurn}
 use Rattle.states.specs.declared.Spot.{Spot}
 use Rattle.states.specs.declared.Target.{Target}
-
--- ---- a body may be changed for one that does the same at each number that the loop comes to
-
-pub turns-within : (f g : ℕ → Search → Search) (i n m : ℕ)
-    → i + n ≤ m → ((x : ℕ) → x < m → (b : Search) → f x b ≡ g x b)
-    → (a : Search) → turns f i n a ≡ turns g i n a
-unfolding turns
-turns-within f g i zero m l h a = refl
-turns-within f g i (suc n) m l h a = turns-within f g (suc i) n m (omega arith) h (f i a) ∙ ap (turns g (suc i) n) (h i (omega arith) a)
+use Rattle.ways.proofs.Right.{turns-alike}
 
 -- ---- a mask's positions
 
@@ -145,7 +137,7 @@ module _ (a : Columns) (plan : Plan) (g : List ℕ) where
         )
 
     next-is : (s i : ℕ) (st : Search) → i < plan .lines → overNext S see i s st ≡ turns (turn s i) 0 (plan .done + 1) st
-    next-is s i st h = whole ∙ turns-within body (turn s i) 0 (plan .done + 1) (plan .done + 1) (omega arith) same-turn st
+    next-is s i st h = whole ∙ turns-alike body (turn s i) 0 (plan .done + 1) (plan .done + 1) (omega arith) same-turn st
       where
         body : ℕ → Search → Search
         body k b =
@@ -244,7 +236,7 @@ module _ (a : Columns) (plan : Plan) (g : List ℕ) where
         0
         (plan .radix ^ (leaves (nodeIn a c) - e))
         st
-    stacks-are d c i e w st h = unfold overStacks settingIn in turns-within _ turn′ 0 n n (omega arith) same-turn st
+    stacks-are d c i e w st h = unfold overStacks settingIn in turns-alike _ turn′ 0 n n (omega arith) same-turn st
       where
         n : ℕ
         n = plan .radix ^ (leaves (nodeIn a c) - e)
@@ -259,7 +251,7 @@ module _ (a : Columns) (plan : Plan) (g : List ℕ) where
 
     lines-are : (d c e : ℕ) (t : Target) (st : Search) → t .weight ≡ plan .radix ^ e
         → overLines S d c (t .place) e (t .stack) st ≡ turns (lineTurn plan g (spot c) t d c (plan .radix ^ (leaves (nodeIn a c) - e))) 0 (plan .lines) st
-    lines-are d c e t st ew = whole ∙ turns-within body (lineTurn plan g (spot c) t d c n) 0 (plan .lines) (plan .lines) (omega arith) same-turn st
+    lines-are d c e t st ew = whole ∙ turns-alike body (lineTurn plan g (spot c) t d c n) 0 (plan .lines) (plan .lines) (omega arith) same-turn st
       where
         n : ℕ
         n = plan .radix ^ (leaves (nodeIn a c) - e)
@@ -275,7 +267,7 @@ module _ (a : Columns) (plan : Plan) (g : List ℕ) where
 
     -- the state t expanded
     pub expand-is : plan .done ≤ 63 → (d t : ℕ) (st : Search) → expand S d t st ≡ turns (spotTurn a plan g (targetIn (a .depths) plan t) d) 0 (plan .done) st
-    expand-is few d t st = whole ∙ turns-within body (spotTurn a plan g aim d) 0 (plan .done) (plan .done) (omega arith) same-turn st
+    expand-is few d t st = whole ∙ turns-alike body (spotTurn a plan g aim d) 0 (plan .done) (plan .done) (omega arith) same-turn st
       where
         aim : Target
         aim = targetIn (a .depths) plan t

@@ -27,7 +27,7 @@ use states::Target;
 use ways::Lane;
 use ways::Way;
 
-// ---- backward
+// ---- the stacks of one line
 
 // One stack `v` after the position: it is undone for the line's boat, and the state before is pushed.
 pub fn one_stack(

@@ -18,6 +18,7 @@ use Rattle.search.specs.Front.{stateIn}
 use Rattle.search.specs.Loaded.{codeAt, wordAt}
 use Rattle.search.specs.Loops.{turns}
 use Rattle.search.specs.Table.{Search, push}
+use Rattle.sorting.specs.Runs.{turns-within}
 use Rattle.sorting.specs.Sorting.{keys, keyIn, packIn}
 use Rattle.sorting.specs.declared.Order.the-variants as Order
 use Rattle.states.specs.Spots.{metBy, off, on, okay, stackAt, stackTurn, lineTurn}
@@ -61,9 +62,7 @@ module _ (x : ℕ) (f : ℕ → Search → Search) where
 
 -- a body may be changed for one that does the same at the numbers that the loop meets
 pub turns-alike : (f g : ℕ → Search → Search) (i n m : ℕ) → i + n ≤ m → ((x : ℕ) → x < m → (b : Search) → f x b ≡ g x b) → (a : Search) → turns f i n a ≡ turns g i n a
-unfolding turns
-turns-alike f g i zero m l h a = refl
-turns-alike f g i (suc n) m l h a = turns-alike f g (suc i) n m (omega arith) h (f i a) ∙ ap (turns g (suc i) n) (h i (omega arith) a)
+turns-alike f g i n m l h a = turns-within f g i n (λ x low high. h x (omega (arith, l, high))) a
 
 -- ---- a test by its number
 

@@ -309,7 +309,7 @@ pub fn lines_for(work: &[u32], plan: Plan, spot: Spot, target: Target) -> Bounds
     sorting::run_of(work, plan, Order::Kind, kinds_at(plan), k)
 }
 
-// The lines are sorted by kind and by boat, where there is room. Returns whether they are.
+// The lines are sorted by kind and by boat, and thinned, where there is room. Returns whether they are.
 pub fn file_lines(work: &mut [u32], plan: Plan) -> bool
     requires { ⌜ Laid plan (length (now work)) ⌝ }
     requires { ⌜ Told plan (front plan (now work)) ⌝ }
