@@ -1,6 +1,6 @@
 pub mod Listed
 pub mod Automaton
-pub mod Columns
+pub mod Program
 pub mod Masks
 pub mod Runs
 pub mod Scope

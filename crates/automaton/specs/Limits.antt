@@ -1,19 +1,17 @@
--- What code that reads compiled columns may rely on, from `Compiled` and the shape of every pattern's automaton.
+-- What code that reads a compiled program may rely on, from `Compiled` and the shape of every pattern's automaton.
 -- Claimed: `compiled-depth`, `compiled-start`. Bounds that `Compiled` leaves open (kinds, pushes,
 -- levels of commands without a test) are the second promise of `compile`. Assumes nothing.
 use mathlib.Core.Path.{_≡_}
 use mathlib.Core.Bool.{Bool, true, false}
-use mathlib.Core.List.{[]}
+use mathlib.Core.List.{List, []}
 use Prim.Native.Nat.{ℕ, _≤_}
 use native.Mathlib.Nat.{zero-add, le-of-eq}
 use native.Mathlib.Omega.{arith}
-use lib.Dec.{eqb}
-use lib.ListN.{getD}
 use Rattle.meaning.specs.Pattern.{Pattern, commands, keeps}
 use Rattle.automaton.specs.Listed.{_∈_}
 use Rattle.automaton.specs.Automaton.{Node, nodes, nodeAt}
 use Rattle.automaton.specs.Shape.{Shape, deeper, leaves, shape, start-within}
-use Rattle.automaton.specs.Columns.{Columns, members, nodeIn, Compiled}
+use Rattle.automaton.specs.Program.{members, depthAt, leavesAt, nodeIn, Compiled}
 
 depth-leaves : (n : Node) → n .depth ≤ leaves n
 depth-leaves n = go (n .push)
@@ -22,7 +20,7 @@ depth-leaves n = go (n .push)
     go true = omega arith
     go false = omega arith
 
-module _ {p : Pattern} {a : Columns} {begin : ℕ} (h : Compiled p a begin) where
+module _ {p : Pattern} {a : List ℕ} {begin : ℕ} (h : Compiled p a begin) where
   abbrev node : ℕ → Node
   node = nodeAt (nodes p [])
 
@@ -30,18 +28,18 @@ module _ {p : Pattern} {a : Columns} {begin : ℕ} (h : Compiled p a begin) wher
   shaped = shape p [] (le-of-eq (zero-add (keeps p)))
 
   module _ (c : ℕ) (l : c ≤ commands p) where
-    depth-is : getD (a .depths) c 0 ≡ node c .depth
+    depth-is : depthAt a c ≡ node c .depth
     unfolding nodeIn
     depth-is = h .nodes-are c l .depth
 
-    leaves-are : deeper (eqb (getD (a .pushes) c 0) 1) (getD (a .depths) c 0) ≡ leaves (node c)
+    leaves-are : leavesAt a c ≡ leaves (node c)
     unfolding nodeIn
     leaves-are = λ i. deeper (h .nodes-are c l .push i) (h .nodes-are c l .depth i)
 
     -- no stack is deeper than the pattern's keeps, before a position and after it
-    pub compiled-depth : (getD (a .depths) c 0 ≤ keeps p) × (deeper (eqb (getD (a .pushes) c 0) 1) (getD (a .depths) c 0) ≤ keeps p)
+    pub compiled-depth : (depthAt a c ≤ keeps p) × (leavesAt a c ≤ keeps p)
     compiled-depth = (omega (arith, depth-is, depth-leaves (node c), shaped .depth c), omega (arith, leaves-are, shaped .depth c))
 
   -- runs begin at positions outside of every keep
-  pub compiled-start : (k : ℕ) → k ∈ members begin → (k ≤ commands p) × (getD (a .depths) k 0 ≡ 0)
+  pub compiled-start : (k : ℕ) → k ∈ members begin → (k ≤ commands p) × (depthAt a k ≡ 0)
   compiled-start k m = let w = start-within p [] .at k (h .start-is k .0 m) in (w .0, omega (arith, depth-is k (w .0), w .1))

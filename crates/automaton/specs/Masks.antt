@@ -13,7 +13,7 @@ use lib.Dec.{eqb}
 use lib.Pow.{pow-pos, pow-lt, pow-add, shl-shr}
 use borrow.Author.Tests.{eqb-true, eqb-false}
 use Rattle.automaton.specs.Listed.{_∈_, none-in, when}
-use Rattle.automaton.specs.Columns.{bitOf, members, membersFrom}
+use Rattle.automaton.specs.Program.{bitOf, members, membersFrom}
 
 -- ---- bits
 

@@ -10,18 +10,19 @@ use Rattle.meaning.specs.Pattern.{Pattern, commands, Part, depthIn, readPattern
 use Rattle.pattern.specs.Passed.{inside-small}
 use Rattle.automaton.specs.Automaton.{Node, silent, compile, nodes, nodeAt}
 use Rattle.automaton.specs.Placed.{compile-length}
-use Rattle.automaton.specs.Columns.{Columns, nodeIn, Compiled}
+use Rattle.automaton.specs.Program.{nodeIn, Compiled}
 use Rattle.automaton.specs.Masks.{Marks}
 use Rattle.compiler.specs.declared.Step.{Step}
 use Rattle.compiler.specs.declared.Begin.{Begin}
 use Rattle.compiler.specs.declared.Task.{Task}
-use Rattle.compiler.specs.Compiling.{Passes, PartAt, ReadsIn, StepAt, OnePattern, leafOf, aroundOf, Begins, BeginsAt, Entered, Ready, Fits, afterFirst, Inner, First, Second, Row, rowAt, Says, Put, Written, CompiledAt, firstNode, CompiledFrom, SmallUpTo}
+use Rattle.compiler.specs.declared.Entry.{Entry}
+use Rattle.compiler.specs.Compiling.{Passes, PartAt, ReadsIn, StepAt, OnePattern, leafOf, aroundOf, Begins, BeginsAt, Entered, Ready, Fits, afterFirst, Inner, First, Second, entryAt, Small, Says, Put, Written, CompiledAt, firstNode, CompiledFrom, SmallUpTo}
 use Rattle.compiler.proofs.Parts.{led, none-after, one-after, two-after, second-part, within, whole-read}
 use Rattle.compiler.proofs.Beginnings.{begins-suc}
 use Rattle.compiler.proofs.Entries.{compile-leaf, compile-around, compile-joined}
 use Rattle.compiler.proofs.Standing.{written-none, written-then, written-both, whole-says}
 
-written-as : {b : ℕ} {ns ms : List Node} {before now : Columns} → ms ≡ ns → Written b ns before now → Written b ms before now
+written-as : {b : ℕ} {ns ms : List Node} {before now : List ℕ} → ms ≡ ns → Written b ns before now → Written b ms before now
 written-as {b} {before = before} {now = now} e w = subst (λ l. Written b l before now) (sym e) w
 
 -- the pattern of a task was read
@@ -30,7 +31,7 @@ part-as {s} {at} {at′} {b} {b′} {kept} {d} {d′} {x} e f g h =
     subst (λ i. PartAt s i b kept d x) (sym e) (subst (λ i. PartAt s at′ i kept d x) (sym f) (subst (λ i. PartAt s at′ b′ kept i x) (sym g) h))
 
 -- what a call writes, from another name of its first position on
-written-from : {s : List ℕ} {t : Task} {before now : Columns} {kept : List ℕ} {x : Part} {scope K : List ℕ} {b : ℕ}
+written-from : {s : List ℕ} {t : Task} {before now : List ℕ} {kept : List ℕ} {x : Part} {scope K : List ℕ} {b : ℕ}
     → CompiledAt s t before now → PartAt s (t .at) (t .base) kept (t .depth) x → Fits t scope K → t .base ≡ b → Written b (compile (x .tree) b scope K) before now
 written-from {before = before} {now = now} {kept = kept} {x = x} {scope = scope} {K = K} w e f h =
     subst (λ i. Written i (compile (x .tree) i scope K) before now) h (w .writes kept x scope K e f)
@@ -39,7 +40,7 @@ module _ {s : List ℕ} {task : Task} {r : Step} {kept : List ℕ} {x : Part} {s
     (f : StepAt s (task .at) r) (e : PartAt s (task .at) (task .base) kept (task .depth) x) (fits : Fits task scope K) where
   -- ---- no pattern after the command
 
-  pub leaf-written : {row : Row} {before now : Columns} → r .patterns ≡ 0 → Says row (firstNode (leafOf r) (task .base) scope K)
+  pub leaf-written : {row : Entry} {before now : List ℕ} → r .patterns ≡ 0 → Says row (firstNode (leafOf r) (task .base) scope K)
       → Put (task .base) row before now → Written (task .base) (compile (x .tree) (task .base) scope K) before now
   leaf-written none says put =
       written-as (ap (λ y. compile (y .tree) (task .base) scope K) (sym (none-after (led e f) none)) ∙ compile-leaf (r .code) (r .kind) (r .slot) (task .base) scope K)
@@ -47,20 +48,20 @@ module _ {s : List ℕ} {task : Task} {r : Step} {kept : List ℕ} {x : Part} {s
 
   -- ---- one pattern after it
 
-  module _ {p : Begin} (g : BeginsAt s (r .next) (task .base + 1) p) {row : Row} {before mid : Columns} (put : Put (task .base) row before mid) where
-    pub around-written : {inner : Task} {now : Columns} → r .patterns ≡ 1
+  module _ {p : Begin} (g : BeginsAt s (r .next) (task .base + 1) p) {row : Entry} {before mid : List ℕ} (put : Small (row .row) → Put (task .base) row before mid) where
+    pub around-written : {inner : Task} {now : List ℕ} → r .patterns ≡ 1
         → ((y : Pattern) (next : ℕ) → OnePattern (r .code) → Begins y (task .base + 1) next p → Says row (firstNode (aroundOf r y) (task .base) scope K))
         → Inner r task p inner → CompiledAt s inner mid now → Written (task .base) (compile (x .tree) (task .base) scope K) before now
     around-written one says i w =
         let o = one-after (led e f) one in
         let b = g .begins (o .kept) (depthIn (r .code) (task .depth)) (o .inner) (o .reads) in
         written-as (ap (λ y. compile (y .tree) (task .base) scope K) (sym (o .is)) ∙ compile-around (r .kind) (r .slot) (task .base) (o .inner .tree) scope K (o .code))
-        (written-then put (says (o .inner .tree) (o .inner .next) (o .code) b)
+        (written-then (put (says (o .inner .tree) (o .inner .next) (o .code) b .small)) (says (o .inner .tree) (o .inner .next) (o .code) b)
         (written-from w (part-as (i .at-is) (i .base-is) (i .depth-is) (o .reads)) (i .fits scope K (o .inner .tree) (suc (task .base)) (o .inner .next) fits (begins-suc b)) (i .base-is ∙ add-one (task .base))))
 
     -- ---- two patterns after it
 
-    pub joined-written : {q : Begin} {first second : Task} {half now : Columns} → (r .patterns ≡ 0 → ⊥) → (r .patterns ≡ 1 → ⊥) → BeginsAt s (p .next) (p .after) q → Says row silent
+    pub joined-written : {q : Begin} {first second : Task} {half now : List ℕ} → (r .patterns ≡ 0 → ⊥) → (r .patterns ≡ 1 → ⊥) → BeginsAt s (p .next) (p .after) q → Says row silent
         → First r task q first → CompiledAt s first mid half → Second task p second → CompiledAt s second half now
         → Written (task .base) (compile (x .tree) (task .base) scope K) before now
     joined-written {q} none one g₂ says i w i₂ w₂ =
@@ -72,7 +73,7 @@ module _ {s : List ℕ} {task : Task} {r : Step} {kept : List ℕ} {x : Part} {s
         let b : Begins z c (o .second .next) q = subst (λ j. Begins z j (o .second .next) q) after (g₂ .begins kept (task .depth) (o .second) (second-part o g)) in
         let K₁ = afterFirst (r .code) z c K in
         written-as (ap (λ t. compile (t .tree) (task .base) scope K) (sym (o .is)) ∙ compile-joined (r .code) (task .base) y z scope K)
-        (written-then put says
+        (written-then (put (says .small)) says
         (written-both (compile y (suc (task .base)) scope K₁) (compile z c scope K) (compile-length y (suc (task .base)) scope K₁)
         (written-from w (part-as (i .at-is) (i .base-is) (i .depth-is) (o .reads)) (i .fits scope K z c (o .second .next) fits b) (i .base-is ∙ add-one (task .base)))
         (written-from w₂ (part-as (i₂ .at-is) (i₂ .base-is) (i₂ .depth-is) (second-part o g)) (i₂ .fits scope K fits) (i₂ .base-is ∙ after))))
@@ -117,7 +118,7 @@ end-low h b =
     let r = whole-reads h in
     omega (arith, b .begins (r .kept) 0 (r .part) (r .is) .after-is, within (r .is) .few)
 
-module _ {s : List ℕ} {p : Begin} {task : Task} {row : Row} {begin : ℕ} {before mid now : Columns} (b : BeginsAt s 0 0 p) (w : CompiledAt s task before mid)
+module _ {s : List ℕ} {p : Begin} {task : Task} {row : Entry} {begin : ℕ} {before mid now : List ℕ} (b : BeginsAt s 0 0 p) (w : CompiledAt s task before mid)
     (at : task .at ≡ 0) (base : task .base ≡ 0) (depth : task .depth ≡ 0) (fits : (K : List ℕ) → Marks (task .after) K → Fits task [] K)
     (end : Marks (task .after) (p .after ∷ [])) (put : Put (p .after) row mid now) (says : Says row silent) (enters : Entered p (task .after) begin) where
   module _ (t : Pattern) (e : readPattern noneGiven s ≡ passed t) where
@@ -134,7 +135,7 @@ module _ {s : List ℕ} {p : Begin} {task : Task} {row : Row} {begin : ℕ} {bef
     marks : Marks (task .after) (commands t ∷ [])
     marks = subst (λ i. Marks (task .after) (i ∷ [])) done end
 
-    whole-written : (k : ℕ) → k ≤ commands t → Says (rowAt now k) (nodeAt (nodes t []) k)
+    whole-written : (k : ℕ) → k ≤ commands t → Says (entryAt now k) (nodeAt (nodes t []) k)
     whole-written =
         whole-says t
         (subst (λ z. Written 0 (compile z 0 [] (commands t ∷ [])) before mid) (read .2) (written-from w (part-as at base depth (read .1)) (fits (commands t ∷ []) marks) base))

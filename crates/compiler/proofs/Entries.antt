@@ -11,10 +11,13 @@ use lib.ListN.{length}
 use borrow.Author.Tests.{ne-eqb}
 use Rattle.meaning.specs.Pattern.{Rule, Pattern, nothing, line, test, same, other, either, then, commands, leaf, around, joined}
 use Rattle.automaton.specs.Automaton.{Node, Test, always, against, silent, taking, heads, enter, levelOf, testOf, compile}
-use Rattle.automaton.specs.Columns.{testIn}
+use Rattle.automaton.specs.Program.{testIn}
+use Rattle.automaton.specs.declared.Row.{Row}
+use Rattle.automaton.specs.declared.Rule.the-variants as Asked
 use Rattle.automaton.specs.Masks.{Marks, marks-none}
 use Rattle.automaton.specs.Scope.{Below, level-below}
-use Rattle.compiler.specs.Compiling.{OnePattern, mark, scopeIn, afterIn, afterFirst, Row, Says, firstNode, ruleCode}
+use Rattle.compiler.specs.Compiling.{OnePattern, mark, scopeIn, afterIn, afterFirst, Says, firstNode, askedRule}
+use Rattle.compiler.specs.declared.Entry.{Entry}
 
 -- ---- a pattern's nodes, by its command
 
@@ -61,17 +64,17 @@ node-test {code} kind slot b scope K h k = rw (ne-eqb code 0x20 h, ne-eqb code 0
 -- ---- tests
 
 -- a slot that no keep has
-pub level-none : (r : Rule) (o : Option ℕ) → mark o ≡ 0 → testIn 0 0 ≡ testOf r o
+pub level-none : (r : Rule) (o : Option ℕ) → mark o ≡ 0 → testIn Asked.Never 0 ≡ testOf r o
 level-none r none e = refl
 level-none r (some j) e = absurd (omega (arith, e))
 
-against-rule : (t : Bool) (j : ℕ) → testIn (cond t 2 3) j ≡ against (cond t same other) j
+against-rule : (t : Bool) (j : ℕ) → testIn (cond t Asked.Same Asked.Other) j ≡ against (cond t same other) j
 against-rule true j = refl
 against-rule false j = refl
 
-pub level-some : (code : ℕ) (o : Option ℕ) → (mark o ≡ 0 → ⊥) → testIn (ruleCode code) (mark o - 1) ≡ testOf (ruleOf code) o
+pub level-some : (code : ℕ) (o : Option ℕ) → (mark o ≡ 0 → ⊥) → testIn (askedRule code) (mark o - 1) ≡ testOf (ruleOf code) o
 level-some code none h = absurd (h refl)
-level-some code (some j) h = let down : suc j - 1 ≡ j = omega arith in ap (testIn (ruleCode code)) down ∙ against-rule (eqb code 0x22) j
+level-some code (some j) h = let down : suc j - 1 ≡ j = omega arith in ap (testIn (askedRule code)) down ∙ against-rule (eqb code 0x22) j
 
 -- the level is below the depth
 pub level-fits : (slot : ℕ) (scope : List ℕ) → mark (levelOf slot scope) ≤ length scope
@@ -83,33 +86,20 @@ level-fits slot scope = go (levelOf slot scope) (level-below slot scope)
 
 -- ---- an entry says a node
 
-pub says-as : {x : Row} {n m : Node} → m ≡ n → Says x n → Says x m
+pub says-as : {x : Entry} {n m : Node} → m ≡ n → Says x n → Says x m
 says-as {x} e h = subst (Says x) (sym e) h
 
-pub says-silent : {x : Row} → x .kind ≡ 0 → x .test ≡ 0 → x .level ≡ 0 → x .depth ≡ 0 → x .push ≡ 0 → x .follow ≡ 0 → Says x silent
-says-silent {x} k t l d p f = record {
-  alike = record {
-    kind = k;
-    test = λ i. testIn (t i) (l i);
-    push = ap (λ y. eqb y 1) p;
-    depth = d;
-    follow = (subst (λ m. Marks m []) (sym f) marks-none) .has;
-  };
-  small = record { kind = omega (arith, k); level = omega (arith, l); depth = omega (arith, d); push = omega (arith, p) };
+-- the entry that takes no letter
+pub says-silent : Says (record { row = record { kind = 0; rule = Asked.Never; level = 0; depth = 0; push = false }; follow = 0 }) silent
+says-silent = record {
+  alike = record { kind = refl; test = refl; push = refl; depth = refl; follow = marks-none .has };
+  small = record { kind = omega arith; level = omega arith; depth = omega arith };
 }
 
-module _ {x : Row} {kind : ℕ} {n : Test} (scope : List ℕ) {K : List ℕ} (k : x .kind ≡ kind) (low : kind ≤ 15) (t : testIn (x .test) (x .level) ≡ n)
-    (l : x .level ≤ x .depth) (d : x .depth ≡ length scope) (shallow : x .depth ≤ 3) (m : Marks (x .follow) K) where
-  pub says-taking : (push : Bool) → x .push ≡ cond push 1 0 → Says x (taking kind n push scope K)
+module _ {x : Entry} {kind : ℕ} {n : Test} (scope : List ℕ) {K : List ℕ} (k : x .row .kind ≡ kind) (low : kind ≤ 15) (t : testIn (x .row .rule) (x .row .level) ≡ n)
+    (l : x .row .level ≤ x .row .depth) (d : x .row .depth ≡ length scope) (shallow : x .row .depth ≤ 3) (m : Marks (x .follow) K) where
+  pub says-taking : (push : Bool) → x .row .push ≡ push → Says x (taking kind n push scope K)
   says-taking push p = record {
-    alike = record { kind = k; test = t; push = ap (λ y. eqb y 1) p ∙ pushed push; depth = d; follow = m .has };
-    small = record { kind = omega (arith, k, low); level = l; depth = shallow; push = below push p };
+    alike = record { kind = k; test = t; push = p; depth = d; follow = m .has };
+    small = record { kind = omega (arith, k, low); level = l; depth = shallow };
   }
-    where
-      pushed : (u : Bool) → eqb (cond u 1 0) 1 ≡ u
-      pushed true = refl
-      pushed false = refl
-
-      below : (u : Bool) → x .push ≡ cond u 1 0 → x .push ≤ 1
-      below true e = omega (arith, e)
-      below false e = omega (arith, e)

@@ -5,77 +5,58 @@ use Prim.Native.Nat.{ℕ, zero, suc, _+_, _<_, _≤_}
 use native.Mathlib.Nat.{add-zero, zero-add}
 use native.Mathlib.Omega.{arith}
 use native.Mathlib.Decide.{decLt}
-use lib.ListN.{length, getD, set}
-use lib.Seq.{getD-set-same, getD-set-other}
+use lib.ListN.{length, getD}
 use Rattle.meaning.specs.Pattern.{Pattern, commands}
 use Rattle.automaton.specs.Automaton.{Node, silent, nodes, nodeAt}
 use Rattle.automaton.specs.Placed.{nodes-length, end-silent}
-use Rattle.automaton.specs.Columns.{Columns}
-use Rattle.compiler.specs.Compiling.{Row, rowAt, Says, Stand, Put, Written}
+use Rattle.automaton.specs.Program as Program
+use Rattle.compiler.specs.Compiling.{entryAt, Says, Stand, Put, Written}
+use Rattle.compiler.specs.declared.Entry.{Entry}
 
 -- ---- one entry
 
-abbrev rowWith : ℕ → ℕ → ℕ → ℕ → ℕ → ℕ → Row
-rowWith k t l d p f = record { kind = k; test = t; level = l; depth = d; push = p; follow = f }
-
-row-eq : {k k′ t t′ l l′ d d′ p p′ f f′ : ℕ} → k ≡ k′ → t ≡ t′ → l ≡ l′ → d ≡ d′ → p ≡ p′ → f ≡ f′ → rowWith k t l d p f ≡ rowWith k′ t′ l′ d′ p′ f′
-row-eq a₁ a₂ a₃ a₄ a₅ a₆ = λ i. rowWith (a₁ i) (a₂ i) (a₃ i) (a₄ i) (a₅ i) (a₆ i)
-
--- a column with one entry set
-pub record Set (i v : ℕ) (before now : List ℕ) : Type 0 where
-  pub here : getD now i 0 ≡ v
-  pub elsewhere : (k : ℕ) → (k ≡ i → ⊥) → getD now k 0 ≡ getD before k 0
-
-pub column-set : {n i v : ℕ} {before now : List ℕ} → length before ≡ n → i < n → now ≡ set before i v → Set i v before now
-column-set {i = i} {v = v} {before = before} l h e = record {
-  here = ap (λ c. getD c i 0) e ∙ getD-set-same before i v 0 (omega (arith, l, h));
-  elsewhere = λ k ne. ap (λ c. getD c k 0) e ∙ getD-set-other before i k v 0 ne;
-}
-
-pub all-set : {i : ℕ} {x : Row} {a b : Columns} → Set i (x .kind) (a .kinds) (b .kinds) → Set i (x .test) (a .tests) (b .tests)
-    → Set i (x .level) (a .levels) (b .levels) → Set i (x .depth) (a .depths) (b .depths) → Set i (x .push) (a .pushes) (b .pushes)
-    → Set i (x .follow) (a .follow) (b .follow) → Put i x a b
-all-set k t l d p f = record {
-  here = row-eq (k .here) (t .here) (l .here) (d .here) (p .here) (f .here);
-  elsewhere = λ j ne. row-eq (k .elsewhere j ne) (t .elsewhere j ne) (l .elsewhere j ne) (d .elsewhere j ne) (p .elsewhere j ne) (f .elsewhere j ne);
+pub put-entry : {i : ℕ} {x : Entry} {before now : List ℕ} → Program.Put i (x .row) (x .follow) before now → Put i x before now
+put-entry p = record {
+  here = λ j. record { row = p .row j; follow = p .mask-is j };
+  elsewhere = λ k ne. λ j. record { row = p .rows k ne j; follow = p .masks k ne j };
 }
 
 -- ---- entries in a row
 
-stand-append : (ns ms : List Node) (a : Columns) (b : ℕ) → Stand a b ns → Stand a (b + length ns) ms → Stand a b (ns ++ ms)
+stand-append : (ns ms : List Node) (a : List ℕ) (b : ℕ) → Stand a b ns → Stand a (b + length ns) ms → Stand a b (ns ++ ms)
 stand-append [] ms a b h k = subst (λ i. Stand a i ms) (add-zero b) k
 stand-append (n ∷ ns) ms a b h k =
     let far : b + suc (length ns) ≡ suc b + length ns = omega arith in
     (h .0, stand-append ns ms a (suc b) (h .1) (subst (λ i. Stand a i ms) far k))
 
 -- they stay where only later entries are written
-stand-kept : (ns : List Node) (before now : Columns) (b : ℕ) → ((k : ℕ) → k < b + length ns → rowAt now k ≡ rowAt before k) → Stand before b ns → Stand now b ns
+stand-kept : (ns : List Node) (before now : List ℕ) (b : ℕ) → ((k : ℕ) → k < b + length ns → entryAt now k ≡ entryAt before k) → Stand before b ns → Stand now b ns
 stand-kept [] before now b e h = tt
 stand-kept (n ∷ ns) before now b e h =
     (subst (λ x. Says x n) (sym (e b (omega arith))) (h .0), stand-kept ns before now (suc b) (λ k l. e k (omega (arith, l))) (h .1))
 
-stand-at : (ns : List Node) (a : Columns) (b j : ℕ) → j < length ns → Stand a b ns → Says (rowAt a (b + j)) (getD ns j silent)
+stand-at : (ns : List Node) (a : List ℕ) (b j : ℕ) → j < length ns → Stand a b ns → Says (entryAt a (b + j)) (getD ns j silent)
 stand-at [] a b j l h = absurd (omega (arith, l))
-stand-at (n ∷ ns) a b zero l h = subst (λ i. Says (rowAt a i) n) (sym (add-zero b)) (h .0)
+stand-at (n ∷ ns) a b zero l h = subst (λ i. Says (entryAt a i) n) (sym (add-zero b)) (h .0)
 stand-at (n ∷ ns) a b (suc j) l h =
     let far : suc b + j ≡ b + suc j = omega arith in
-    subst (λ i. Says (rowAt a i) (getD ns j silent)) far (stand-at ns a (suc b) j (omega (arith, l)) (h .1))
+    subst (λ i. Says (entryAt a i) (getD ns j silent)) far (stand-at ns a (suc b) j (omega (arith, l)) (h .1))
 
 -- ---- what is written
 
 -- one entry, and the nodes after it
-pub written-then : {b : ℕ} {x : Row} {n : Node} {ns : List Node} {before mid now : Columns}
+pub written-then : {b : ℕ} {x : Entry} {n : Node} {ns : List Node} {before mid now : List ℕ}
     → Put b x before mid → Says x n → Written (suc b) ns mid now → Written b (n ∷ ns) before now
 written-then {b} {n = n} p s w = record {
   nodes = (subst (λ y. Says y n) (sym (w .earlier b (omega arith) ∙ p .here)) s, w .nodes);
   earlier = λ k l. w .earlier k (omega (arith, l)) ∙ p .elsewhere k (λ e. omega (arith, l, e));
 }
 
-pub written-none : {b : ℕ} {now : Columns} → Written b [] now now
+pub written-none : {b : ℕ} {now : List ℕ} → Written b [] now now
 written-none = record { nodes = tt; earlier = λ k l. refl }
 
 -- two lists, the second after the first
-pub written-both : {b m : ℕ} (ns ms : List Node) {before mid now : Columns}
+pub written-both : {b m : ℕ} (ns ms : List Node) {before mid now : List ℕ}
     → length ns ≡ m → Written b ns before mid → Written (b + m) ms mid now → Written b (ns ++ ms) before now
 written-both {b} {m} ns ms {mid = mid} {now = now} e v w = record {
   nodes =
@@ -87,15 +68,15 @@ written-both {b} {m} ns ms {mid = mid} {now = now} e v w = record {
 
 -- ---- a whole automaton and its end
 
-module _ (p : Pattern) {x : Row} {before mid now : Columns} where
+module _ (p : Pattern) {x : Entry} {before mid now : List ℕ} where
   pub whole-says : Written 0 (nodes p []) before mid → Put (commands p) x mid now → Says x silent
-      → (k : ℕ) → k ≤ commands p → Says (rowAt now k) (nodeAt (nodes p []) k)
+      → (k : ℕ) → k ≤ commands p → Says (entryAt now k) (nodeAt (nodes p []) k)
   whole-says w e s k l = go (decLt k (commands p))
     where
-      go : Dec (k < commands p) → Says (rowAt now k) (nodeAt (nodes p []) k)
+      go : Dec (k < commands p) → Says (entryAt now k) (nodeAt (nodes p []) k)
       go (yes h) =
           subst (λ y. Says y (nodeAt (nodes p []) k)) (sym (e .elsewhere k (λ z. omega (arith, h, z))))
-          (subst (λ i. Says (rowAt mid i) (nodeAt (nodes p []) k)) (zero-add k) (stand-at (nodes p []) mid 0 k (omega (arith, h, nodes-length p [])) (w .nodes)))
+          (subst (λ i. Says (entryAt mid i) (nodeAt (nodes p []) k)) (zero-add k) (stand-at (nodes p []) mid 0 k (omega (arith, h, nodes-length p [])) (w .nodes)))
       go (no h) =
           let last : k ≡ commands p = omega arith in
-          subst₂ Says (sym (ap (rowAt now) last ∙ e .here)) (sym (end-silent p [] k (omega arith))) s
+          subst₂ Says (sym (ap (entryAt now) last ∙ e .here)) (sym (end-silent p [] k (omega arith))) s

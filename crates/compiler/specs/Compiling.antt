@@ -1,5 +1,5 @@
 -- What the functions of the compiler ask and promise, in the terms of the pattern that stands in the bytes and of its automaton.
--- `Passes` and `Compiled` of `Columns` are what callers see; every other definition is the compiler's own.
+-- `Passes` and `Compiled` of `Program` are what callers see; every other definition is the compiler's own.
 use mathlib.Core.Path.{_≡_}
 use mathlib.Core.Bool.{false, cond}
 use mathlib.Core.List.{List, [], _∷_, _++_}
@@ -12,8 +12,11 @@ use Rattle.meaning.specs.Outcome.{passed}
 use Rattle.meaning.specs.Pattern.{Pattern, commands, Command, isKeep, commandAt, leaf, around, joined, depthIn, Part, readPattern, noneGiven}
 use Rattle.pattern.specs.Reading.{patternAt}
 use Rattle.automaton.specs.Automaton.{Node, Test, taking, nullable, heads, enter, levelOf, compile, nodeAt}
-use Rattle.automaton.specs.Columns.{Columns, testIn, members, Alike, Compiled}
+use Rattle.automaton.specs.Program.{rowAt, followAt, testIn, said, Alike, Compiled}
 use Rattle.automaton.specs.Masks.{Marks}
+use Rattle.automaton.specs.declared.Row.{Row}
+use Rattle.automaton.specs.declared.Rule.{Rule}
+use Rattle.automaton.specs.declared.Rule.the-variants as Rule
 use Rattle.compiler.specs.declared.Step.{Step}
 use Rattle.compiler.specs.declared.Begin.{Begin}
 use Rattle.compiler.specs.declared.Task.{Task}
@@ -156,92 +159,68 @@ pub record Second (t : Task) (p : Begin) (r : Task) : Type 0 where
   pub depth-is : r .depth ≡ t .depth
   pub fits : (scope K : List ℕ) → Fits t scope K → Fits r scope K
 
--- ---- the columns' entries
+-- ---- the program's entries
 
--- what the columns have at a position
-pub record Row : Type 0 where
-  pub kind : ℕ
-  pub test : ℕ
-  pub level : ℕ
-  pub depth : ℕ
-  pub push : ℕ
-  pub follow : ℕ
+-- what the program has at a position
+abbrev pub entryAt : List ℕ → ℕ → Entry
+entryAt a c = record { row = rowAt a c; follow = followAt a c }
 
-abbrev pub rowAt : Columns → ℕ → Row
-rowAt a c =
-    record {
-      kind = getD (a .kinds) c 0;
-      test = getD (a .tests) c 0;
-      level = getD (a .levels) c 0;
-      depth = getD (a .depths) c 0;
-      push = getD (a .pushes) c 0;
-      follow = getD (a .follow) c 0;
-    }
-
-abbrev pub rowOf : Entry → Row
-rowOf x = record { kind = x .kind; test = x .test; level = x .level; depth = x .depth; push = x .push; follow = x .follow }
-
--- the node that it says
-abbrev pub said : Row → Node
-said x = record { kind = x .kind; test = testIn (x .test) (x .level); push = eqb (x .push) 1; depth = x .depth; follow = members (x .follow) }
-
--- the bounds of its numbers
+-- the bounds of a row's numbers
 pub record Small (x : Row) : Type 0 where
   pub kind : x .kind ≤ 15
   pub level : x .level ≤ x .depth
   pub depth : x .depth ≤ 3
-  pub push : x .push ≤ 1
 
-pub record Says (x : Row) (n : Node) : Type 0 where
-  pub alike : Alike (said x) n
-  pub small : Small x
+pub record Says (x : Entry) (n : Node) : Type 0 where
+  pub alike : Alike (said (x .row) (x .follow)) n
+  pub small : Small (x .row)
 
 -- the entries from b on say the nodes
-abbrev pub Stand : Columns → ℕ → List Node → Type 0
+abbrev pub Stand : List ℕ → ℕ → List Node → Type 0
 Stand a b [] = Unit {0}
-Stand a b (n ∷ ns) = Says (rowAt a b) n × Stand a (suc b) ns
+Stand a b (n ∷ ns) = Says (entryAt a b) n × Stand a (suc b) ns
 
 -- one entry was written at i, and no other
-pub record Put (i : ℕ) (x : Row) (before now : Columns) : Type 0 where
-  pub here : rowAt now i ≡ x
-  pub elsewhere : (k : ℕ) → (k ≡ i → ⊥) → rowAt now k ≡ rowAt before k
+pub record Put (i : ℕ) (x : Entry) (before now : List ℕ) : Type 0 where
+  pub here : entryAt now i ≡ x
+  pub elsewhere : (k : ℕ) → (k ≡ i → ⊥) → entryAt now k ≡ entryAt before k
 
 -- the nodes were written from b on, and nothing before them
-pub record Written (b : ℕ) (ns : List Node) (before now : Columns) : Type 0 where
+pub record Written (b : ℕ) (ns : List Node) (before now : List ℕ) : Type 0 where
   pub nodes : Stand now b ns
-  pub earlier : (k : ℕ) → k < b → rowAt now k ≡ rowAt before k
+  pub earlier : (k : ℕ) → k < b → entryAt now k ≡ entryAt before k
 
 -- the node of a pattern's first command
 abbrev pub firstNode : Pattern → ℕ → List ℕ → List ℕ → Node
 firstNode p b scope K = nodeAt (compile p b scope K) 0
 
--- the code of a rule
-abbrev pub ruleCode : ℕ → ℕ
-ruleCode code = cond (eqb code 0x22) 2 3
+-- the rule of a command same or other
+abbrev pub askedRule : ℕ → Rule
+askedRule code = cond (eqb code 0x22) Rule.Same Rule.Other
 
--- the entry of a command that takes a letter and pushes nothing, with its test's code and level
-abbrev pub TakingSaid : Step → Task → ℕ → ℕ → Entry → Type 0
-TakingSaid c t test level r = (scope K : List ℕ) (n : Test) → Fits t scope K → testIn test level ≡ n → level ≤ t .depth → Says (rowOf r) (taking (c .kind) n false scope K)
+-- the entry of a command that takes a letter and pushes nothing, with its rule and level
+abbrev pub TakingSaid : Step → Task → Rule → ℕ → Entry → Type 0
+TakingSaid c t rule level r = (scope K : List ℕ) (n : Test) → Fits t scope K → testIn rule level ≡ n → level ≤ t .depth → Says r (taking (c .kind) n false scope K)
 
 -- the entry of a command without patterns, and of one around the pattern that p begins
 abbrev pub LeafSaid : Step → Task → Entry → Type 0
-LeafSaid c t r = (scope K : List ℕ) → Fits t scope K → Says (rowOf r) (firstNode (leafOf c) (t .base) scope K)
+LeafSaid c t r = (scope K : List ℕ) → Fits t scope K → Says r (firstNode (leafOf c) (t .base) scope K)
 
 abbrev pub AroundSaid : Step → Task → Begin → Entry → Type 0
 AroundSaid c t p r =
     (scope K : List ℕ) (x : Pattern) (next : ℕ) → OnePattern (c .code) → Fits t scope K → Begins x (t .base + 1) next p
-    → Says (rowOf r) (firstNode (aroundOf c x) (t .base) scope K)
+    → Says r (firstNode (aroundOf c x) (t .base) scope K)
 
 -- the pattern's automaton was written
-pub record CompiledAt (s : List ℕ) (t : Task) (before now : Columns) : Type 0 where
+pub record CompiledAt (s : List ℕ) (t : Task) (before now : List ℕ) : Type 0 where
   pub writes : (kept : List ℕ) (x : Part) (scope K : List ℕ) → PartAt s (t .at) (t .base) kept (t .depth) x → Fits t scope K
       → Written (t .base) (compile (x .tree) (t .base) scope K) before now
 
 -- ---- the whole
 
--- the columns say the automaton of the pattern that the bytes are, up to its end, and their numbers are small
-abbrev pub CompiledFrom : List ℕ → Columns → ℕ → Type 0
+-- the program says the automaton of the pattern that the bytes are, up to its end, and its numbers are small
+abbrev pub CompiledFrom : List ℕ → List ℕ → ℕ → Type 0
 CompiledFrom s a begin = (p : Pattern) → readPattern noneGiven s ≡ passed p → Compiled p a begin
 
-abbrev pub SmallUpTo : List ℕ → Columns → Type 0
+abbrev pub SmallUpTo : List ℕ → List ℕ → Type 0
 SmallUpTo s a = (p : Pattern) → readPattern noneGiven s ≡ passed p → (k : ℕ) → k ≤ commands p → Small (rowAt a k)

@@ -1,13 +1,13 @@
-// The compiler: from a pattern's bytes to its position automaton in small arrays, a column for each part of a node.
+// The compiler: from a pattern's bytes to its position automaton, written into a program.
 // Two passes over the bytes, both by recursion: what a pattern begins with, and with that the entries of its positions.
 ghost use Prim.Native.Nat.{_<_, _≤_};
 ghost use mathlib.Core.Path.{_≡_};
 ghost use mathlib.Core.List.{[], _∷_};
-ghost use lib.ListN.{length, set};
 ghost use Rattle.automaton.specs.Automaton.{silent};
-ghost use Rattle.automaton.specs.Columns.{columns};
 ghost use Rattle.automaton.specs.Masks.{Marks};
-ghost use Rattle.compiler.specs.Compiling.{Passes, Reads, Commands, StepAt, leafOf, Begins, BeginsAt, BeginsAround, BeginsJoined, Entered, Ready, Allowed, AfterFirst, Inner, First, Second, rowOf, Says, Put, ruleCode, TakingSaid, LeafSaid, AroundSaid, CompiledAt, CompiledFrom, SmallUpTo};
+ghost use Rattle.compiler.specs.Compiling.{Passes, Reads, Commands, StepAt, leafOf, Begins, BeginsAt, BeginsAround, BeginsJoined, Entered, Ready, Allowed, AfterFirst, Inner, First, Second, Says, Small, Put, askedRule, TakingSaid, LeafSaid, AroundSaid, CompiledAt, CompiledFrom, SmallUpTo};
+use automaton::Row;
+use automaton::Rule;
 use pattern::Shape;
 
 // ---- one command
@@ -248,62 +248,52 @@ fn second_task(task: Task, p: Begin) -> Task
 
 // ---- the entries of a position
 
-// The tests' codes.
-const NEVER: u8 = 0;
-
-const ALWAYS: u8 = 1;
-
-const IS_SAME: u8 = 2;
-
-const IS_OTHER: u8 = 3;
-
-// What the columns get at one position.
+// What the program gets at one position.
 pub struct Entry {
-    pub kind: u8,
-    pub test: u8,
-    pub level: u8,
-    pub depth: u8,
-    pub push: u8,
+    pub row: Row,
     pub follow: u64,
 }
 
 // A position that takes no letter.
 fn silent_entry() -> Entry
-    ensures { λ r. ⌜ Says (rowOf r) silent ⌝ }
+    ensures { λ r. ⌜ Says r silent ⌝ }
 {
-    Entry {
+    let row = Row {
         kind: 0,
-        test: NEVER,
+        rule: Rule::Never,
         level: 0,
         depth: 0,
-        push: 0,
-        follow: 0,
-    }
+        push: false,
+    };
+    Entry { row, follow: 0 }
 }
 
 // A position that takes a letter and pushes nothing.
-fn taking_entry(c: Step, task: Task, test: u8, level: u8) -> Entry
+fn taking_entry(c: Step, task: Task, rule: Rule, level: u8) -> Entry
     requires { ⌜ Allowed c task ⌝ }
-    ensures { λ r. ⌜ TakingSaid c task test level r ⌝ }
+    ensures { λ r. ⌜ TakingSaid c task rule level r ⌝ }
 {
-    Entry {
+    let row = Row {
         kind: c.kind,
-        test,
+        rule,
         level,
         depth: task.depth,
-        push: 0,
+        push: false,
+    };
+    Entry {
+        row,
         follow: task.after,
     }
 }
 
-// The test of a command same or other.
-fn rule_of(code: u8) -> u8
-    ensures { λ r. ⌜ r ≡ ruleCode code ⌝ }
+// The rule of a command same or other.
+fn rule_of(code: u8) -> Rule
+    ensures { λ r. ⌜ r ≡ askedRule code ⌝ }
 {
     if code == SAME {
-        return IS_SAME;
+        return Rule::Same;
     }
-    IS_OTHER
+    Rule::Other
 }
 
 // A command without patterns: nothing, line, or a test, which no value passes where no keep has the slot.
@@ -315,11 +305,11 @@ fn leaf_entry(c: Step, task: Task) -> Entry
         return silent_entry();
     }
     if c.code == LINE {
-        return taking_entry(c, task, ALWAYS, 0);
+        return taking_entry(c, task, Rule::Always, 0);
     }
     let level = task.levels[c.slot as usize];
     if level == 0 {
-        return taking_entry(c, task, NEVER, 0);
+        return taking_entry(c, task, Rule::Never, 0);
     }
     taking_entry(c, task, rule_of(c.code), level - 1)
 }
@@ -331,53 +321,25 @@ fn around_entry(c: Step, task: Task, p: Begin) -> Entry
 {
     if c.code == KEEP {
         let follow = entered(p, task.after);
-        return Entry {
+        let row = Row {
             kind: c.kind,
-            test: ALWAYS,
+            rule: Rule::Always,
             level: 0,
             depth: task.depth,
-            push: 1,
-            follow,
+            push: true,
         };
+        return Entry { row, follow };
     }
     silent_entry()
 }
 
-// One entry of a column of bytes, and of the column of masks; a column that is lent as a slice tells its length.
-fn set_byte(column: &mut [u8], i: usize, x: u8)
-    requires { ⌜ i < length (now column) ⌝ }
-    ensures { λ _. ⌜ now (column .exit) ≡ set (now (column .entry)) i x ⌝ }
-{
-    column[i] = x;
-}
-
-fn set_mask(column: &mut [u64], i: usize, x: u64)
-    requires { ⌜ i < length (now column) ⌝ }
-    ensures { λ _. ⌜ now (column .exit) ≡ set (now (column .entry)) i x ⌝ }
-{
-    column[i] = x;
-}
-
-// One position's entries.
-fn put(
-    i: usize,
-    x: Entry,
-    kinds: &mut [u8; 64],
-    tests: &mut [u8; 64],
-    levels: &mut [u8; 64],
-    depths: &mut [u8; 64],
-    pushes: &mut [u8; 64],
-    follow: &mut [u64; 64],
-)
+// One position's entry is written.
+fn put(program: &mut [u64; 128], i: usize, x: Entry)
     requires { ⌜ i < 64 ⌝ }
-    ensures { λ _. ⌜ Put i (rowOf x) (columns (now (kinds .entry)) (now (tests .entry)) (now (levels .entry)) (now (depths .entry)) (now (pushes .entry)) (now (follow .entry))) (columns (now (kinds .exit)) (now (tests .exit)) (now (levels .exit)) (now (depths .exit)) (now (pushes .exit)) (now (follow .exit))) ⌝ }
+    ensures { λ _. ⌜ (Small (x .row) → Put i x (now (program .entry)) (now (program .exit))) ⌝ }
 {
-    set_byte(kinds, i, x.kind);
-    set_byte(tests, i, x.test);
-    set_byte(levels, i, x.level);
-    set_byte(depths, i, x.depth);
-    set_byte(pushes, i, x.push);
-    set_mask(follow, i, x.follow);
+    let row = x.row;
+    automaton::put_row(program, i, row, x.follow);
 }
 
 // ---- a pattern
@@ -386,52 +348,42 @@ fn put(
 fn compile_at(
     src: &[u8],
     task: Task,
-    kinds: &mut [u8; 64],
-    tests: &mut [u8; 64],
-    levels: &mut [u8; 64],
-    depths: &mut [u8; 64],
-    pushes: &mut [u8; 64],
-    follow: &mut [u64; 64],
+    program: &mut [u64; 128],
 )
     requires { ⌜ Ready (now src) task ⌝ }
-    ensures { λ _. ⌜ CompiledAt (now (src .entry)) task (columns (now (kinds .entry)) (now (tests .entry)) (now (levels .entry)) (now (depths .entry)) (now (pushes .entry)) (now (follow .entry))) (columns (now (kinds .exit)) (now (tests .exit)) (now (levels .exit)) (now (depths .exit)) (now (pushes .exit)) (now (follow .exit))) ⌝ }
+    ensures { λ _. ⌜ CompiledAt (now (src .entry)) task (now (program .entry)) (now (program .exit)) ⌝ }
 {
     let c = step_at(src, task.at);
     if c.patterns == 0 {
         let x = leaf_entry(c, task);
-        put(task.base, x, kinds, tests, levels, depths, pushes, follow);
+        put(program, task.base, x);
         return;
     }
     let p = begin_at(src, c.next, task.base + 1);
     if c.patterns == 1 {
         let x = around_entry(c, task, p);
-        put(task.base, x, kinds, tests, levels, depths, pushes, follow);
+        put(program, task.base, x);
         let inner = inner_task(c, task, p);
-        compile_at(src, inner, kinds, tests, levels, depths, pushes, follow);
+        compile_at(src, inner, program);
         return;
     }
     let q = begin_at(src, p.next, p.after);
     let x = silent_entry();
-    put(task.base, x, kinds, tests, levels, depths, pushes, follow);
+    put(program, task.base, x);
     let first = first_task(c, task, q);
-    compile_at(src, first, kinds, tests, levels, depths, pushes, follow);
+    compile_at(src, first, program);
     let second = second_task(task, p);
-    compile_at(src, second, kinds, tests, levels, depths, pushes, follow);
+    compile_at(src, second, program);
 }
 
-// A pattern that passes its questions: its automaton in the columns, the end's position included, and the mask of where runs begin.
+// A pattern that passes its questions: its automaton as a program, the end's position included, and the mask of where runs begin.
 pub fn compile(
     pattern: &[u8],
-    kinds: &mut [u8; 64],
-    tests: &mut [u8; 64],
-    levels: &mut [u8; 64],
-    depths: &mut [u8; 64],
-    pushes: &mut [u8; 64],
-    follow: &mut [u64; 64],
+    program: &mut [u64; 128],
 ) -> u64
     requires { ⌜ Passes (now pattern) ⌝ }
-    ensures automaton { λ r. ⌜ CompiledFrom (now (pattern .entry)) (columns (now (kinds .exit)) (now (tests .exit)) (now (levels .exit)) (now (depths .exit)) (now (pushes .exit)) (now (follow .exit))) r ⌝ }
-    ensures small { λ _. ⌜ SmallUpTo (now (pattern .entry)) (columns (now (kinds .exit)) (now (tests .exit)) (now (levels .exit)) (now (depths .exit)) (now (pushes .exit)) (now (follow .exit))) ⌝ }
+    ensures automaton { λ r. ⌜ CompiledFrom (now (pattern .entry)) (now (program .exit)) r ⌝ }
+    ensures small { λ _. ⌜ SmallUpTo (now (pattern .entry)) (now (program .exit)) ⌝ }
 {
     let p = begin_at(pattern, 0, 0);
     let end = bit(p.after);
@@ -443,8 +395,8 @@ pub fn compile(
         depth: 0,
         after: end,
     };
-    compile_at(pattern, whole, kinds, tests, levels, depths, pushes, follow);
+    compile_at(pattern, whole, program);
     let x = silent_entry();
-    put(p.after, x, kinds, tests, levels, depths, pushes, follow);
+    put(program, p.after, x);
     entered(p, end)
 }

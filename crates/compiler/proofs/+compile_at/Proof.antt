@@ -28,14 +28,14 @@ use Rattle.compiler.proofs.+compile_at.{statement}
 use Rattle.compiler.proofs.+compile_at.Tie.{close}
 
 -- the measure: the bytes left
-abbrev μ-compile-at : Measures 7 compile-at-kinds.ps ℕ
+abbrev μ-compile-at : Measures 2 compile-at-kinds.ps ℕ
 μ-compile-at κs a = length (a .0 .now) - a .1 .0 .at
 
-abbrev compile-at-at : ℕ → In 7 compile-at-kinds.ps
-compile-at-at t = and 7 compile-at-kinds.ps (is 7 compile-at-kinds.ps μ-compile-at t) compile-at.Pre
+abbrev compile-at-at : ℕ → In 2 compile-at-kinds.ps
+compile-at-at t = and 2 compile-at-kinds.ps (is 2 compile-at-kinds.ps μ-compile-at t) compile-at.Pre
 
-abbrev compile-at-below : ℕ → In 7 compile-at-kinds.ps
-compile-at-below t = and 7 compile-at-kinds.ps (falls 7 compile-at-kinds.ps _<_ μ-compile-at t) compile-at.Pre
+abbrev compile-at-below : ℕ → In 2 compile-at-kinds.ps
+compile-at-below t = and 2 compile-at-kinds.ps (falls 2 compile-at-kinds.ps _<_ μ-compile-at t) compile-at.Pre
 
 -- what the functions that are called ask and promise
 abbrev calls : ℕ → compile-at-lts.Claims
@@ -76,14 +76,14 @@ module _ (t : ℕ) where
 
   put-requires : compile-at-lts.Need-put-requires (calls t) (compile-at-at t) compile-at.Post
   put-requires c κs =
-      let leaf = c .before .before .before .before .before .before in
+      let leaf = c .before in
       omega (arith, bounds (leaf .before .before .before) .base)
 
   returns : compile-at-lts.Need-returns (calls t) (compile-at-at t) compile-at.Post
   returns c = record {
     writes = λ kept x scope K e fits.
-        let leaf = c .before .before .before .before .before .before .before in
-        leaf-written (leaf .before .before .before .step-at .ensures) e fits (leaf .before .if1 .taken) (leaf .leaf-entry .ensures scope K fits) (c .put .ensures);
+        let leaf = c .before .before in
+        leaf-written (leaf .before .before .before .step-at .ensures) e fits (leaf .before .if1 .taken) (leaf .leaf-entry .ensures scope K fits) (c .put .ensures (leaf .leaf-entry .ensures scope K fits .small));
   }
 
   -- ---- where it is known what the first pattern after it begins with
@@ -107,7 +107,7 @@ module _ (t : ℕ) where
 
   put-requires-2 : compile-at-lts.Need-put-requires-2 (calls t) (compile-at-at t) compile-at.Post
   put-requires-2 c κs =
-      let around = c .before .before .before .before .before .before in
+      let around = c .before in
       omega (arith, bounds (step (around .before .before .before)) .base)
 
   abbrev At-around : Type 0
@@ -115,14 +115,14 @@ module _ (t : ℕ) where
 
   -- where the entry was made, from where it was put
   abbrev around : compile-at-lts.After-put2 (calls t) (compile-at-at t) compile-at.Post → At-around
-  around c = c .before .before .before .before .before .before .before
+  around c = c .before .before
 
   inner-task-requires : compile-at-lts.Need-inner-task-requires (calls t) (compile-at-at t) compile-at.Post
   inner-task-requires c κs = bounds (step (around c .before .before .before))
 
   compile-at-requires : compile-at-lts.Need-compile-at-requires (calls t) (compile-at-at t) compile-at.Post
   compile-at-requires c κs =
-      let inner = c .before .before .before .before .before .before in
+      let inner = c .before in
       let a = around (inner .before) in
       let h = step (a .before .before .before) in
       (fewer-next h (inner .inner-task .result .at) (inner .inner-task .ensures .at-is), inner-ready (ready h) (h .step-at .ensures) (a .before .if2 .taken) (inner .inner-task .ensures))
@@ -130,7 +130,7 @@ module _ (t : ℕ) where
   returns-2 : compile-at-lts.Need-returns-2 (calls t) (compile-at-at t) compile-at.Post
   returns-2 c = record {
     writes = λ kept x scope K e fits.
-        let inner = c .before .before .before .before .before .before .before in
+        let inner = c .before .before in
         let a = around (inner .before) in
         let begin = a .before .before .before in
         around-written (step begin .step-at .ensures) e fits (begin .begin-at .ensures) (inner .before .put2 .ensures) (a .before .if2 .taken)
@@ -163,11 +163,11 @@ module _ (t : ℕ) where
 
   put-requires-3 : compile-at-lts.Need-put-requires-3 (calls t) (compile-at-at t) compile-at.Post
   put-requires-3 c κs =
-      let both = c .before .before .before .before .before .before .before in
+      let both = c .before .before in
       omega (arith, bounds (step (begun both)) .base)
 
   abbrev both : compile-at-lts.After-put3 (calls t) (compile-at-at t) compile-at.Post → At-both
-  both c = c .before .before .before .before .before .before .before .before
+  both c = c .before .before .before
 
   first-task-requires : compile-at-lts.Need-first-task-requires (calls t) (compile-at-at t) compile-at.Post
   first-task-requires c κs = bounds (step (begun (both c))) .base
@@ -177,21 +177,21 @@ module _ (t : ℕ) where
 
   compile-at-requires-2 : compile-at-lts.Need-compile-at-requires-2 (calls t) (compile-at-at t) compile-at.Post
   compile-at-requires-2 c κs =
-      let first = c .before .before .before .before .before .before in
+      let first = c .before in
       let b = both (first .before) in
       let h = step (begun b) in
       (fewer-next h (first .first-task .result .at) (first .first-task .ensures .at-is), first-ready (ready h) (h .step-at .ensures) (none b) (one b) (first .first-task .ensures))
 
   -- where the first one's task was made, from where it was compiled
   abbrev first : compile-at-lts.After-compile-at2 (calls t) (compile-at-at t) compile-at.Post → At-first
-  first c = c .before .before .before .before .before .before .before
+  first c = c .before .before
 
   second-task-requires : compile-at-lts.Need-second-task-requires (calls t) (compile-at-at t) compile-at.Post
   second-task-requires c κs = search needs
 
   compile-at-requires-3 : compile-at-lts.Need-compile-at-requires-3 (calls t) (compile-at-at t) compile-at.Post
   compile-at-requires-3 c κs =
-      let second = c .before .before .before .before .before .before in
+      let second = c .before in
       let b = both (first (second .before) .before) in
       let h = step (begun b) in
       let place = second-place (h .step-at .ensures) (ready h .reads .is) (none b) (one b) (begun b .begin-at .ensures) in (
@@ -202,11 +202,11 @@ module _ (t : ℕ) where
   returns-3 : compile-at-lts.Need-returns-3 (calls t) (compile-at-at t) compile-at.Post
   returns-3 c = record {
     writes = λ kept x scope K e fits.
-        let second = c .before .before .before .before .before .before .before in
+        let second = c .before .before in
         let f = first (second .before) in
         let b = both (f .before) in
         joined-written (step (begun b) .step-at .ensures) e fits (begun b .begin-at .ensures) (f .before .put3 .ensures) (none b) (one b) (b .begin-at2 .ensures)
-        (f .before .before .before .before .before .before .before .before .silent-entry .ensures) (f .first-task .ensures) (second .before .compile-at2 .ensures) (second .second-task .ensures) (c .compile-at3 .ensures);
+        (f .before .before .before .silent-entry .ensures) (f .first-task .ensures) (second .before .compile-at2 .ensures) (second .second-task .ensures) (c .compile-at3 .ensures);
   }
 
 pub +compile-at-spec : {M : Type 1} → statement M

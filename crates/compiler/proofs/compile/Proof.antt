@@ -16,7 +16,7 @@ bit-requires c κs = end-low (c .before .before .pre) (c .begin-at .ensures)
 
 compile-at-requires : tie.Need-compile-at-requires
 compile-at-requires c κs =
-    let begin = c .before .before .before .before .before .before .before in
+    let begin = c .before .before in
     record { reads = whole-reads (begin .before .before .pre); shallow = omega arith }
 
 silent-entry-requires : tie.Need-silent-entry-requires
@@ -24,8 +24,8 @@ silent-entry-requires c κs = search needs
 
 put-requires : tie.Need-put-requires
 put-requires c κs =
-    let compiled = c .before .before .before .before .before .before .before in
-    let begin = compiled .before .before .before .before .before .before .before .before in
+    let compiled = c .before .before in
+    let begin = compiled .before .before .before in
     omega (arith, end-low (begin .before .before .pre) (begin .begin-at .ensures))
 
 entered-requires : tie.Need-entered-requires
@@ -34,12 +34,12 @@ entered-requires c κs = search needs
 returns : tie.Need-returns
 returns c =
     let put = c .before in
-    let silent = put .before .before .before .before .before .before .before in
+    let silent = put .before .before in
     let compiled = silent .before in
-    let end = compiled .before .before .before .before .before .before .before in
+    let end = compiled .before .before in
     let begin = end .before in
     whole-compiled (begin .begin-at .ensures) (compiled .compile-at .ensures) refl refl refl (λ K m. record { depth-is = refl; levels-are = no-levels; after-marks = m })
-    (end .bit .ensures) (put .put .ensures) (silent .silent-entry .ensures) (c .entered .ensures)
+    (end .bit .ensures) (put .put .ensures (silent .silent-entry .ensures .small)) (silent .silent-entry .ensures) (c .entered .ensures)
 
 pub compile-spec : {M : Type 1} → statement M
 compile-spec =

@@ -6,8 +6,9 @@ use native.Mathlib.Omega.{arith}
 use lib.ListN.{getD}
 use borrow.Author.Needs.{needs}
 use Rattle.automaton.specs.Automaton.{always, levelOf, testOf}
-use Rattle.automaton.specs.Columns.{testIn}
-use Rattle.compiler.specs.Compiling.{firstNode, mark, ruleCode}
+use Rattle.automaton.specs.Program.{testIn}
+use Rattle.automaton.specs.declared.Rule.{Rule}
+use Rattle.compiler.specs.Compiling.{firstNode, mark, askedRule}
 use Rattle.compiler.proofs.Beginnings.{leaf-nothing}
 use Rattle.compiler.proofs.Entries.{says-as, ruleOf, node-line, node-test, level-none, level-some, level-fits}
 use Rattle.compiler.proofs.leaf_entry.Statement.{statement}
@@ -66,8 +67,8 @@ returns-4 c scope K f =
     let is : level ≡ mark (levelOf slot scope) = f .levels-are slot (start .pre .slot) in
     let low : level - 1 ≤ a .t2 .depth = omega (arith, is, level-fits slot scope, f .depth-is) in
     let code : testIn (c .before .rule-of .result) (level - 1) ≡ testOf (ruleOf (a .c .code)) (levelOf slot scope) =
-    ap (λ (x : ℕ). testIn x (level - 1)) (c .before .rule-of .ensures)
-    ∙ (ap (λ (x : ℕ). testIn (ruleCode (a .c .code)) (x - 1)) is ∙ level-some (a .c .code) (levelOf slot scope) (λ e. c .before .before .if3 .left (is ∙ e))) in
+    ap (λ (x : Rule). testIn x (level - 1)) (c .before .rule-of .ensures)
+    ∙ (ap (λ (x : ℕ). testIn (askedRule (a .c .code)) (x - 1)) is ∙ level-some (a .c .code) (levelOf slot scope) (λ e. c .before .before .if3 .left (is ∙ e))) in
     says-as (node-test (a .c .kind) slot (a .t2 .base) scope K (c .before .before .before .before .before .before .before .if1 .left) (c .before .before .before .before .before .if2 .left))
     (c .taking-entry3 .ensures scope K (testOf (ruleOf (a .c .code)) (levelOf slot scope)) f code low)
 
