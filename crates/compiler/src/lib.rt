@@ -345,11 +345,7 @@ fn put(program: &mut [u64; 128], i: usize, x: Entry)
 // ---- a pattern
 
 // The pattern of a task: its positions' entries, and none before them.
-fn compile_at(
-    src: &[u8],
-    task: Task,
-    program: &mut [u64; 128],
-)
+fn compile_at(src: &[u8], task: Task, program: &mut [u64; 128])
     requires { ⌜ Ready (now src) task ⌝ }
     ensures { λ _. ⌜ CompiledAt (now (src .entry)) task (now (program .entry)) (now (program .exit)) ⌝ }
 {
@@ -377,10 +373,7 @@ fn compile_at(
 }
 
 // A pattern that passes its questions: its automaton as a program, the end's position included, and the mask of where runs begin.
-pub fn compile(
-    pattern: &[u8],
-    program: &mut [u64; 128],
-) -> u64
+pub fn compile(pattern: &[u8], program: &mut [u64; 128]) -> u64
     requires { ⌜ Passes (now pattern) ⌝ }
     ensures automaton { λ r. ⌜ CompiledFrom (now (pattern .entry)) (now (program .exit)) r ⌝ }
     ensures small { λ _. ⌜ SmallUpTo (now (pattern .entry)) (now (program .exit)) ⌝ }

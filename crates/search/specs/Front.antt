@@ -8,7 +8,6 @@ use native.Mathlib.Omega.{arith}
 use lib.ListN.{length, getD, take, drop}
 use lib.Seq.{getD-take, getD-drop}
 use Rattle.meaning.specs.Writing.{lineAt}
-use Rattle.automaton.specs.Columns.{Columns}
 use Rattle.request.specs.Layout.{Laid}
 use Rattle.request.specs.declared.Plan.{Plan}
 use Rattle.search.specs.Product.{stacks, state}
@@ -47,18 +46,18 @@ table-at plan g j less = sym (getD-drop (plan .codes) (take (plan .base) g) j 0 
 abbrev pub stateIn : Plan → ℕ → ℕ → ℕ → ℕ
 stateIn plan q k v = (q * (plan .done + 1) + k) * plan .stacks + v
 
-module _ (cols : Columns) (plan : Plan) (area : ℕ) (laid : Laid plan area) (g : List ℕ) where
-  stacks-in : plan .stacks ≡ stacks (settingIn cols plan g)
+module _ (program : List ℕ) (plan : Plan) (area : ℕ) (laid : Laid plan area) (g : List ℕ) where
+  stacks-in : plan .stacks ≡ stacks (settingIn program plan g)
   unfolding settingIn stacks
   stacks-in = laid .stacks-is
 
-  pub state-in : (q k v : ℕ) → stateIn plan q k v ≡ state (settingIn cols plan g) q k v
+  pub state-in : (q k v : ℕ) → stateIn plan q k v ≡ state (settingIn program plan g) q k v
   unfolding settingIn state
   state-in q k v = λ t. (q * add-one (plan .done) t + k) * stacks-in t + v
 
-  pub goal-in : (b : ℕ) → stateIn plan b (plan .done) 0 ≡ goal (settingIn cols plan g) b
+  pub goal-in : (b : ℕ) → stateIn plan b (plan .done) 0 ≡ goal (settingIn program plan g) b
   unfolding settingIn
   goal-in b = state-in b (plan .done) 0
 
-  pub starting-in : (a : ℕ) (K : List ℕ) → map (λ k. stateIn plan a k 0) K ≡ starting (settingIn cols plan g) a K
+  pub starting-in : (a : ℕ) (K : List ℕ) → map (λ k. stateIn plan a k 0) K ≡ starting (settingIn program plan g) a K
   starting-in a K = λ t. map (λ k. state-in a k 0 t) K

@@ -1,10 +1,10 @@
--- The setting that the columns of an automaton and the words loaded into the work area say: what the loops of the search go by.
+-- The setting that a program and the words loaded into the work area say: what the loops of the search go by.
 use mathlib.Core.List.{List, [], _∷_}
 use Prim.Native.Nat.{ℕ, zero, suc, _+_, _-_}
-use lib.ListN.{getD}
+use lib.ListN.{getD, take}
 use Rattle.meaning.specs.Record.{Line}
 use Rattle.meaning.specs.Writing.{noLine}
-use Rattle.automaton.specs.Columns.{Columns, nodeIn}
+use Rattle.automaton.specs.Program.{nodeIn}
 use Rattle.boats.specs.Codes.{telling}
 use Rattle.request.specs.Layout.{fromIn, toIn, kindIn}
 use Rattle.request.specs.declared.Plan.{Plan}
@@ -26,7 +26,7 @@ unfoldable pub linesIn : Plan → List ℕ → ℕ → ℕ → List Line
 linesIn plan g i zero = []
 linesIn plan g i (suc n) = lineIn (wordAt plan g i) ∷ linesIn plan g (suc i) n
 
-unfoldable pub settingIn : Columns → Plan → List ℕ → Setting
+unfoldable pub settingIn : List ℕ → Plan → List ℕ → Setting
 settingIn a plan g =
     record {
       lines = linesIn plan g 0 (plan .lines);
@@ -37,3 +37,7 @@ settingIn a plan g =
       radix = plan .radix;
       deepest = plan .keeps;
     }
+
+-- the same by the words of the whole area, of which those before `base` are the loaded ones
+abbrev pub settingAt : List ℕ → Plan → List ℕ → Setting
+settingAt program plan w = settingIn program plan (take (plan .base) w)

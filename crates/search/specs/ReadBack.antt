@@ -16,7 +16,7 @@ use Rattle.boats.specs.Boats.{word}
 use Rattle.record.specs.Fit.{Fit}
 use Rattle.automaton.specs.Listed.{_∈_}
 use Rattle.automaton.specs.Automaton.{nodes, nodeAt, start}
-use Rattle.automaton.specs.Columns.{Columns, Compiled, members}
+use Rattle.automaton.specs.Program.{Compiled, members}
 use Rattle.boats.specs.Codes.{codes, codes-length}
 use Rattle.request.specs.Layout.{Laid, lineWord, fromIn, toIn, kindIn, loadedOf}
 use Rattle.request.specs.declared.Plan.{Plan}
@@ -61,9 +61,9 @@ pub record Planned (lines : List Line) (places : ℕ) (p : Pattern) (plan : Plan
 -- ---- of a request
 
 -- the positions of the mask, at place a with an empty stack, are the starts, in some order
-pub starts-members : (S : Setting) (p : Pattern) (cols : Columns) (begin : ℕ) → Compiled p cols begin → (a s : ℕ) → (s ∈ starting S a (members begin)) ↔ (s ∈ starts S p a)
+pub starts-members : (S : Setting) (p : Pattern) (program : List ℕ) (begin : ℕ) → Compiled p program begin → (a s : ℕ) → (s ∈ starting S a (members begin)) ↔ (s ∈ starts S p a)
 unfolding starts
-starts-members S p cols begin compiled a s = (over (members begin) (start p) (λ k. compiled .start-is k .0), over (start p) (members begin) (λ k. compiled .start-is k .1))
+starts-members S p program begin compiled a s = (over (members begin) (start p) (λ k. compiled .start-is k .0), over (start p) (members begin) (λ k. compiled .start-is k .1))
   where
     over : (K K′ : List ℕ) → ((k : ℕ) → k ∈ K → k ∈ K′) → s ∈ starting S a K → s ∈ starting S a K′
     over K K′ f m =
@@ -101,8 +101,8 @@ module _ (lines : List Line) (places : ℕ) (p : Pattern) (plan : Plan) (area : 
     module _ (fit : Fit lines places) where
       -- ---- the setting that they say
 
-      module _ (cols : Columns) (begin : ℕ) (compiled : Compiled p cols begin) where
-        pub loaded-same : Same (settingIn cols plan g) (setting lines p) (length lines)
+      module _ (program : List ℕ) (begin : ℕ) (compiled : Compiled p program begin) where
+        pub loaded-same : Same (settingIn program plan g) (setting lines p) (length lines)
         unfolding settingIn setting
         loaded-same = record {
           done = planned .done-is;
@@ -116,8 +116,8 @@ module _ (lines : List Line) (places : ℕ) (p : Pattern) (plan : Plan) (area : 
           code = code-back;
           node = compiled .nodes-are;
           pass = λ c v i hc less.
-              (λ t. passes (settingIn cols plan g) (compiled .nodes-are c hc .test t) v (code-back i less t))
-              ∙ passes-same (settingIn cols plan g) (setting lines p) (planned .radix-is) refl (nodeAt (nodes p []) c .test) v (getD (codes lines) i 0);
+              (λ t. passes (settingIn program plan g) (compiled .nodes-are c hc .test t) v (code-back i less t))
+              ∙ passes-same (settingIn program plan g) (setting lines p) (planned .radix-is) refl (nodeAt (nodes p []) c .test) v (getD (codes lines) i 0);
         }
           where
             to-low : (i : ℕ) → i < length lines → lineAt lines i .to < 1024
@@ -126,7 +126,7 @@ module _ (lines : List Line) (places : ℕ) (p : Pattern) (plan : Plan) (area : 
         -- ---- its states
 
         abbrev In : Setting
-        In = settingIn cols plan g
+        In = settingIn program plan g
 
         -- the valid states, and that steps by the tables keep to them
         abbrev pub Valid : ℕ → Type 0
@@ -149,7 +149,7 @@ module _ (lines : List Line) (places : ℕ) (p : Pattern) (plan : Plan) (area : 
 
         pub valid-starts : (a : ℕ) → a < places → (s : ℕ) → s ∈ starting In a (members begin) → Valid s
         valid-starts a ha s m =
-            starts-ok lines places p a ha s (starts-members (setting lines p) p cols begin compiled a s .0 (subst (s ∈_) (same-starting loaded-same a (members begin)) m))
+            starts-ok lines places p a ha s (starts-members (setting lines p) p program begin compiled a s .0 (subst (s ∈_) (same-starting loaded-same a (members begin)) m))
 
         -- ---- the search, and the walk along a chain
 
@@ -159,7 +159,7 @@ module _ (lines : List Line) (places : ℕ) (p : Pattern) (plan : Plan) (area : 
           loaded-answer ha hb =
               (λ t. solve (size-asked t) (goal In b ∷ []) (preds In) (succs In) (planned .lines-are t) (starting In a (members begin)))
               ∙ (same-solve loaded-same (searchSize lines places p) a b (members begin)
-              ∙ answer-any lines places p (fit .within) a b ha hb _ (starts-members (setting lines p) p cols begin compiled a))
+              ∙ answer-any lines places p (fit .within) a b ha hb _ (starts-members (setting lines p) p program begin compiled a))
 
           pub loaded-check : (c : List ℕ) → (exist (plan .lines) c && memb (goal In b) (moved (succs In) (starting In a (members begin)) c)) ≡ check lines p a b c
           unfolding check
@@ -173,7 +173,7 @@ module _ (lines : List Line) (places : ℕ) (p : Pattern) (plan : Plan) (area : 
               go false e = refl
               go true e =
                   (λ t. memb (same-goal loaded-same b t) (same-moved loaded-same a (members begin) c e t))
-                  ∙ memb-same (goal T b) _ _ (moved-members (succs T) c _ _ (starts-members T p cols begin compiled a) (goal T b))
+                  ∙ memb-same (goal T b) _ _ (moved-members (succs T) c _ _ (starts-members T p program begin compiled a) (goal T b))
 
           -- phase two after a phase one that has ended, as counting loops whose bodies go by the tables
           pub loaded-ended : (expand : ℕ → ℕ → Search → Search) → ((w t : ℕ) (st : Search) → loop (push w) (preds In t) st ≡ expand w t st)

@@ -16,7 +16,7 @@ use Rattle.meaning.specs.Language.{meets}
 use Rattle.automaton.specs.Listed.{_∈_, when}
 use Rattle.automaton.specs.Automaton.{Test, never, always, against}
 use Rattle.automaton.specs.Shape.{deeper}
-use Rattle.automaton.specs.Columns.{Alike}
+use Rattle.automaton.specs.Program.{Alike}
 use Rattle.search.specs.Plain.{memb, nub, filt, flat, count, level, next, first, pick, nearest, chosen, found, look, solve}
 use Rattle.search.specs.Sets.{memb-same, filt-in, count-in}
 use Rattle.search.specs.Digits.{entry, pushOn, popOff}

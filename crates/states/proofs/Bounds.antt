@@ -6,11 +6,10 @@ use Prim.Native.Nat.{ℕ, suc, _+_, _*_, _-_, _^_, _<_, _≤_}
 use native.Mathlib.Nat.{pow-zero, pow-suc, one-mul, pow-le-pow-right, lt-of-lt-of-le, mul-le-mul, mod-le, one-le-pow, le-mul-of-pos-right, mul-comm, mul-assoc, le-trans}
 use native.Mathlib.Omega.{arith}
 use lib.Arith.{digits-lt}
-use lib.Dec.{eqb}
 use lib.ListN.{getD, take}
 use lib.Pow.{pow-add}
 use lib.Seq.{getD-take}
-use Rattle.automaton.specs.Columns.{Columns}
+use Rattle.automaton.specs.Program.{rowAt, depthAt}
 use Rattle.request.specs.Layout.{Laid}
 use Rattle.request.specs.declared.Plan.{Plan}
 use Rattle.search.specs.Loaded.{codeAt, wordAt}
@@ -41,7 +40,7 @@ off-by false d v = omega arith
 
 pub off-le : (s : Spot) (v : ℕ) → off s v ≤ v
 unfolding off
-off-le s v = off-by (eqb (s .push) 1) (s .weight) v
+off-le s v = off-by (s .push) (s .weight) v
 
 -- a word before the search's stretches
 pub front-get : (b : ℕ) (w : List ℕ) (j : ℕ) → j < b → getD (take b w) j 0 ≡ getD w j 0
@@ -118,12 +117,12 @@ module _ {plan : Plan} {area : ℕ} (l : Laid plan area) where
 
 -- ---- a position's numbers
 
-pub spot-sane : {plan : Plan} {a : Columns} {w : List ℕ} → Fit plan a w → (c : ℕ) → c ≤ plan .done → (s : Spot) → s ≡ spotIn a (plan .radix) c → Sane s
+pub spot-sane : {plan : Plan} {a : List ℕ} {w : List ℕ} → Fit plan a w → (c : ℕ) → c ≤ plan .done → (s : Spot) → s ≡ spotIn a (plan .radix) c → Sane s
 unfolding spotIn
 spot-sane {plan} {a} f c h s e =
     subst Sane (sym e)
     (record {
-      some-level = power-pos (f .laid) (getD (a .levels) c 0);
-      some-weight = power-pos (f .laid) (getD (a .depths) c 0);
-      small-weight = power-small (f .laid) (getD (a .depths) c 0) (f .depths-low c h);
+      some-level = power-pos (f .laid) (rowAt a c .level);
+      some-weight = power-pos (f .laid) (depthAt a c);
+      small-weight = power-small (f .laid) (depthAt a c) (f .depths-low c h);
     })

@@ -1,13 +1,18 @@
--- Comparing two boats by their numbers, and what a test takes of it.
-use mathlib.Core.Path.{_≡_, refl}
-use mathlib.Core.Bool.{Bool, true, false, cond}
+-- Comparing two boats by their numbers, and what a rule takes of it.
+use mathlib.Core.Path.{_≡_, refl, sym, ap, _∙_}
+use mathlib.Core.Bool.{Bool, true, false, cond, not}
 use Prim.Native.Nat.{ℕ, _/_, _%_}
 use lib.Dec.{eqb}
-use borrow.Author.Tests.{eqb-true, eq-eqb, ne-eqb}
-use Rattle.meaning.specs.Language.{same-boat, other-boat}
+use borrow.Author.Tests.{eq-eqb, ne-eqb}
+use Rattle.meaning.specs.Language.{Compared, same-boat, other-boat, meets}
+use Rattle.meaning.specs.Pattern.{same, other}
+use Rattle.automaton.specs.declared.Rule.{Rule}
+use Rattle.automaton.specs.declared.Rule.the-variants as Rule
 use Rattle.boats.specs.Codes.{telling}
-use Rattle.states.specs.Spots.{metBy, okay}
+use Rattle.states.specs.Spots.{toldShown, sameShown, metBy, okay}
 use Rattle.states.specs.declared.Spot.{Spot}
+use Rattle.states.specs.declared.Told.{Told}
+use Rattle.states.specs.declared.Told.the-variants as Told
 
 module _ (x y : ℕ) where
   pub telling-same : x ≡ y → telling x y ≡ same-boat
@@ -16,34 +21,48 @@ module _ (x y : ℕ) where
   pub telling-other : (x ≡ y → ⊥) → telling x y ≡ other-boat
   telling-other n = rw (ne-eqb x y n)
 
-pub met-same : (t : ℕ) → eqb t 2 ≡ metBy t same-boat
-unfolding metBy
-met-same t = go (eqb t 2) (eqb t 3)
-  where
-    go : (a b : Bool) → a ≡ cond a true (cond b false false)
-    go true b = refl
-    go false true = refl
-    go false false = refl
+-- ---- what same and other take
 
-pub met-other : (t : ℕ) → eqb t 3 ≡ metBy t other-boat
-unfolding metBy
-met-other t = go (eqb t 2) refl
-  where
-    go : (a : Bool) → eqb t 2 ≡ a → eqb t 3 ≡ cond a false (cond (eqb t 3) true false)
-    go true e = let two : t ≡ 2 = eqb-true _ _ e in rw two
-    go false e = same (eqb t 3)
-      where
-        same : (b : Bool) → b ≡ cond b true false
-        same true = refl
-        same false = refl
+pub same-met : (o : Told) → sameShown o ≡ metBy Rule.Same (toldShown o)
+same-met Told.SameBoat = refl
+same-met Told.OtherBoat = refl
 
--- ---- the test of a position
+pub other-met : (o : Told) → not (sameShown o) ≡ metBy Rule.Other (toldShown o)
+other-met Told.SameBoat = refl
+other-met Told.OtherBoat = refl
+
+-- ---- the rule of a position
 
 module _ (R : ℕ) (s : Spot) (x v : ℕ) where
-  pub okay-always : s .test ≡ 1 → true ≡ okay R s x v
-  unfolding okay
-  okay-always e = rw (eq-eqb _ _ e)
+  -- the boat number that the rule compares with
+  abbrev kept : ℕ
+  kept = v / s .level % R
 
-  pub okay-tested : (s .test ≡ 1 → ⊥) → metBy (s .test) (telling x (v / s .level % R)) ≡ okay R s x v
+  pub okay-any : s .rule ≡ Rule.Always → okay R s x v ≡ true
   unfolding okay
-  okay-tested n = rw (ne-eqb _ _ n)
+  okay-any e = rw e
+
+  pub okay-never : s .rule ≡ Rule.Never → okay R s x v ≡ false
+  unfolding okay
+  okay-never e = rw e
+
+  pub okay-same : s .rule ≡ Rule.Same → okay R s x v ≡ eqb x kept
+  unfolding okay
+  okay-same e = rw e (go (eqb x kept))
+    where
+      go : (b : Bool) → meets same (cond b same-boat other-boat) ≡ b
+      go true = refl
+      go false = refl
+
+  pub okay-other : s .rule ≡ Rule.Other → okay R s x v ≡ not (eqb x kept)
+  unfolding okay
+  okay-other e = rw e (go (eqb x kept))
+    where
+      go : (b : Bool) → meets other (cond b same-boat other-boat) ≡ not b
+      go true = refl
+      go false = refl
+
+  -- by what the comparison told
+  pub okay-told : (o : Compared) → o ≡ telling x kept → metBy (s .rule) o ≡ okay R s x v
+  unfolding okay
+  okay-told o e = ap (metBy (s .rule)) e

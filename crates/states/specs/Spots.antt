@@ -1,15 +1,16 @@
 -- The code's steps by numbers: a position, a state that is expanded and a line as the code holds them, and what it does with them.
--- `proofs/Bridge` shows that loops of these are the loops of `Moves` over the setting that the columns and the loaded words say.
+-- `proofs/Bridge` shows that loops of these are the loops of `Moves` over the setting that the program and the loaded words say.
 use mathlib.Core.Path.{_≡_}
-use mathlib.Core.Bool.{Bool, true, false, cond, _&&_}
+use mathlib.Core.Bool.{Bool, true, false, cond, not, _&&_}
 use mathlib.Core.List.{List}
 use Prim.Native.Nat.{ℕ, _+_, _*_, _-_, _^_, _/_, _%_, _≤_, _<_}
 use lib.Dec.{eqb}
 use lib.ListN.{length, getD, take}
 use Rattle.meaning.specs.Pattern.{same, other}
 use Rattle.meaning.specs.Language.{Compared, same-boat, other-boat, meets}
-use Rattle.automaton.specs.Columns.{Columns, bitOf}
-use Rattle.automaton.specs.Shape.{deeper}
+use Rattle.automaton.specs.Program.{bitOf, rowAt, followAt, depthAt, leavesAt}
+use Rattle.automaton.specs.declared.Rule.{Rule}
+use Rattle.automaton.specs.declared.Rule.the-variants as Rule
 use Rattle.boats.specs.Codes.{telling}
 use Rattle.request.specs.Layout.{Laid, fromIn, toIn, kindIn}
 use Rattle.request.specs.declared.Plan.{Plan}
@@ -19,6 +20,8 @@ use Rattle.search.specs.Front.{stateIn}
 use Rattle.search.specs.Loaded.{codeAt, wordAt}
 use Rattle.states.specs.declared.Spot.{Spot}
 use Rattle.states.specs.declared.Target.{Target}
+use Rattle.states.specs.declared.Takes.{Takes}
+use Rattle.states.specs.declared.Takes.the-variants as Takes
 use Rattle.states.specs.declared.Told.{Told}
 use Rattle.states.specs.declared.Told.the-variants as Told
 
@@ -32,16 +35,15 @@ front plan w = take (plan .base) w
 abbrev pub Starts : Plan → List ℕ → Type 0
 Starts plan g = (i : ℕ) → i < plan .lines → fromIn (wordAt plan g i) < plan .places
 
--- the tables stand in the area, lines go between the places, boat numbers are below the radix, kinds are kinds, and no stack is deeper than the keeps
-pub record Fit (plan : Plan) (a : Columns) (w : List ℕ) : Type 0 where
+-- the tables stand in the area, lines go between the places, boat numbers are below the radix, and no stack is deeper than the keeps
+pub record Fit (plan : Plan) (a : List ℕ) (w : List ℕ) : Type 0 where
   pub laid : Laid plan (length w)
   pub starts : Starts plan (front plan w)
   pub ends : (i : ℕ) → i < plan .lines → toIn (wordAt plan (front plan w) i) < plan .places
   pub codes-low : (i : ℕ) → i < plan .lines → codeAt plan (front plan w) i < plan .radix
-  pub kinds-low : (c : ℕ) → c ≤ plan .done → getD (a .kinds) c 0 ≤ 15
-  pub levels-low : (c : ℕ) → c ≤ plan .done → getD (a .levels) c 0 ≤ plan .keeps
-  pub depths-low : (c : ℕ) → c ≤ plan .done → getD (a .depths) c 0 ≤ plan .keeps
-  pub leaves-low : (c : ℕ) → c ≤ plan .done → deeper (eqb (getD (a .pushes) c 0) 1) (getD (a .depths) c 0) ≤ plan .keeps
+  pub levels-low : (c : ℕ) → c ≤ plan .done → rowAt a c .level ≤ plan .keeps
+  pub depths-low : (c : ℕ) → c ≤ plan .done → depthAt a c ≤ plan .keeps
+  pub leaves-low : (c : ℕ) → c ≤ plan .done → leavesAt a c ≤ plan .keeps
 
 -- ---- the comparison of two boats
 
@@ -49,21 +51,23 @@ abbrev pub toldShown : Told → Compared
 toldShown Told.SameBoat = same-boat
 toldShown Told.OtherBoat = other-boat
 
--- does a test by its number (2 same, 3 other) take it?
-unfoldable pub metBy : ℕ → Compared → Bool
-metBy t o = cond (eqb t 2) (meets same o) (cond (eqb t 3) (meets other o) false)
+abbrev pub sameShown : Told → Bool
+sameShown Told.SameBoat = true
+sameShown Told.OtherBoat = false
+
+-- does a rule take it?
+abbrev pub metBy : Rule → Compared → Bool
+metBy Rule.Never o = false
+metBy Rule.Always o = true
+metBy Rule.Same o = meets same o
+metBy Rule.Other o = meets other o
 
 -- ---- a position by its numbers
 
-unfoldable pub spotIn : Columns → ℕ → ℕ → Spot
+unfoldable pub spotIn : List ℕ → ℕ → ℕ → Spot
 spotIn a R c =
-    record {
-      kind = getD (a .kinds) c 0;
-      test = getD (a .tests) c 0;
-      push = getD (a .pushes) c 0;
-      level = R ^ getD (a .levels) c 0;
-      weight = R ^ getD (a .depths) c 0;
-    }
+    let x = rowAt a c in
+    record { kind = x .kind; rule = x .rule; push = x .push; level = R ^ x .level; weight = R ^ x .depth }
 
 -- its powers are powers
 pub record Sane (s : Spot) : Type 0 where
@@ -81,21 +85,33 @@ onBy true d u x = x * d + u
 onBy false d u x = u
 
 unfoldable pub off : Spot → ℕ → ℕ
-off s v = offBy (eqb (s .push) 1) (s .weight) v
+off s v = offBy (s .push) (s .weight) v
 
 unfoldable pub on : Spot → ℕ → ℕ → ℕ
-on s u x = onBy (eqb (s .push) 1) (s .weight) u x
+on s u x = onBy (s .push) (s .weight) u x
 
--- the test of the boat number x against the stack v, of boat numbers below R
+-- does the boat number x pass, against the stack v of boat numbers below R?
 unfoldable pub okay : ℕ → Spot → ℕ → ℕ → Bool
-okay R s x v = cond (eqb (s .test) 1) true (metBy (s .test) (telling x (v / s .level % R)))
+okay R s x v = metBy (s .rule) (telling x (v / s .level % R))
+
+-- which boat numbers pass
+abbrev pub TakenBy : ℕ → Spot → ℕ → Takes → Type 0
+TakenBy R s v Takes.Any = (x : ℕ) → okay R s x v ≡ true
+TakenBy R s v (Takes.Only y) = (y < R) × ((x : ℕ) → okay R s x v ≡ eqb x y)
+TakenBy R s v (Takes.AllBut y) = (y < R) × ((x : ℕ) → okay R s x v ≡ not (eqb x y))
+TakenBy R s v Takes.Nobody = (x : ℕ) → okay R s x v ≡ false
+TakenBy R s v Takes.Ask = Unit {0}
+
+-- only the boat at the rule's level does
+pub record OnlyKept (s : Spot) : Type 0 where
+  pub kept : (R x v : ℕ) → okay R s x v ≡ eqb x (v / s .level % R)
 
 -- ---- a state that is expanded, by its numbers
 
 unfoldable pub targetIn : List ℕ → Plan → ℕ → Target
-targetIn depths plan t =
+targetIn a plan t =
     let k = t / plan .stacks % (plan .done + 1) in
-    let e = getD depths k 0 in
+    let e = depthAt a k in
     record {
       place = t / plan .stacks / (plan .done + 1);
       position = k;
@@ -121,7 +137,7 @@ pub record Lowest (mask k : ℕ) : Type 0 where
 
 -- the position k, if the mask has it, at the place `to` with the stack v cut to its depth
 unfoldable pub nextTurn : Plan → List ℕ → ℕ → (ℕ → Search → Search) → ℕ → ℕ → ℕ → Search → Search
-nextTurn plan depths mask seen to v k st = cond (eqb (bitOf mask k) 1) (seen (stateIn plan to k (v % plan .radix ^ getD depths k 0)) st) st
+nextTurn plan a mask seen to v k st = cond (eqb (bitOf mask k) 1) (seen (stateIn plan to k (v % plan .radix ^ depthAt a k)) st) st
 
 -- ---- backward
 
@@ -145,9 +161,8 @@ abbrev pub Stacks : ℕ → ℕ → ℕ → ℕ → Type 0
 Stacks count weight w stacks = (x : ℕ) → x < count → x * weight + w < stacks
 
 -- the position c, if the target's position may come after it: each line, for the stacks that it can leave
-unfoldable pub spotTurn : Columns → Plan → List ℕ → Target → ℕ → ℕ → Search → Search
+unfoldable pub spotTurn : List ℕ → Plan → List ℕ → Target → ℕ → ℕ → Search → Search
 spotTurn a plan g t d c st =
-    let deep = deeper (eqb (getD (a .pushes) c 0) 1) (getD (a .depths) c 0) in
-    cond (eqb (bitOf (getD (a .follow) c 0) (t .position)) 1)
-    (turns (lineTurn plan g (spotIn a (plan .radix) c) t d c (plan .radix ^ (deep - t .depth))) 0 (plan .lines) st)
+    cond (eqb (bitOf (followAt a c) (t .position)) 1)
+    (turns (lineTurn plan g (spotIn a (plan .radix) c) t d c (plan .radix ^ (leavesAt a c - t .depth))) 0 (plan .lines) st)
     st

@@ -5,11 +5,12 @@ ghost use mathlib.Core.Bool.{true};
 ghost use Prim.Native.Nat.{ℕ, suc, _+_, _*_, _-_, _^_, _/_, _%_, _≤_, _<_};
 ghost use lib.Dec.{eqb};
 ghost use lib.ListN.{length, getD, set, replicate};
-ghost use Rattle.automaton.specs.Columns.{columns};
+ghost use Rattle.automaton.specs.Program.{rowAt, depthAt};
 ghost use Rattle.boats.specs.Codes.{telling};
 ghost use Rattle.search.specs.Table.{push};
 ghost use Rattle.states.specs.Area.{stretch, patch, found, Ready, Step};
-ghost use Rattle.states.specs.Spots.{toldShown, metBy, spotIn, off, on, okay, Lowest, targetIn};
+ghost use Rattle.states.specs.Spots.{toldShown, sameShown, metBy, spotIn, off, on, okay, TakenBy, OnlyKept, Lowest, targetIn};
+use automaton::Rule;
 use request::Plan;
 
 // ---- the work area
@@ -108,6 +109,17 @@ pub enum Told {
     OtherBoat,
 }
 
+impl Told {
+    fn same(self) -> bool
+        ensures { λ r. ⌜ r ≡ sameShown self ⌝ }
+    {
+        match self {
+            Told::SameBoat => true,
+            Told::OtherBoat => false,
+        }
+    }
+}
+
 // Two boats compared by their numbers. Whoever compares boats does it here.
 pub fn compared(a: usize, b: usize) -> Told
     ensures { λ r. ⌜ toldShown r ≡ telling a b ⌝ }
@@ -119,23 +131,25 @@ pub fn compared(a: usize, b: usize) -> Told
     }
 }
 
-// Does the test, 2 for same and 3 for other, take what the comparison told? No other test takes anything here.
-pub fn meets(test: u8, told: Told) -> bool
-    ensures { λ r. ⌜ r ≡ metBy test (toldShown told) ⌝ }
+// Does the rule take what the comparison told?
+pub fn meets(rule: Rule, told: Told) -> bool
+    ensures { λ r. ⌜ r ≡ metBy rule (toldShown told) ⌝ }
 {
-    match told {
-        Told::SameBoat => test == 2,
-        Told::OtherBoat => test == 3,
+    match rule {
+        Rule::Never => false,
+        Rule::Always => true,
+        Rule::Same => told.same(),
+        Rule::Other => !told.same(),
     }
 }
 
 // ---- a position by its numbers
 
-// Its kind and test, 1 where it pushes, radix^level of the level that the test reads, and radix^depth.
+// Its kind and rule, whether it pushes, radix^level of the level that the rule reads, and radix^depth.
 pub struct Spot {
     pub kind: usize,
-    pub test: u8,
-    pub push: u8,
+    pub rule: Rule,
+    pub push: bool,
     pub level: usize,
     pub weight: usize,
 }
@@ -179,25 +193,19 @@ pub fn power(radix: usize, e: usize) -> usize
 }
 
 // Position `c`.
-pub fn spot_at(
-    kinds: &[u8; 64],
-    tests: &[u8; 64],
-    levels: &[u8; 64],
-    depths: &[u8; 64],
-    pushes: &[u8; 64],
-    follow: &[u64; 64],
-    radix: usize,
-    c: usize,
-) -> Spot
-    requires { ⌜ (c < 64) × (0 < radix) × (radix ^ getD (now levels) c 0 ≤ 1048576) × (radix ^ getD (now depths) c 0 ≤ 1048576) ⌝ }
-    ensures { λ r. ⌜ r ≡ spotIn (columns (now (kinds .entry)) (now (tests .entry)) (now (levels .entry)) (now (depths .entry)) (now (pushes .entry)) (now (follow .entry))) radix c ⌝ }
+pub fn spot_at(program: &[u64; 128], radix: usize, c: usize) -> Spot
+    requires { ⌜ (c < 64) × (0 < radix) ⌝ }
+    requires { ⌜ (radix ^ rowAt (now program) c .level ≤ 1048576) × (radix ^ depthAt (now program) c ≤ 1048576) ⌝ }
+    ensures { λ r. ⌜ r ≡ spotIn (now (program .entry)) radix c ⌝ }
 {
-    let level = power(radix, wide(levels[c]));
-    let weight = power(radix, wide(depths[c]));
+    let row = automaton::row_at(program, c);
+    let level = power(radix, wide(row.level));
+    let weight = power(radix, wide(row.depth));
+    let rule = row.rule;
     Spot {
-        kind: wide(kinds[c]),
-        test: tests[c],
-        push: pushes[c],
+        kind: wide(row.kind),
+        rule,
+        push: row.push,
         level,
         weight,
     }
@@ -208,7 +216,7 @@ pub fn take_off(spot: Spot, v: usize) -> usize
     requires { ⌜ 0 < spot .weight ⌝ }
     ensures { λ r. ⌜ r ≡ off spot v ⌝ }
 {
-    if spot.push == 1 { v % spot.weight } else { v }
+    if spot.push { v % spot.weight } else { v }
 }
 
 // The stack after the position, of the stack before it and the line's boat number.
@@ -216,7 +224,7 @@ pub fn put_on(spot: Spot, u: usize, code: u32) -> usize
     requires { ⌜ (spot .weight ≤ 1048576) × (u < 4294967296) ⌝ }
     ensures { λ r. ⌜ r ≡ on spot u code ⌝ }
 {
-    if spot.push == 1 {
+    if spot.push {
         code as usize * spot.weight + u
     } else {
         u
@@ -256,18 +264,53 @@ pub fn entry_at(stack: usize, level: usize, radix: usize) -> usize
     cut(above(stack, level), radix)
 }
 
-// The test of the boat number `code` against the stack before the position.
+// Does the boat number `code` pass the rule, against the stack before the position?
 pub fn passes(radix: usize, spot: Spot, code: u32, v: usize) -> bool
     requires { ⌜ (0 < radix) × (0 < spot .level) ⌝ }
     ensures { λ r. ⌜ r ≡ okay radix spot code v ⌝ }
 {
-    if spot.test == 1 {
+    let rule = spot.rule;
+    if let Rule::Always = rule {
         return true;
     }
     meets(
-        spot.test,
+        rule,
         compared(code as usize, entry_at(v, spot.level, radix)),
     )
+}
+
+// Which boats pass, by their numbers, once the boat that the rule compares with is known. `Ask` says nothing: each is to be asked about.
+pub enum Takes {
+    Any,
+    Only(usize),
+    AllBut(usize),
+    Nobody,
+    Ask,
+}
+
+// Those that pass against the stack before the position.
+pub fn taken_by(radix: usize, spot: Spot, stack: usize) -> Takes
+    requires { ⌜ (0 < radix) × (0 < spot .level) ⌝ }
+    ensures { λ r. ⌜ TakenBy radix spot stack r ⌝ }
+{
+    let rule = spot.rule;
+    match rule {
+        Rule::Never => Takes::Nobody,
+        Rule::Always => Takes::Any,
+        Rule::Same => Takes::Only(entry_at(stack, spot.level, radix)),
+        Rule::Other => Takes::AllBut(entry_at(stack, spot.level, radix)),
+    }
+}
+
+// Whatever the stack, does only the boat pass that stands at the rule's level?
+pub fn wants_kept(spot: Spot) -> bool
+    ensures { λ r. ⌜ (r ≡ true → OnlyKept spot) ⌝ }
+{
+    let rule = spot.rule;
+    if let Rule::Same = rule {
+        return true;
+    }
+    false
 }
 
 // The state at a place and a position with a stack.
@@ -335,12 +378,12 @@ pub struct Target {
 }
 
 // The state `t` by its numbers.
-pub fn target_of(depths: &[u8; 64], plan: Plan, t: usize) -> Target
-    requires { ⌜ (0 < plan .stacks) × (0 < plan .radix) × (plan .done ≤ 63) × ((k : ℕ) → k ≤ plan .done → plan .radix ^ getD (now depths) k 0 ≤ 1048576) ⌝ }
-    ensures { λ r. ⌜ r ≡ targetIn (now (depths .entry)) plan t ⌝ }
+pub fn target_of(program: &[u64; 128], plan: Plan, t: usize) -> Target
+    requires { ⌜ (0 < plan .stacks) × (0 < plan .radix) × (plan .done ≤ 63) × ((k : ℕ) → k ≤ plan .done → plan .radix ^ depthAt (now program) k ≤ 1048576) ⌝ }
+    ensures { λ r. ⌜ r ≡ targetIn (now (program .entry)) plan t ⌝ }
 {
     let position = t / plan.stacks % (plan.done + 1);
-    let depth = wide(depths[position]);
+    let depth = automaton::depth_at(program, position);
     let weight = power(plan.radix, depth);
     let stack = cut(t % plan.stacks, weight);
     Target {

@@ -1,14 +1,17 @@
--- `states::passes` meets its contract: with no test, or by the comparison of the two numbers. Assumes nothing.
-use mathlib.Core.Path.{ap, _∙_}
+-- `states::passes` meets its contract: everybody passes, or the comparison of the two numbers says it. Assumes nothing.
+use mathlib.Core.Path.{sym, ap, _∙_}
 use Rattle.boats.specs.Codes.{telling}
 use Rattle.states.specs.Spots.{metBy}
-use Rattle.states.proofs.Comparing.{okay-always, okay-tested}
+use Rattle.states.proofs.Comparing.{okay-any, okay-told}
 use borrow.Author.Needs.{needs}
 use Rattle.states.proofs.passes.Statement.{statement}
 use Rattle.states.proofs.passes.Tie as tie
 
+enum-told : tie.Need-enum-told
+enum-told c = search needs
+
 returns : tie.Need-returns
-returns c = okay-always _ _ _ _ (c .if1 .taken)
+returns c = sym (okay-any _ _ _ _ (c .enum-told .given .1))
 
 entry-at-requires : tie.Need-entry-at-requires
 entry-at-requires c κs = search needs
@@ -20,11 +23,9 @@ meets-requires : tie.Need-meets-requires
 meets-requires c κs = search needs
 
 returns-2 : tie.Need-returns-2
-returns-2 c =
-    let told = c .before .compared .ensures ∙ ap (telling _) (c .before .before .entry-at .ensures .0) in
-    c .meets .ensures ∙ (ap (metBy _) told ∙ okay-tested _ _ _ _ (c .before .before .before .if1 .left))
+returns-2 c = c .meets .ensures ∙ okay-told _ _ _ _ _ (c .before .compared .ensures ∙ ap (telling _) (c .before .before .entry-at .ensures .0))
 
 pub passes-spec : {M : Type 1} → statement M
 passes-spec =
     tie.close
-    (tie.spec returns entry-at-requires compared-requires meets-requires returns-2)
+    (tie.spec enum-told returns entry-at-requires compared-requires meets-requires returns-2)

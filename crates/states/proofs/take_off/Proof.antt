@@ -1,5 +1,4 @@
 -- `states::take_off` meets its contract, with and without a push. Assumes nothing.
-use borrow.Author.Tests.{eq-eqb, ne-eqb}
 use Rattle.states.specs.Spots.{off}
 use borrow.Author.Needs.{needs}
 use Rattle.states.proofs.take_off.Statement.{statement}
@@ -10,11 +9,11 @@ rem-result c = search needs
 
 returns : tie.Need-returns
 unfolding off
-returns c = rw (eq-eqb _ _ (c .before .if1 .taken))
+returns c = rw (c .before .if1 .taken)
 
 returns-2 : tie.Need-returns-2
 unfolding off
-returns-2 c = rw (ne-eqb _ _ (c .if1 .left))
+returns-2 c = rw (c .if1 .left)
 
 pub take-off-spec : {M : Type 1} → statement M
 take-off-spec = tie.close (tie.spec rem-result returns returns-2)
