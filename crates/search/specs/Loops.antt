@@ -64,6 +64,13 @@ module _ {A : Type 0} where
   loop-same f g h [] a = refl
   loop-same f g h (x ∷ xs) a = loop-same f g h xs (f x a) ∙ ap (loop g xs) (h x a)
 
+  -- at the numbers that the loop meets
+  pub turns-within : (f g : ℕ → A → A) (i n : ℕ) → ((x : ℕ) → i ≤ x → x < i + n → (b : A) → f x b ≡ g x b) → (a : A) → turns f i n a ≡ turns g i n a
+  unfolding turns
+  turns-within f g i zero h a = refl
+  turns-within f g i (suc n) h a =
+      turns-within f g (suc i) n (λ x l m. h x (omega (arith, l)) (omega (arith, m))) (f i a) ∙ ap (turns g (suc i) n) (h i (omega arith) (omega arith) a)
+
   pub turns-same : (f g : ℕ → A → A) → ((x : ℕ) (b : A) → f x b ≡ g x b) → (i n : ℕ) (a : A) → turns f i n a ≡ turns g i n a
   unfolding turns
   turns-same f g h i zero a = refl

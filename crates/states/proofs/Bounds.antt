@@ -2,18 +2,18 @@
 use mathlib.Core.Path.{_≡_, refl, sym, ap, _∙_, subst}
 use mathlib.Core.Bool.{Bool, true, false}
 use mathlib.Core.List.{List}
-use Prim.Native.Nat.{ℕ, suc, _+_, _*_, _-_, _^_, _<_, _≤_}
-use native.Mathlib.Nat.{pow-zero, pow-suc, one-mul, pow-le-pow-right, lt-of-lt-of-le, mul-le-mul, mod-le, one-le-pow, le-mul-of-pos-right, mul-comm, mul-assoc, le-trans}
+use Prim.Native.Nat.{ℕ, suc, _+_, _*_, _-_, _^_, _/_, _%_, _<_, _≤_}
+use native.Mathlib.Nat.{pow-zero, pow-suc, one-mul, pow-le-pow-right, lt-of-lt-of-le, mul-le-mul, mod-le, mod-lt, div-lt-iff-lt-mul, one-le-pow, le-mul-of-pos-right, mul-comm, mul-assoc, le-trans}
 use native.Mathlib.Omega.{arith}
 use lib.Arith.{digits-lt}
-use lib.ListN.{getD, take}
+use lib.ListN.{length, getD, take}
 use lib.Pow.{pow-add}
 use lib.Seq.{getD-take}
 use Rattle.automaton.specs.Program.{rowAt, depthAt}
-use Rattle.request.specs.Layout.{Laid}
+use Rattle.request.specs.Layout.{Laid, toIn}
 use Rattle.request.specs.declared.Plan.{Plan}
 use Rattle.search.specs.Loaded.{codeAt, wordAt}
-use Rattle.states.specs.Spots.{front, Fit, spotIn, Sane, off, offBy, Aimed, Stacks}
+use Rattle.states.specs.Spots.{front, Starts, Fit, spotIn, Sane, off, offBy, targetIn, Aimed, Stacks}
 use Rattle.states.specs.declared.Spot.{Spot}
 use Rattle.states.specs.declared.Target.{Target}
 
@@ -126,3 +126,35 @@ spot-sane {plan} {a} f c h s e =
       some-weight = power-pos (f .laid) (depthAt a c);
       small-weight = power-small (f .laid) (depthAt a c) (f .depths-low c h);
     })
+
+-- ---- what the loops go by
+
+-- the same words before the search's stretches
+pub fit-same : {plan : Plan} {a : List ℕ} {w v : List ℕ} → length v ≡ length w → front plan v ≡ front plan w → Fit plan a w → Fit plan a v
+fit-same {plan} l e f =
+    record {
+      laid = subst (Laid plan) (sym l) (f .laid);
+      starts = subst (Starts plan) (sym e) (f .starts);
+      ends = subst (λ g. (i : ℕ) → i < plan .lines → toIn (wordAt plan g i) < plan .places) (sym e) (f .ends);
+      codes-low = subst (λ g. (i : ℕ) → i < plan .lines → codeAt plan g i < plan .radix) (sym e) (f .codes-low);
+      levels-low = f .levels-low;
+      depths-low = f .depths-low;
+      leaves-low = f .leaves-low;
+    }
+
+-- a state's place is one of the places
+pub place-at : {plan : Plan} {area : ℕ} → Laid plan area → (t : ℕ) → t < plan .size → t / plan .stacks / (plan .done + 1) < plan .places
+place-at {plan} laid t less =
+    let some : 0 < plan .done + 1 = omega arith in
+    let both : t / plan .stacks < plan .places * (plan .done + 1) = div-lt-iff-lt-mul (stacks-pos laid) .1 (subst (t <_) (laid .size-is) less) in
+    div-lt-iff-lt-mul some .1 both
+
+-- a state that is expanded is in range
+pub aimed : {plan : Plan} {a : List ℕ} {w : List ℕ} → Fit plan a w → (t : ℕ) → t < plan .size → (x : Target) → x ≡ targetIn a plan t → Aimed plan x
+unfolding targetIn
+aimed {plan} {a} f t less x e =
+    let k = t / plan .stacks % (plan .done + 1) in
+    let low : k ≤ plan .done = omega (arith, mod-lt (t / plan .stacks) {m = plan .done + 1} (omega arith)) in
+    let d = depthAt a k in
+    subst (Aimed plan) (sym e)
+    (record { place-low = place-at (f .laid) t less; position-low = low; depth-low = f .depths-low k low; weight-is = refl; stack-low = mod-lt (t % plan .stacks) (power-pos (f .laid) d) })

@@ -4,3 +4,4 @@ pub mod Bounds
 pub mod Comparing
 pub mod Standing
 pub mod Masks
+pub mod Bridge

@@ -1,0 +1,116 @@
+// Forward by one line from one state: the states to which it leads are visited. Marks and frontier are phase two's pair of stretches, after
+// the distances. The checker and phase two of the finder go by this.
+ghost use mathlib.Core.Path.{_≡_};
+ghost use Prim.Native.Nat.{ℕ, suc, _+_, _*_, _^_, _/_, _%_, _≤_, _<_};
+ghost use lib.ListN.{length};
+ghost use Rattle.automaton.specs.Program.{depthAt};
+ghost use Rattle.request.specs.Layout.{Laid};
+ghost use Rattle.search.specs.Front.{stateIn};
+ghost use Rattle.search.specs.Loaded.{settingAt};
+ghost use Rattle.search.specs.Loops.{turns};
+ghost use Rattle.search.specs.Moves.{onward};
+ghost use Rattle.states.specs.Pairs.{ReadyForth, StepForth, seen};
+ghost use Rattle.states.specs.Spots.{Fit, nextTurn};
+use request::Plan;
+
+// The state `t` is visited: it comes into the frontier if its distance's word is `want`; 0 wants every state.
+pub fn visit_state(work: &mut [u32], plan: Plan, want: u32, t: usize, tail: usize) -> usize
+    requires { ⌜ ReadyForth plan tail (now work) ⌝ }
+    requires { ⌜ t < plan .size ⌝ }
+    ensures { λ r. ⌜ StepForth plan (seen plan (now (work .entry)) want t) tail (now (work .entry)) r (now (work .exit)) ⌝ }
+{
+    let marks = plan.base + plan.size;
+    if want == 0 {
+        return states::push_if_new(work, marks, plan.size, 1, t, tail);
+    }
+    if states::word(work, plan.base + t) == want {
+        return states::push_if_new(work, marks, plan.size, 1, t, tail);
+    }
+    tail
+}
+
+// The position `k`, at the place `to` with the stack `v` cut to its depth.
+pub fn one_next(
+    work: &mut [u32],
+    plan: Plan,
+    program: &[u64; 128],
+    want: u32,
+    to: usize,
+    v: usize,
+    k: usize,
+    tail: usize,
+) -> usize
+    requires { ⌜ ReadyForth plan tail (now work) ⌝ }
+    requires { ⌜ Laid plan (length (now work)) ⌝ }
+    requires { ⌜ (to < plan .places) × (k ≤ plan .done) × (depthAt (now program) k ≤ plan .keeps) ⌝ }
+    ensures { λ r. ⌜ StepForth plan (seen plan (now (work .entry)) want (stateIn plan to k (v % plan .radix ^ depthAt (now (program .entry)) k))) tail (now (work .entry)) r (now (work .exit)) ⌝ }
+{
+    let weight = states::power(plan.radix, automaton::depth_at(program, k));
+    let t = states::state_at(plan, to, k, states::cut(v, weight));
+    visit_state(work, plan, want, t, tail)
+}
+
+// Each position that may come after, from the mask's lowest to its last. `rest` has those from `k` on.
+pub fn over_next(
+    work: &mut [u32],
+    plan: Plan,
+    program: &[u64; 128],
+    mask: u64,
+    want: u32,
+    to: usize,
+    v: usize,
+    tail: usize,
+) -> usize
+    requires { ⌜ ReadyForth plan tail (now work) ⌝ }
+    requires { ⌜ Laid plan (length (now work)) ⌝ }
+    requires { ⌜ (to < plan .places) × ((k : ℕ) → k ≤ plan .done → depthAt (now program) k ≤ plan .keeps) ⌝ }
+    ensures { λ r. ⌜ StepForth plan (turns (nextTurn plan (now (program .entry)) mask (seen plan (now (work .entry)) want) to v) 0 (plan .done + 1)) tail (now (work .entry)) r (now (work .exit)) ⌝ }
+{
+    let mut t = tail;
+    let mut rest = mask;
+    let mut k = 0;
+    while rest != 0 {
+        let skipped = states::lowest(rest);
+        let next = k + skipped;
+        if plan.done < next {
+            return t;
+        }
+        t = one_next(work, plan, program, want, to, v, next, t);
+        rest = rest >> skipped >> 1;
+        k = next + 1;
+    }
+    t
+}
+
+// Line `i` from the state `s`: each state to which it leads is visited.
+pub fn from_state(
+    work: &mut [u32],
+    plan: Plan,
+    program: &[u64; 128],
+    want: u32,
+    i: usize,
+    s: usize,
+    tail: usize,
+) -> usize
+    requires { ⌜ ReadyForth plan tail (now work) ⌝ }
+    requires { ⌜ Fit plan (now program) (now work) ⌝ }
+    requires { ⌜ (i < plan .lines) × (s < plan .size) ⌝ }
+    ensures { λ r. ⌜ StepForth plan (onward (settingAt (now (program .entry)) plan (now (work .entry))) (seen plan (now (work .entry)) want) i s) tail (now (work .entry)) r (now (work .exit)) ⌝ }
+{
+    let line = states::word(work, plan.words + i) as usize;
+    let from = line / 16384;
+    if states::stands_at(plan, s, from) {
+        let here = states::standing_at(plan, s, from);
+        let at = here.position;
+        if line % 16 == automaton::kind_at(program, at) {
+            let spot = states::spot_at(program, plan.radix, at);
+            let code = states::word(work, plan.codes + i);
+            if states::passes(plan.radix, spot, code, here.stack) {
+                let u = states::put_on(spot, here.stack, code);
+                let follow = automaton::follow_at(program, at);
+                return over_next(work, plan, program, follow, want, line / 16 % 1024, u, tail);
+            }
+        }
+    }
+    tail
+}
