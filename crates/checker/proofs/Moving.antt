@@ -12,7 +12,7 @@ use lib.ListN.{length, getD, set, take, drop, replicate, length-set, length-drop
 use lib.Seq.{take-set-le, drop-set-lt, getD-drop, getD-take, take-suc, take-take, drop-cons, drop-length}
 use borrow.Author.Tests.{ltb-true}
 use Rattle.automaton.specs.Listed.{_∈_}
-use Rattle.automaton.specs.Columns.{Columns, members}
+use Rattle.automaton.specs.Program.{members}
 use Rattle.request.specs.declared.Plan.{Plan}
 use Rattle.search.specs.Plain.{flat, memb}
 use Rattle.search.specs.Sets.{in-memb}
@@ -24,7 +24,7 @@ use Rattle.states.specs.Area.{stretch, found, outside, Outside, Ready, Step, Un
 use Rattle.search.specs.Product.{Setting, succs}
 use Rattle.search.specs.Loaded.{settingIn}
 use Rattle.search.specs.Moves.{visit, onward, push-law}
-use Rattle.workspace.specs.Chosen.{firstStates}
+use Rattle.forward.specs.Firsts.{firstStates}
 use Rattle.states.specs.Spots.{front, Fit, nextTurn}
 use Rattle.states.proofs.Stretches.{stretch-none, stretch-get, stretch-set, stretch-below, stretch-above, stretch-push}
 use Rattle.states.proofs.Changes.{blank-good, under-front, ready-state, ready-long, cleared, step-cleared}
@@ -137,29 +137,29 @@ turns-list f g (x ∷ q) k e st =
     let here : g k ≡ x = ap g (omega arith) ∙ e 0 (omega arith) in
     turns-list f g q (suc k) (λ j h. ap g (omega arith) ∙ e (suc j) (omega arith)) (f (g k) st) ∙ ap (λ y. loop f q (f y st)) here
 
-module _ {plan : Plan} {cols : Columns} {w : List ℕ} (fit : Fit plan cols w) {t : ℕ} {v : List ℕ} (alive : Alive plan t w) (a : Aside plan t w v) (i : ℕ) where
+module _ {plan : Plan} {program : List ℕ} {w : List ℕ} (fit : Fit plan program w) {t : ℕ} {v : List ℕ} (alive : Alive plan t w) (a : Aside plan t w v) (i : ℕ) where
   abbrev next : ℕ → ℕ → List ℕ
-  next = succs (settingIn cols plan (front plan w))
+  next = succs (settingIn program plan (front plan w))
 
-  gathered : turns (listTurn (settingIn cols plan (front plan v)) plan v i) 0 t (blank (plan .size)) ≡ stepped next (plan .size) i (found (marks plan) (plan .size) t w)
+  gathered : turns (listTurn (settingIn program plan (front plan v)) plan v i) 0 t (blank (plan .size)) ≡ stepped next (plan .size) i (found (marks plan) (plan .size) t w)
   unfolding stepped seeded listTurn
   gathered =
       let q = found (marks plan) (plan .size) t w .queue in
-      let S = settingIn cols plan (front plan w) in
+      let S = settingIn program plan (front plan w) in
       let D = stretch (plan .base) (plan .size) v in
       let one : Setting → ℕ → Search → Search = λ S s. onward S (visit D 0) i s in
-      ap (λ g. turns (λ j. one (settingIn cols plan g) (getD v (plan .base + j) 0)) 0 t (blank (plan .size))) (a .front)
+      ap (λ g. turns (λ j. one (settingIn program plan g) (getD v (plan .base + j) 0)) 0 t (blank (plan .size))) (a .front)
       ∙ (ap (λ n. turns (λ j. one S (getD v (plan .base + j) 0)) 0 n (blank (plan .size))) (sym (ready-long (alive .ready)))
       ∙ (turns-list (one S) (λ j. getD v (plan .base + j) 0) q 0 (λ j h. ap (λ k. getD v (plan .base + k) 0) (omega arith) ∙ aside-list alive a j (subst (j <_) (ready-long (alive .ready)) h)) (blank (plan .size))
       ∙ (loop-same (one S) (λ s. loop (push 1) (next s i)) (λ s st. push-law S D i s st) q (blank (plan .size))
       ∙ sym (loop-flat (push 1) (λ s. next s i) q (blank (plan .size))))))
 
-  pub advanced : {r : ℕ} {u : List ℕ} → i < plan .lines → Step (marks plan) (plan .size) (turns (listTurn (settingIn cols plan (front plan v)) plan v i) 0 t) 0 v r u
+  pub advanced : {r : ℕ} {u : List ℕ} → i < plan .lines → Step (marks plan) (plan .size) (turns (listTurn (settingIn program plan (front plan v)) plan v i) 0 t) 0 v r u
       → Advanced plan (stepped next (plan .size) i) t w r u
   unfolding stepped outside
   advanced {r} {u} h s =
       let now : found (marks plan) (plan .size) r u ≡ stepped next (plan .size) i (found (marks plan) (plan .size) t w) =
-      s .now-found ∙ (ap (turns (listTurn (settingIn cols plan (front plan v)) plan v i) 0 t) (aside-blank alive a) ∙ gathered) in
+      s .now-found ∙ (ap (turns (listTurn (settingIn program plan (front plan v)) plan v i) 0 t) (aside-blank alive a) ∙ gathered) in
       record {
         now-found = now;
         front = step-front plan s ∙ a .front;
@@ -167,7 +167,7 @@ module _ {plan : Plan} {cols : Columns} {w : List ℕ} (fit : Fit plan cols w) {
         alive = record {
           ready = s .ready;
           states = flat (λ s. next s i) (found (marks plan) (plan .size) t w .queue);
-          low = step-low next (plan .size) (plan .lines) (succs-low plan cols w fit) i h (found (marks plan) (plan .size) t w .queue);
+          low = step-low next (plan .size) (plan .lines) (succs-low plan program w fit) i h (found (marks plan) (plan .size) t w .queue);
           holds = now;
         };
       }
@@ -224,9 +224,9 @@ module _ {plan : Plan} (next : ℕ → ℕ → List ℕ) (c : List ℕ) {t₀ : 
 
 -- ---- the start and the end
 
-module _ (plan : Plan) (cols : Columns) (w : List ℕ) (fit : Fit plan cols w) (begin a : ℕ) (ha : a < plan .places) (within : Within plan begin) where
+module _ (plan : Plan) (program : List ℕ) (w : List ℕ) (fit : Fit plan program w) (begin a : ℕ) (ha : a < plan .places) (within : Within plan begin) where
   abbrev In : Setting
-  In = settingIn cols plan (front plan w)
+  In = settingIn program plan (front plan w)
 
   abbrev starts : List ℕ
   starts = firstStates plan begin a
@@ -236,16 +236,16 @@ module _ (plan : Plan) (cols : Columns) (w : List ℕ) (fit : Fit plan cols w) (
   pair = omega (arith, fit .laid .room)
 
   -- in a pair that was cleared, the positions of the mask are the first set
-  pub begun : (D depths : List ℕ) {r : ℕ} {v : List ℕ} → Step (marks plan) (plan .size) (turns (nextTurn plan depths begin (visit D 0) a 0) 0 (plan .done + 1)) 0 (cleared (marks plan) (plan .size) w pair) r v
+  pub begun : (D prog : List ℕ) {r : ℕ} {v : List ℕ} → Step (marks plan) (plan .size) (turns (nextTurn plan prog begin (visit D 0) a 0) 0 (plan .done + 1)) 0 (cleared (marks plan) (plan .size) w pair) r v
       → Advanced plan (λ _. seeded (plan .size) starts) 0 w r v
-  begun D depths {r} {v} first =
+  begun D prog {r} {v} first =
       let s = step-cleared (marks plan) (plan .size) w pair _ r v first in
-      let now : found (marks plan) (plan .size) r v ≡ seeded (plan .size) starts = s .now-found ∙ begin-seeded plan cols w fit begin a ha within D depths in
+      let now : found (marks plan) (plan .size) r v ≡ seeded (plan .size) starts = s .now-found ∙ begin-seeded plan program w fit begin a ha within D prog in
       record {
         now-found = now;
         front = step-front plan s;
         long = s .long;
-        alive = record { ready = s .ready; states = starts; low = begins-low plan cols w fit begin a ha within; holds = now };
+        alive = record { ready = s .ready; states = starts; low = begins-low plan program w fit begin a ha within; holds = now };
       }
 
   module _ (c : List ℕ) (e : exist (plan .lines) c ≡ true) (b : ℕ) (hb : b < plan .places) where
@@ -256,9 +256,9 @@ module _ (plan : Plan) (cols : Columns) (w : List ℕ) (fit : Fit plan cols w) (
     pub verdict : (st : Search) → st ≡ walked (succs In) (plan .size) c (seeded (plan .size) starts)
         → (getD (st .dist) (goal In b) 0 ≡ 0 → says ≡ false) × ((getD (st .dist) (goal In b) 0 ≡ 0 → ⊥) → says ≡ true)
     verdict st is =
-        let same = begins-are plan cols w fit begin a ha within in
+        let same = begins-are plan program w fit begin a ha within in
         let m = moved-members (succs In) c starts (starting In a (members begin)) (λ s. (subst (s ∈_) same, subst (s ∈_) (sym same))) (goal In b) in
         ⊎-elim
         (λ z. (λ _. memb-not (λ k. z .1 (m .1 k)), λ n. absurd (n (ap (λ (st : Search). getD (st .dist) (goal In b) 0) is ∙ z .0))))
         (λ z. (λ n. absurd (z .0 (sym (ap (λ (st : Search). getD (st .dist) (goal In b) 0) is) ∙ n)), λ _. in-memb (goal In b) _ (m .0 (z .1))))
-        (walked-marks (succs In) (plan .size) (plan .lines) (succs-low plan cols w fit) c starts (begins-low plan cols w fit begin a ha within) e (goal In b) (goal-low plan cols w fit b hb))
+        (walked-marks (succs In) (plan .size) (plan .lines) (succs-low plan program w fit) c starts (begins-low plan program w fit begin a ha within) e (goal In b) (goal-low plan program w fit b hb))

@@ -7,7 +7,7 @@ use Prim.Native.Nat.{ℕ}
 use native.Mathlib.Omega.{arith}
 use lib.ListN.{length}
 use Rattle.meaning.specs.Request.{Asked}
-use Rattle.automaton.specs.Columns.{Columns, members, Compiled}
+use Rattle.automaton.specs.Program.{members, Compiled}
 use Rattle.automaton.specs.Limits.{compiled-start}
 use Rattle.request.specs.declared.Plan.{Plan}
 use Rattle.search.specs.Plain.{memb}
@@ -16,15 +16,15 @@ use Rattle.search.specs.Along.{goal, starting}
 use Rattle.search.specs.Loaded.{settingIn}
 use Rattle.search.specs.Check.{exist, moved, check}
 use Rattle.search.specs.ReadBack.{loaded-check}
-use Rattle.workspace.specs.Posed.{Posed}
+use Rattle.forward.specs.Posed.{Posed}
 use Rattle.states.specs.Spots.{front}
-use Rattle.workspace.proofs.Posing.{posed-plan, posed-tables}
+use Rattle.forward.proofs.Posing.{posed-plan, posed-tables}
 use Rattle.checker.specs.Walk.{Within}
 
 module _ {q : Asked} {pat : List ℕ} {plan : Plan} {from to : ℕ} {w : List ℕ} (posed : Posed q pat plan from to w) where
-  module _ {cols : Columns} {begin : ℕ} (compiled : Compiled (q .pattern) cols begin) where
+  module _ {program : List ℕ} {begin : ℕ} (compiled : Compiled (q .pattern) program begin) where
     abbrev In : Setting
-    In = settingIn cols plan (front plan w)
+    In = settingIn program plan (front plan w)
 
     pub posed-within : Within plan begin
     posed-within k m = omega (arith, posed .planned .done-is, compiled-start compiled k m .0)
@@ -34,4 +34,4 @@ module _ {q : Asked} {pat : List ℕ} {plan : Plan} {from to : ℕ} {w : List �
     posed-check chain e =
         let moves = memb (goal In to) (moved (succs In) (starting In from (members begin)) chain) in
         sym (ap (_&& moves) e)
-        ∙ loaded-check (q .day .lines) (q .day .places) (q .pattern) plan (length w) (posed-plan posed) (posed .laid) (front plan w) (posed-tables posed) (posed .fit) cols begin compiled from to chain
+        ∙ loaded-check (q .day .lines) (q .day .places) (q .pattern) plan (length w) (posed-plan posed) (posed .laid) (front plan w) (posed-tables posed) (posed .fit) program begin compiled from to chain

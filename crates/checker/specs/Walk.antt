@@ -7,15 +7,16 @@ use Prim.Native.Nat.{ℕ, _+_, _≤_, _<_}
 use lib.ListN.{length, getD, set, take, drop}
 use Rattle.meaning.specs.Request.{Asked}
 use Rattle.automaton.specs.Listed.{_∈_}
-use Rattle.automaton.specs.Columns.{members}
+use Rattle.automaton.specs.Program.{members}
 use Rattle.request.specs.declared.Plan.{Plan}
-use Rattle.search.specs.Plain.{flat}
+use Rattle.search.specs.Along.{goal, starting}
+use Rattle.search.specs.Plain.{flat, memb}
 use Rattle.search.specs.Loops.{loop}
 use Rattle.search.specs.Table.{Search, blank, push}
 use Rattle.states.specs.Area.{stretch, found, Ready}
-use Rattle.workspace.specs.Posed.{Posed}
-use Rattle.search.specs.Product.{Setting}
-use Rattle.search.specs.Check.{check}
+use Rattle.forward.specs.Posed.{Posed}
+use Rattle.search.specs.Product.{Setting, succs}
+use Rattle.search.specs.Check.{moved, check}
 use Rattle.search.specs.Moves.{visit, onward}
 
 -- ---- sets of states, marked and listed
@@ -94,6 +95,10 @@ listTurn S plan w i j = onward S (visit (stretch (plan .base) (plan .size) w) 0)
 -- the mask's positions are positions up to the end
 abbrev pub Within : Plan → ℕ → Type 0
 Within plan begin = (k : ℕ) → k ∈ members begin → k ≤ plan .done
+
+-- does the chain lead from the mask's positions at the place `from` to the end at the place `to`?
+abbrev pub ends : Setting → ℕ → ℕ → ℕ → List ℕ → Bool
+ends S begin from to chain = memb (goal S to) (moved (succs S) (starting S from (members begin)) chain)
 
 -- ---- a request
 

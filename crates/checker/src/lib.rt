@@ -6,18 +6,15 @@ ghost use Prim.Native.Nat.{_+_, _≤_, _<_};
 ghost use lib.ListN.{length};
 ghost use Rattle.meaning.specs.Outcome.{told};
 ghost use Rattle.meaning.specs.Request.{askRequest, workAfter};
-ghost use Rattle.automaton.specs.Columns.{columns, members};
 ghost use Rattle.request.specs.Layout.{Laid};
 ghost use Rattle.search.specs.Loops.{turns};
-ghost use Rattle.search.specs.Plain.{memb};
 ghost use Rattle.states.specs.Area.{Ready, Step};
 ghost use Rattle.search.specs.Product.{succs};
-ghost use Rattle.search.specs.Along.{goal, starting};
-ghost use Rattle.search.specs.Loaded.{settingIn};
-ghost use Rattle.states.specs.Spots.{front, Fit};
-ghost use Rattle.workspace.specs.Posed.{SomePosed};
-ghost use Rattle.search.specs.Check.{exist, moved};
-ghost use Rattle.checker.specs.Walk.{stepped, walked, marks, Alive, Advanced, frontierAt, asideOf, Aside, Listed, listTurn, Within, RightFor};
+ghost use Rattle.search.specs.Loaded.{settingAt};
+ghost use Rattle.states.specs.Spots.{Fit};
+ghost use Rattle.forward.specs.Posed.{SomePosed};
+ghost use Rattle.search.specs.Check.{exist};
+ghost use Rattle.checker.specs.Walk.{stepped, walked, marks, Alive, Advanced, frontierAt, asideOf, Aside, Listed, listTurn, Within, ends, RightFor};
 ghost use Rattle.checker.specs.Reply.{checkReply, checkOf, Demand2};
 use request::Plan;
 use request::Request;
@@ -68,75 +65,29 @@ fn settle(work: &mut [u32], plan: Plan, tail: usize)
 }
 
 // The states to which the line leads from those of the list become the frontier. Returns how many they are.
-fn gather(
-    work: &mut [u32],
-    plan: Plan,
-    kinds: &[u8; 64],
-    tests: &[u8; 64],
-    levels: &[u8; 64],
-    depths: &[u8; 64],
-    pushes: &[u8; 64],
-    follow: &[u64; 64],
-    line: usize,
-    count: usize,
-) -> usize
+fn gather(work: &mut [u32], plan: Plan, program: &[u64; 128], line: usize, count: usize) -> usize
     requires { ⌜ Ready (marks plan) (plan .size) 0 (now work) ⌝ }
-    requires { ⌜ Fit plan (columns (now kinds) (now tests) (now levels) (now depths) (now pushes) (now follow)) (now work) ⌝ }
+    requires { ⌜ Fit plan (now program) (now work) ⌝ }
     requires { ⌜ (line < plan .lines) × (count ≤ plan .size) × Listed plan count (now work) ⌝ }
-    ensures { λ r. ⌜ Step (marks plan) (plan .size) (turns (listTurn (settingIn (columns (now (kinds .entry)) (now (tests .entry)) (now (levels .entry)) (now (depths .entry)) (now (pushes .entry)) (now (follow .entry))) plan (front plan (now (work .entry)))) plan (now (work .entry)) line) 0 count) 0 (now (work .entry)) r (now (work .exit)) ⌝ }
+    ensures { λ r. ⌜ Step (marks plan) (plan .size) (turns (listTurn (settingAt (now (program .entry)) plan (now (work .entry))) plan (now (work .entry)) line) 0 count) 0 (now (work .entry)) r (now (work .exit)) ⌝ }
 {
     let mut t = 0;
     for j in 0..count {
         let s = states::word(work, plan.base + j) as usize;
-        t = workspace::from_state(
-            work,
-            plan,
-            kinds,
-            tests,
-            levels,
-            depths,
-            pushes,
-            follow,
-            0,
-            line,
-            s,
-            t,
-        );
+        t = forward::from_state(work, plan, program, 0, line, s, t);
     }
     t
 }
 
 // One more line of the chain: the set becomes that of the states to which the line leads.
-fn next_line(
-    work: &mut [u32],
-    plan: Plan,
-    kinds: &[u8; 64],
-    tests: &[u8; 64],
-    levels: &[u8; 64],
-    depths: &[u8; 64],
-    pushes: &[u8; 64],
-    follow: &[u64; 64],
-    line: usize,
-    tail: usize,
-) -> usize
-    requires { ⌜ Fit plan (columns (now kinds) (now tests) (now levels) (now depths) (now pushes) (now follow)) (now work) ⌝ }
+fn next_line(work: &mut [u32], plan: Plan, program: &[u64; 128], line: usize, tail: usize) -> usize
+    requires { ⌜ Fit plan (now program) (now work) ⌝ }
     requires { ⌜ Alive plan tail (now work) ⌝ }
     requires { ⌜ line < plan .lines ⌝ }
-    ensures { λ r. ⌜ Advanced plan (stepped (succs (settingIn (columns (now (kinds .entry)) (now (tests .entry)) (now (levels .entry)) (now (depths .entry)) (now (pushes .entry)) (now (follow .entry))) plan (front plan (now (work .entry))))) (plan .size) line) tail (now (work .entry)) r (now (work .exit)) ⌝ }
+    ensures { λ r. ⌜ Advanced plan (stepped (succs (settingAt (now (program .entry)) plan (now (work .entry)))) (plan .size) line) tail (now (work .entry)) r (now (work .exit)) ⌝ }
 {
     settle(work, plan, tail);
-    gather(
-        work,
-        plan,
-        kinds,
-        tests,
-        levels,
-        depths,
-        pushes,
-        follow,
-        line,
-        tail,
-    )
+    gather(work, plan, program, line, tail)
 }
 
 // ---- the chain
@@ -145,36 +96,20 @@ fn next_line(
 fn run_chain(
     work: &mut [u32],
     plan: Plan,
-    kinds: &[u8; 64],
-    tests: &[u8; 64],
-    levels: &[u8; 64],
-    depths: &[u8; 64],
-    pushes: &[u8; 64],
-    follow: &[u64; 64],
+    program: &[u64; 128],
     chain: &[u16],
     tail: usize,
 ) -> usize
-    requires { ⌜ Fit plan (columns (now kinds) (now tests) (now levels) (now depths) (now pushes) (now follow)) (now work) ⌝ }
+    requires { ⌜ Fit plan (now program) (now work) ⌝ }
     requires { ⌜ Alive plan tail (now work) ⌝ }
     requires { ⌜ exist (plan .lines) (now chain) ≡ true ⌝ }
-    ensures { λ r. ⌜ Advanced plan (walked (succs (settingIn (columns (now (kinds .entry)) (now (tests .entry)) (now (levels .entry)) (now (depths .entry)) (now (pushes .entry)) (now (follow .entry))) plan (front plan (now (work .entry))))) (plan .size) (now (chain .entry))) tail (now (work .entry)) r (now (work .exit)) ⌝ }
+    ensures { λ r. ⌜ Advanced plan (walked (succs (settingAt (now (program .entry)) plan (now (work .entry)))) (plan .size) (now (chain .entry))) tail (now (work .entry)) r (now (work .exit)) ⌝ }
 {
     let mut t = tail;
     let mut k: usize = 0;
     while k < chain.len() {
         let line = chain[k] as usize;
-        t = next_line(
-            work,
-            plan,
-            kinds,
-            tests,
-            levels,
-            depths,
-            pushes,
-            follow,
-            line,
-            t,
-        );
+        t = next_line(work, plan, program, line, t);
         k += 1;
     }
     t
@@ -184,36 +119,20 @@ fn run_chain(
 fn leads(
     work: &mut [u32],
     plan: Plan,
-    kinds: &[u8; 64],
-    tests: &[u8; 64],
-    levels: &[u8; 64],
-    depths: &[u8; 64],
-    pushes: &[u8; 64],
-    follow: &[u64; 64],
+    program: &[u64; 128],
     begin: u64,
     from: usize,
     to: usize,
     chain: &[u16],
 ) -> bool
-    requires { ⌜ Fit plan (columns (now kinds) (now tests) (now levels) (now depths) (now pushes) (now follow)) (now work) ⌝ }
+    requires { ⌜ Fit plan (now program) (now work) ⌝ }
     requires { ⌜ Within plan begin ⌝ }
     requires { ⌜ (from < plan .places) × (to < plan .places) × (exist (plan .lines) (now chain) ≡ true) ⌝ }
-    ensures { λ r. ⌜ r ≡ memb (goal (settingIn (columns (now (kinds .entry)) (now (tests .entry)) (now (levels .entry)) (now (depths .entry)) (now (pushes .entry)) (now (follow .entry))) plan (front plan (now (work .entry)))) to) (moved (succs (settingIn (columns (now (kinds .entry)) (now (tests .entry)) (now (levels .entry)) (now (depths .entry)) (now (pushes .entry)) (now (follow .entry))) plan (front plan (now (work .entry))))) (starting (settingIn (columns (now (kinds .entry)) (now (tests .entry)) (now (levels .entry)) (now (depths .entry)) (now (pushes .entry)) (now (follow .entry))) plan (front plan (now (work .entry)))) from (members begin)) (now (chain .entry))) ⌝ }
+    ensures { λ r. ⌜ r ≡ ends (settingAt (now (program .entry)) plan (now (work .entry))) begin from to (now (chain .entry)) ⌝ }
 {
     states::clear_stretch(work, plan.base + plan.size, plan.size);
-    let starts = workspace::over_next(work, plan, depths, begin, 0, from, 0, 0);
-    let tail = run_chain(
-        work,
-        plan,
-        kinds,
-        tests,
-        levels,
-        depths,
-        pushes,
-        follow,
-        chain,
-        starts,
-    );
+    let starts = forward::over_next(work, plan, program, begin, 0, from, 0, 0);
+    let tail = run_chain(work, plan, program, chain, starts);
     let end = states::state_at(plan, to, plan.done, 0);
     if states::dist_at(work, plan.base + plan.size, plan.size, tail, end) == 0 {
         return false;
@@ -236,35 +155,9 @@ fn accepted(
     requires { ⌜ exist (plan .lines) (now chain) ≡ true ⌝ }
     ensures { λ r. ⌜ RightFor (now (pattern .entry)) plan from to (now (chain .entry)) (now (work .entry)) r ⌝ }
 {
-    let mut kinds: [u8; 64] = [0; 64];
-    let mut tests: [u8; 64] = [0; 64];
-    let mut levels: [u8; 64] = [0; 64];
-    let mut depths: [u8; 64] = [0; 64];
-    let mut pushes: [u8; 64] = [0; 64];
-    let mut follow: [u64; 64] = [0; 64];
-    let begin = compiler::compile(
-        pattern,
-        &mut kinds,
-        &mut tests,
-        &mut levels,
-        &mut depths,
-        &mut pushes,
-        &mut follow,
-    );
-    leads(
-        work,
-        plan,
-        &kinds,
-        &tests,
-        &levels,
-        &depths,
-        &pushes,
-        &follow,
-        begin,
-        from,
-        to,
-        chain,
-    )
+    let mut program: [u64; 128] = [0; 128];
+    let begin = compiler::compile(pattern, &mut program);
+    leads(work, plan, &program, begin, from, to, chain)
 }
 
 // Questions 1 to 18, then yes or no: does the chain lead from the first place to the second, and is its word in the pattern's

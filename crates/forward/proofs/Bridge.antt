@@ -125,4 +125,3 @@ module _ (a : List ℕ) (plan : Plan) (g : List ℕ) where
               let goes : onward S see i s st ≡ overNext S see i s st = from-is ∙ rw (← is, ← ex, ← ev, f, eq-eqb _ _ k, o) in
               let after : left s i ≡ u = sym (eu ∙ rw (is, ex, ev)) in
               goes ∙ (next-is s i st h ∙ rw (after, e, em, ec))
-

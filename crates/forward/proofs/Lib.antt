@@ -1,2 +1,4 @@
 pub mod Visits
 pub mod Bridge
+pub mod Posing
+pub mod Firsts

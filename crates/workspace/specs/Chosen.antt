@@ -7,7 +7,7 @@ use native.Mathlib.Nat.{zero-mod}
 use native.Mathlib.Omega.{arith}
 use lib.Dec.{eqb}
 use lib.ListN.{getD}
-use Rattle.automaton.specs.Columns.{bitOf}
+use Rattle.automaton.specs.Program.{bitOf}
 use Rattle.request.specs.declared.Plan.{Plan}
 use Rattle.search.specs.Plain.{filt, count}
 use Rattle.search.specs.Loops.{loop, turns, loop-map, loop-filt, loop-count, turns-same}
@@ -16,19 +16,6 @@ use Rattle.search.specs.PhaseTwo.{lesserWord, nearestWord, put, try}
 use Rattle.search.specs.Moves.{visit, visit-put}
 use Rattle.search.specs.Front.{stateIn}
 use Rattle.states.specs.Spots.{nextTurn}
-
--- the states at place a, with the empty stack, at the positions of the mask
-unfoldable pub firstStates : Plan → ℕ → ℕ → List ℕ
-firstStates plan mask a = map (λ k. stateIn plan a k 0) (filt (λ k. eqb (bitOf mask k) 1) (count 0 (plan .done + 1)))
-
--- a loop over them is a loop over positions
-pub first-law : {A : Type 0} (f : ℕ → A → A) (plan : Plan) (mask a : ℕ) (x : A)
-    → loop f (firstStates plan mask a) x ≡ turns (λ k b. cond (eqb (bitOf mask k) 1) (f (stateIn plan a k 0) b) b) 0 (plan .done + 1) x
-unfolding firstStates
-first-law f plan mask a x =
-    let ks = count 0 (plan .done + 1) in
-    let may : ℕ → Bool = λ k. eqb (bitOf mask k) 1 in
-    loop-map f (λ k. stateIn plan a k 0) (filt may ks) x ∙ (loop-filt (λ k. f (stateIn plan a k 0)) may ks x ∙ loop-count _ 0 (plan .done + 1) x)
 
 -- the word of the nearest so far, after position k
 unfoldable pub nearTurn : Plan → List ℕ → ℕ → ℕ → ℕ → ℕ → ℕ
@@ -45,16 +32,3 @@ tryTable E w lo n l st = try E w lo n l st .table
 -- whatever a pair holds; for loops whose end is said elsewhere
 unfoldable pub anything : Search → Search
 anything st = blank 0
-
--- ---- the first frontier
-
--- the first states put into it, by a loop over positions
-pub start-law : (plan : Plan) (depths : List ℕ) (mask : ℕ) (D : List ℕ) (w a : ℕ) (st : Search)
-    → 0 < w
-    → loop (put D w) (firstStates plan mask a) st ≡ turns (nextTurn plan depths mask (visit D w) a 0) 0 (plan .done + 1) st
-start-law plan depths mask D zero a st h = absurd (omega arith)
-start-law plan depths mask D (suc k) a st h = first-law (put D (suc k)) plan mask a st ∙ turns-same _ _ same-turn 0 (plan .done + 1) st
-  where
-    same-turn : (x : ℕ) (b : Search)
-        → cond (eqb (bitOf mask x) 1) (put D (suc k) (stateIn plan a x 0) b) b ≡ nextTurn plan depths mask (visit D (suc k)) a 0 x b
-    same-turn x b = unfold nextTurn in rw (zero-mod (plan .radix ^ getD depths x 0), visit-put D k (stateIn plan a x 0) b)

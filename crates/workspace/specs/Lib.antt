@@ -1,4 +1,3 @@
 pub mod Chosen
-pub mod Posed
 pub mod Stopped
 pub mod Leading

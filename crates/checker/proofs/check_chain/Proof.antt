@@ -12,7 +12,7 @@ use Rattle.request.specs.Reply.{Numbers, requestNumber}
 use Rattle.request.specs.Told.{Parts, asked-parts, answers-refused, Told, answers-asked, told-loading, all-zero}
 use Rattle.request.specs.declared.Plan.{Plan}
 use Rattle.search.specs.Check.{exist}
-use Rattle.workspace.proofs.Posing.{posed-from}
+use Rattle.forward.proofs.Posing.{posed-from}
 use Rattle.checker.specs.Reply.{checkOf, Demand2}
 use Rattle.checker.specs.Demand.{check-demand}
 use Rattle.checker.proofs.Replies.{check-refused, check-missing, check-said}

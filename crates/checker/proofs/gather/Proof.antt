@@ -3,24 +3,23 @@ use mathlib.Core.Path.{_≡_, sym, _∙_, subst}
 use Prim.Native.Nat.{_+_, _-_, _<_, _≤_}
 use native.Mathlib.Omega.{arith}
 use lib.ListN.{length, getD}
-use Rattle.automaton.specs.Columns.{columns}
 use Rattle.search.specs.Loops.{turns}
 use Rattle.states.specs.Area.{Under}
 use Rattle.search.specs.Loaded.{settingIn}
 use Rattle.states.specs.Spots.{front}
 use Rattle.states.proofs.Changes.{loop-start, loop-turn, loop-end, under-stretch, under-front}
 use Rattle.checker.specs.Walk.{marks, listTurn}
-use Rattle.expanding.proofs.Backs.{fit-same}
+use Rattle.states.proofs.Bounds.{fit-same}
 use Rattle.checker.proofs.Moving.{front-word}
 use borrow.Author.Needs.{needs}
 use Rattle.checker.proofs.gather.Statement.{statement}
 use Rattle.checker.proofs.gather.Tie as tie
 
 abbrev Inv-loop : tie.InvT-loop
-Inv-loop work₀ plan kinds tests levels depths pushes follow line count t₀ j₀ work t j = (j ≤ count) × Under (marks plan) (plan .size) (turns (listTurn (settingIn (columns kinds tests levels depths pushes follow) plan (front plan work₀)) plan work₀ line) 0 count) 0 work₀ (turns (listTurn (settingIn (columns kinds tests levels depths pushes follow) plan (front plan work₀)) plan work₀ line) j (count - j)) t work
+Inv-loop work₀ plan program line count t₀ j₀ work t j = (j ≤ count) × Under (marks plan) (plan .size) (turns (listTurn (settingIn program plan (front plan work₀)) plan work₀ line) 0 count) 0 work₀ (turns (listTurn (settingIn program plan (front plan work₀)) plan work₀ line) j (count - j)) t work
 
 abbrev μ-loop : tie.MeasureT-loop
-μ-loop work₀ plan kinds tests levels depths pushes follow line count t₀ j₀ work t j = count - j
+μ-loop work₀ plan program line count t₀ j₀ work t j = count - j
 
 loop-holds : tie.Need-loop-holds Inv-loop μ-loop
 loop-holds c = (omega arith, loop-start _ _ (c .before .pre .0))

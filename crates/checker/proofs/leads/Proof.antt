@@ -4,7 +4,9 @@ use mathlib.Core.Path.{_≡_, sym, ap, _∙_, subst}
 use mathlib.Core.Bool.{Bool, true, false}
 use native.Mathlib.Omega.{arith}
 use lib.ListN.{length}
-use Rattle.automaton.specs.Columns.{Columns, columns, members}
+use mathlib.Core.List.{List}
+use Prim.Native.Nat.{ℕ}
+use Rattle.automaton.specs.Program.{members}
 use Rattle.request.specs.Layout.{Laid}
 use Rattle.search.specs.Plain.{memb}
 use Rattle.search.specs.Product.{succs}
@@ -15,21 +17,21 @@ use Rattle.states.specs.Spots.{front}
 use Rattle.search.specs.Front.{goal-in}
 use Rattle.states.proofs.Bounds.{stacks-pos}
 use Rattle.states.proofs.Changes.{cleared-under}
-use Rattle.workspace.specs.Chosen.{firstStates}
+use Rattle.forward.specs.Firsts.{firstStates}
 use Rattle.checker.specs.Walk.{seeded, walked, marks, Advanced}
-use Rattle.expanding.proofs.Backs.{fit-same}
+use Rattle.states.proofs.Bounds.{fit-same}
 use Rattle.checker.proofs.Moving.{begun, verdict}
 use borrow.Author.Needs.{needs}
 use Rattle.checker.proofs.leads.Statement.{statement}
 use Rattle.checker.proofs.leads.Tie as tie
 
-abbrev cols : tie.Start → Columns
-cols c = columns (c .args .kinds .now) (c .args .tests .now) (c .args .levels .now) (c .args .depths .now) (c .args .pushes .now) (c .args .follow .now)
+abbrev prog : tie.Start → List ℕ
+prog c = c .args .program .now
 
 -- whether the chain leads to the end
 abbrev answer : tie.Start → Bool
 answer c =
-    let S = settingIn (cols c) (c .args .plan) (front (c .args .plan) (c .args .work .now)) in
+    let S = settingIn (prog c) (c .args .plan) (front (c .args .plan) (c .args .work .now)) in
     memb (goal S (c .args .to)) (moved (succs S) (starting S (c .args .from) (members (c .args .begin))) (c .args .chain .now))
 
 add-clear-stretch : tie.Need-add-clear-stretch
@@ -53,7 +55,7 @@ top c = c .before .before .before .before .before .before .before .before .befor
 first-set : (c : tie.After-over-next) → let x = top c .args in Advanced (x .plan) (λ _. seeded (x .plan .size) (firstStates (x .plan) (x .begin) (x .from))) 0 (x .work .now) (c .over-next .result) (c .over-next .last .0)
 first-set c =
     let a = top c in
-    begun (a .args .plan) (cols a) (a .args .work .now) (a .pre .0) (a .args .begin) (a .args .from) (a .pre .1 .1 .0) (a .pre .1 .0) _ _ (rw (c .before .before .before .before .clear-stretch .ensures) at (c .over-next .ensures))
+    begun (a .args .plan) (prog a) (a .args .work .now) (a .pre .0) (a .args .begin) (a .args .from) (a .pre .1 .1 .0) (a .pre .1 .0) _ _ (rw (c .before .before .before .before .clear-stretch .ensures) at (c .over-next .ensures))
 
 run-chain-requires : tie.Need-run-chain-requires
 run-chain-requires c κs =
@@ -88,8 +90,8 @@ said c =
     let p = a .args .plan in
     let b = first-set (c .before .before .before .before .before .before .before .before .before .before) in
     let r = rw (b .front) at (c .before .before .before .before .before .before .run-chain .ensures) in
-    let end = c .before .before .before .state-at .ensures .0 ∙ goal-in (cols a) p (length (a .args .work .now)) (a .pre .0 .laid) (front p (a .args .work .now)) (a .args .to) in
-    let v = verdict p (cols a) (a .args .work .now) (a .pre .0) (a .args .begin) (a .args .from) (a .pre .1 .1 .0) (a .pre .1 .0) (a .args .chain .now) (a .pre .1 .1 .2) (a .args .to) (a .pre .1 .1 .1) _ (r .now-found ∙ ap (walked _ (p .size) (a .args .chain .now)) (b .now-found)) in
+    let end = c .before .before .before .state-at .ensures .0 ∙ goal-in (prog a) p (length (a .args .work .now)) (a .pre .0 .laid) (front p (a .args .work .now)) (a .args .to) in
+    let v = verdict p (prog a) (a .args .work .now) (a .pre .0) (a .args .begin) (a .args .from) (a .pre .1 .1 .0) (a .pre .1 .0) (a .args .chain .now) (a .pre .1 .1 .2) (a .args .to) (a .pre .1 .1 .1) _ (r .now-found ∙ ap (walked _ (p .size) (a .args .chain .now)) (b .now-found)) in
     let word = rw end at (c .dist-at .ensures .0) in
     (λ z. sym (v .0 (sym word ∙ z)), λ n. sym (v .1 (λ z. n (word ∙ z))))
 

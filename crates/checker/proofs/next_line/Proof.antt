@@ -1,6 +1,6 @@
 -- `checker::next_line` meets its contract: the states that waited are set aside, nothing is marked then, and what is gathered is their step.
 -- Assumes nothing.
-use Rattle.expanding.proofs.Backs.{fit-same}
+use Rattle.states.proofs.Bounds.{fit-same}
 use Rattle.checker.proofs.Moving.{aside-ready, aside-listed, advanced}
 use borrow.Author.Needs.{needs}
 use Rattle.checker.proofs.next_line.Statement.{statement}

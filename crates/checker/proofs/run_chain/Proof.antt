@@ -2,21 +2,20 @@
 use Prim.Native.Nat.{_-_, _≤_}
 use native.Mathlib.Omega.{arith}
 use lib.ListN.{length}
-use Rattle.automaton.specs.Columns.{columns}
 use Rattle.search.specs.Product.{succs}
 use Rattle.search.specs.Loaded.{settingIn}
 use Rattle.states.specs.Spots.{front}
-use Rattle.expanding.proofs.Backs.{fit-same}
+use Rattle.states.proofs.Bounds.{fit-same}
 use Rattle.checker.proofs.Moving.{Left, left-all, left-none, left-line, left-turn}
 use borrow.Author.Needs.{needs}
 use Rattle.checker.proofs.run_chain.Statement.{statement}
 use Rattle.checker.proofs.run_chain.Tie as tie
 
 abbrev Inv-loop : tie.InvT-loop
-Inv-loop work₀ plan kinds tests levels depths pushes follow chain tail t₀ k₀ work t k = (k ≤ length chain) × Left plan (succs (settingIn (columns kinds tests levels depths pushes follow) plan (front plan work₀))) chain tail work₀ k t work
+Inv-loop work₀ plan program chain tail t₀ k₀ work t k = (k ≤ length chain) × Left plan (succs (settingIn program plan (front plan work₀))) chain tail work₀ k t work
 
 abbrev μ-loop : tie.MeasureT-loop
-μ-loop work₀ plan kinds tests levels depths pushes follow chain tail t₀ k₀ work t k = length chain - k
+μ-loop work₀ plan program chain tail t₀ k₀ work t k = length chain - k
 
 loop-holds : tie.Need-loop-holds Inv-loop μ-loop
 loop-holds c = let a = c .before .before in (omega arith, left-all _ _ (a .pre .1 .0) (a .pre .1 .1))

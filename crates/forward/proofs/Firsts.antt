@@ -6,7 +6,7 @@ use Prim.Native.Nat.{ℕ, zero, suc, _+_, _-_, _≤_}
 use native.Mathlib.Omega.{arith}
 use lib.Dec.{eqb}
 use Rattle.automaton.specs.Listed.{_∈_}
-use Rattle.automaton.specs.Columns.{Columns, bitOf, membersFrom, members}
+use Rattle.automaton.specs.Program.{bitOf, membersFrom, members}
 use Rattle.request.specs.Layout.{Laid}
 use Rattle.request.specs.declared.Plan.{Plan}
 use Rattle.search.specs.Plain.{filt, count}
@@ -14,7 +14,7 @@ use Rattle.search.specs.Sets.{filt-in, count-in}
 use Rattle.search.specs.Along.{starting}
 use Rattle.search.specs.Loaded.{settingIn}
 use Rattle.search.specs.Front.{stateIn, starting-in}
-use Rattle.workspace.specs.Chosen.{firstStates}
+use Rattle.forward.specs.Firsts.{firstStates}
 
 module _ (mask : ℕ) where
   abbrev has : ℕ → Bool
@@ -67,9 +67,9 @@ module _ (mask : ℕ) where
       omega (arith, above, low k inside)) in
       sym (members-filt 0 (d + 1)) ∙ sym (members-cut d few ∙ (ap (membersFrom mask 0 (d + 1) ++_) none ∙ append-nil (membersFrom mask 0 (d + 1))))
 
-pub first-states : (cols : Columns) (plan : Plan) (area : ℕ) → Laid plan area → (g : List ℕ) (begin a : ℕ) → ((k : ℕ) → k ∈ members begin → k ≤ plan .done)
-    → firstStates plan begin a ≡ starting (settingIn cols plan g) a (members begin)
+pub first-states : (program : List ℕ) (plan : Plan) (area : ℕ) → Laid plan area → (g : List ℕ) (begin a : ℕ) → ((k : ℕ) → k ∈ members begin → k ≤ plan .done)
+    → firstStates plan begin a ≡ starting (settingIn program plan g) a (members begin)
 unfolding firstStates
-first-states cols plan area laid g begin a low =
+first-states program plan area laid g begin a low =
     ap (λ ks. map (λ k. stateIn plan a k 0) ks) (members-low begin (plan .done) (laid .few-commands) low)
-    ∙ starting-in cols plan area laid g a (members begin)
+    ∙ starting-in program plan area laid g a (members begin)

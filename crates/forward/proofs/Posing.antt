@@ -12,8 +12,8 @@ use Rattle.meaning.specs.Pattern.{Pattern, commands}
 use Rattle.meaning.specs.Request.{Asked, askRequest}
 use Rattle.record.specs.Fit.{record-fits}
 use Rattle.record.specs.Whole.{linesIn, linesOf}
-use Rattle.automaton.specs.Columns.{Columns, Compiled}
-use Rattle.compiler.specs.Compiling.{Small, rowAt}
+use Rattle.automaton.specs.Program.{rowAt, Compiled}
+use Rattle.compiler.specs.Compiling.{Small}
 use Rattle.automaton.specs.Limits.{compiled-depth}
 use Rattle.boats.specs.Codes.{codes, code-low, codes-length}
 use Rattle.request.specs.Layout.{Laid, lineWord, fromIn, toIn, loadedOf}
@@ -25,7 +25,7 @@ use Rattle.search.specs.Answer.{setting}
 use Rattle.search.specs.Front.{line-at, tables}
 use Rattle.search.specs.ReadBack.{Planned, loaded-same}
 use Rattle.states.specs.Spots.{front, Fit}
-use Rattle.workspace.specs.Posed.{Posed}
+use Rattle.forward.specs.Posed.{Posed}
 
 -- the tables fill the words before `base`
 tables-long : {q : Asked} {plan : Plan} {area : ℕ} → Request.Planned q plan → Laid plan area → length (loadedOf (q .day .lines)) ≡ plan .base
@@ -82,13 +82,13 @@ module _ {q : Asked} {pat : List ℕ} {plan : Plan} {from to : ℕ} {w : List �
       ap (λ n. drop n (take (plan .base) (front plan w))) (posed .planned .codes-at)
       ∙ (take-take (plan .base) (plan .base) w (omega arith) ∙ posed .loaded)
 
-  module _ {cols : Columns} {begin : ℕ} (compiled : Compiled tree cols begin) (small : (k : ℕ) → k ≤ commands tree → Small (rowAt cols k)) where
+  module _ {program : List ℕ} {begin : ℕ} (compiled : Compiled tree program begin) (small : (k : ℕ) → k ≤ commands tree → Small (rowAt program k)) where
     -- the tables' lines are the request's
     line-is : (i : ℕ) → i < plan .lines → (fromIn (wordAt plan (front plan w) i) < plan .places) × (toIn (wordAt plan (front plan w) i) < plan .places)
     unfolding settingIn setting
     line-is i h =
         let li : i < length lines = omega (arith, posed .planned .lines-are) in
-        let same = loaded-same lines (q .day .places) tree plan (length w) posed-plan (posed .laid) (front plan w) posed-tables (posed .fit) cols begin compiled in
+        let same = loaded-same lines (q .day .places) tree plan (length w) posed-plan (posed .laid) (front plan w) posed-tables (posed .fit) program begin compiled in
         let here = line-at plan (front plan w) i h in
         let within = posed .fit .within i li in
         let a : fromIn (wordAt plan (front plan w) i) ≡ lineAt lines i .from = sym (ap (λ (l : Line). l .from) here) ∙ same .from i li in
@@ -100,10 +100,10 @@ module _ {q : Asked} {pat : List ℕ} {plan : Plan} {from to : ℕ} {w : List �
     unfolding settingIn setting
     code-below i h =
         let li : i < length lines = omega (arith, posed .planned .lines-are) in
-        let same = loaded-same lines (q .day .places) tree plan (length w) posed-plan (posed .laid) (front plan w) posed-tables (posed .fit) cols begin compiled in
+        let same = loaded-same lines (q .day .places) tree plan (length w) posed-plan (posed .laid) (front plan w) posed-tables (posed .fit) program begin compiled in
         omega (arith, same .code i li, code-low lines i li, posed .planned .radix-is)
 
-    pub posed-fit : Fit plan cols w
+    pub posed-fit : Fit plan program w
     posed-fit =
         let keeps-are = posed .planned .keeps-are in
         let low : (c : ℕ) → c ≤ plan .done → c ≤ commands tree = λ c h. omega (arith, posed .planned .done-is) in
@@ -112,7 +112,6 @@ module _ {q : Asked} {pat : List ℕ} {plan : Plan} {from to : ℕ} {w : List �
           starts = λ i h. line-is i h .0;
           ends = λ i h. line-is i h .1;
           codes-low = code-below;
-          kinds-low = λ c h. small c (low c h) .kind;
           levels-low = λ c h. omega (arith, keeps-are, small c (low c h) .level, compiled-depth compiled c (low c h) .0);
           depths-low = λ c h. omega (arith, keeps-are, compiled-depth compiled c (low c h) .0);
           leaves-low = λ c h. omega (arith, keeps-are, compiled-depth compiled c (low c h) .1);

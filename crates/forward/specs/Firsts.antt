@@ -1,0 +1,44 @@
+-- The first states of a search, at the asked place and the positions where runs begin: as a list, and as the code's loop over positions
+-- (`first-law`); put into a table, they are the first frontier (`start-law`).
+use mathlib.Core.Path.{_≡_, _∙_}
+use mathlib.Core.Bool.{Bool, cond}
+use mathlib.Core.List.{List, map}
+use Prim.Native.Nat.{ℕ, zero, suc, _+_, _^_, _<_}
+use native.Mathlib.Nat.{zero-mod}
+use native.Mathlib.Omega.{arith}
+use lib.Dec.{eqb}
+use Rattle.automaton.specs.Program.{bitOf, depthAt}
+use Rattle.request.specs.declared.Plan.{Plan}
+use Rattle.search.specs.Plain.{filt, count}
+use Rattle.search.specs.Loops.{loop, turns, loop-map, loop-filt, loop-count, turns-same}
+use Rattle.search.specs.Table.{Search}
+use Rattle.search.specs.PhaseTwo.{put}
+use Rattle.search.specs.Moves.{visit, visit-put}
+use Rattle.search.specs.Front.{stateIn}
+use Rattle.states.specs.Spots.{nextTurn}
+
+-- the states at place a, with the empty stack, at the positions of the mask
+unfoldable pub firstStates : Plan → ℕ → ℕ → List ℕ
+firstStates plan mask a = map (λ k. stateIn plan a k 0) (filt (λ k. eqb (bitOf mask k) 1) (count 0 (plan .done + 1)))
+
+-- a loop over them is a loop over positions
+pub first-law : {A : Type 0} (f : ℕ → A → A) (plan : Plan) (mask a : ℕ) (x : A)
+    → loop f (firstStates plan mask a) x ≡ turns (λ k b. cond (eqb (bitOf mask k) 1) (f (stateIn plan a k 0) b) b) 0 (plan .done + 1) x
+unfolding firstStates
+first-law f plan mask a x =
+    let ks = count 0 (plan .done + 1) in
+    let may : ℕ → Bool = λ k. eqb (bitOf mask k) 1 in
+    loop-map f (λ k. stateIn plan a k 0) (filt may ks) x ∙ (loop-filt (λ k. f (stateIn plan a k 0)) may ks x ∙ loop-count _ 0 (plan .done + 1) x)
+
+-- ---- the first frontier
+
+-- the first states put into it, by a loop over positions
+pub start-law : (plan : Plan) (program : List ℕ) (mask : ℕ) (D : List ℕ) (w a : ℕ) (st : Search)
+    → 0 < w
+    → loop (put D w) (firstStates plan mask a) st ≡ turns (nextTurn plan program mask (visit D w) a 0) 0 (plan .done + 1) st
+start-law plan program mask D zero a st h = absurd (omega arith)
+start-law plan program mask D (suc k) a st h = first-law (put D (suc k)) plan mask a st ∙ turns-same _ _ same-turn 0 (plan .done + 1) st
+  where
+    same-turn : (x : ℕ) (b : Search)
+        → cond (eqb (bitOf mask x) 1) (put D (suc k) (stateIn plan a x 0) b) b ≡ nextTurn plan program mask (visit D (suc k)) a 0 x b
+    same-turn x b = unfold nextTurn in rw (zero-mod (plan .radix ^ depthAt program x), visit-put D k (stateIn plan a x 0) b)
