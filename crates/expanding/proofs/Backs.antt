@@ -8,8 +8,7 @@ use native.Mathlib.Omega.{arith}
 use lib.Dec.{eqb}
 use lib.ListN.{length, getD, drop}
 use borrow.Author.Tests.{eq-eqb, ne-eqb}
-use Rattle.automaton.specs.Columns.{Columns, bitOf}
-use Rattle.automaton.specs.Shape.{deeper}
+use Rattle.automaton.specs.Program.{bitOf, followAt, leavesAt}
 use Rattle.request.specs.Layout.{Laid, toIn}
 use Rattle.request.specs.declared.Plan.{Plan}
 use Rattle.search.specs.Loops.{turns}
@@ -75,41 +74,21 @@ module _ (plan : Plan) (s : Spot) (t : Target) (d c count e : ℕ) (st : Search)
 
 -- ---- a position
 
-module _ (a : Columns) (plan : Plan) (g : List ℕ) (t : Target) (d c : ℕ) (st : Search) where
-  pub spot-passed : (bitOf (getD (a .follow) c 0) (t .position) ≡ 1 → ⊥) → spotTurn a plan g t d c st ≡ st
+module _ (a : List ℕ) (plan : Plan) (g : List ℕ) (t : Target) (d c : ℕ) (st : Search) where
+  pub spot-passed : (bitOf (followAt a c) (t .position) ≡ 1 → ⊥) → spotTurn a plan g t d c st ≡ st
   unfolding spotTurn
   spot-passed h = rw (ne-eqb _ _ h)
 
-  pub spot-taken : bitOf (getD (a .follow) c 0) (t .position) ≡ 1
-      → (sp : Spot) (count : ℕ) → sp ≡ spotIn a (plan .radix) c → count ≡ plan .radix ^ (deeper (eqb (getD (a .pushes) c 0) 1) (getD (a .depths) c 0) - t .depth)
+  pub spot-taken : bitOf (followAt a c) (t .position) ≡ 1
+      → (sp : Spot) (count : ℕ) → sp ≡ spotIn a (plan .radix) c → count ≡ plan .radix ^ (leavesAt a c - t .depth)
       → spotTurn a plan g t d c st ≡ turns (lineTurn plan g sp t d c count) 0 (plan .lines) st
   unfolding spotTurn
   spot-taken h sp count es ec = rw (eq-eqb _ _ h, es, ec)
 
 -- ---- what the loops go by
 
-pub fit-same : {plan : Plan} {a : Columns} {w v : List ℕ} → length v ≡ length w → front plan v ≡ front plan w → Fit plan a w → Fit plan a v
-fit-same {plan} l e f =
-    record {
-      laid = subst (Laid plan) (sym l) (f .laid);
-      starts = subst (Starts plan) (sym e) (f .starts);
-      ends = subst (λ g. (i : ℕ) → i < plan .lines → toIn (wordAt plan g i) < plan .places) (sym e) (f .ends);
-      codes-low = subst (λ g. (i : ℕ) → i < plan .lines → codeAt plan g i < plan .radix) (sym e) (f .codes-low);
-      kinds-low = f .kinds-low;
-      levels-low = f .levels-low;
-      depths-low = f .depths-low;
-      leaves-low = f .leaves-low;
-    }
-
--- a state's place is one of the places
-pub place-at : {plan : Plan} {area : ℕ} → Laid plan area → (t : ℕ) → t < plan .size → t / plan .stacks / (plan .done + 1) < plan .places
-place-at {plan} laid t less =
-    let some : 0 < plan .done + 1 = omega arith in
-    let both : t / plan .stacks < plan .places * (plan .done + 1) = div-lt-iff-lt-mul (stacks-pos laid) .1 (subst (t <_) (laid .size-is) less) in
-    div-lt-iff-lt-mul some .1 both
-
 -- what a way is chosen by
-pub told-fit : {plan : Plan} {a : Columns} {w : List ℕ} → Fit plan a w → Told plan (front plan w)
+pub told-fit : {plan : Plan} {a : List ℕ} {w : List ℕ} → Fit plan a w → Told plan (front plan w)
 told-fit f = record { codes-low = f .codes-low; starts = f .starts; ends = f .ends }
 
 -- a run that is right does what all lines do
@@ -119,7 +98,7 @@ run-lines {o} {plan} {s} {t} {c} {count} {k} {lane} r {g} told d st =
     turns-alike (lineTurn plan g s t d c count) (runTurn o plan g k (laneTurn d lane)) 0 (plan .lines) (plan .lines) (omega arith) (λ i less b. r .same g told d i less b) st
 
 -- in a loop of phase one both the loaded tables and the sorted lines stay
-pub backing-under : {filed : Bool} {plan : Plan} {a : Columns} {F : Search → Search} {t₀ : ℕ} {w₀ : List ℕ} {G : Search → Search} {t : ℕ} {w : List ℕ}
+pub backing-under : {filed : Bool} {plan : Plan} {a : List ℕ} {F : Search → Search} {t₀ : ℕ} {w₀ : List ℕ} {G : Search → Search} {t : ℕ} {w : List ℕ}
     → Under (plan .base) (plan .size) F t₀ w₀ G t w → Backing filed plan a w₀ → Backing filed plan a w
 backing-under {plan = plan} {w₀ = w₀} {w = w} u b =
     let f = under-front u (plan .base) (omega arith) in
@@ -135,12 +114,3 @@ backing-under {plan = plan} {w₀ = w₀} {w = w} u b =
             thin = thin-same plan (kindsAt plan) (thinAt plan) w₀ w (t .kinds) (t .thin) (behind (kindsAt plan) (omega arith)) (omega arith);
           };
     }
-
-pub aimed : {plan : Plan} {a : Columns} {w : List ℕ} → Fit plan a w → (t : ℕ) → t < plan .size → (x : Target) → x ≡ targetIn (a .depths) plan t → Aimed plan x
-unfolding targetIn
-aimed {plan} {a} f t less x e =
-    let k = t / plan .stacks % (plan .done + 1) in
-    let low : k ≤ plan .done = omega (arith, mod-lt (t / plan .stacks) {m = plan .done + 1} (omega arith)) in
-    let d = getD (a .depths) k 0 in
-    subst (Aimed plan) (sym e)
-    (record { place-low = place-at (f .laid) t less; position-low = low; depth-low = f .depths-low k low; weight-is = refl; stack-low = mod-lt (t % plan .stacks) (power-pos (f .laid) d) })

@@ -3,11 +3,10 @@ use mathlib.Core.Path.{_≡_}
 use mathlib.Core.Bool.{Bool, true}
 use mathlib.Core.List.{List}
 use Prim.Native.Nat.{ℕ}
-use Rattle.automaton.specs.Columns.{Columns}
 use Rattle.request.specs.declared.Plan.{Plan}
 use Rattle.states.specs.Spots.{Fit}
 use Rattle.ways.specs.Filed.{Filed}
 
-pub record Backing (filed : Bool) (plan : Plan) (a : Columns) (w : List ℕ) : Type 0 where
+pub record Backing (filed : Bool) (plan : Plan) (a : List ℕ) (w : List ℕ) : Type 0 where
   pub fit : Fit plan a w
   pub tables : filed ≡ true → Filed plan w

@@ -4,13 +4,14 @@ ghost use mathlib.Core.Bool.{true};
 ghost use Prim.Native.Nat.{ℕ, suc, _+_, _*_, _-_, _^_, _/_, _%_, _≤_, _<_};
 ghost use lib.Dec.{eqb};
 ghost use lib.ListN.{length, getD};
-ghost use Rattle.automaton.specs.Columns.{columns, bitOf};
+ghost use Rattle.automaton.specs.Program.{bitOf, followAt};
 ghost use Rattle.automaton.specs.Shape.{deeper};
 ghost use Rattle.request.specs.Layout.{Laid};
 ghost use Rattle.search.specs.Loops.{turns};
 ghost use Rattle.search.specs.Table.{push};
 ghost use Rattle.states.specs.Area.{Ready, Step};
-ghost use Rattle.search.specs.Loaded.{settingIn};
+ghost use Rattle.states.specs.Pairs.{ReadyBack, StepBack};
+ghost use Rattle.search.specs.Loaded.{settingAt};
 ghost use Rattle.search.specs.Moves.{expand};
 ghost use Rattle.sorting.specs.Sorting.{keys};
 ghost use Rattle.sorting.specs.declared.Order.the-variants as Orders;
@@ -20,6 +21,7 @@ ghost use Rattle.ways.specs.Stacked.{stackedTurn, Enough};
 ghost use Rattle.expanding.specs.Backing.{Backing};
 ghost use Rattle.expanding.specs.Stepping.{Steps, Entries, WantsSame, EntryBelow, EntryAmong};
 ghost use Rattle.states.specs.Spots.{front, Sane, stackAt, stackTurn, lineTurn, Aimed, Stacks, Starts, spotTurn};
+use automaton::Row;
 use request::Plan;
 use sorting::Order;
 use states::Spot;
@@ -309,14 +311,11 @@ fn over_lines(
 }
 
 // The stack's depth after a position.
-fn leaves_of(depth: u8, push: u8) -> usize
-    ensures { λ r. ⌜ r ≡ deeper (eqb push 1) depth ⌝ }
+fn leaves_of(row: Row) -> usize
+    ensures { λ r. ⌜ r ≡ deeper (row .push) (row .depth) ⌝ }
 {
-    if push == 1 {
-        states::wide(depth) + 1
-    } else {
-        states::wide(depth)
-    }
+    let depth = states::wide(row.depth);
+    if row.push { depth + 1 } else { depth }
 }
 
 // How many stacks of depth `deep` there are over one of depth `e`: radix^(deep - e), and 1 where `e` is not below.
@@ -487,25 +486,21 @@ pub fn one_spot(
     work: &mut [u32],
     plan: Plan,
     filed: bool,
-    kinds: &[u8; 64],
-    tests: &[u8; 64],
-    levels: &[u8; 64],
-    depths: &[u8; 64],
-    pushes: &[u8; 64],
-    follow: &[u64; 64],
+    program: &[u64; 128],
     target: Target,
     d: u32,
     c: usize,
     tail: usize,
 ) -> usize
-    requires { ⌜ Ready (plan .base) (plan .size) tail (now work) ⌝ }
-    requires { ⌜ Backing filed plan (columns (now kinds) (now tests) (now levels) (now depths) (now pushes) (now follow)) (now work) ⌝ }
+    requires { ⌜ ReadyBack plan tail (now work) ⌝ }
+    requires { ⌜ Backing filed plan (now program) (now work) ⌝ }
     requires { ⌜ Aimed plan target ⌝ }
-    requires { ⌜ (0 < d) × (d ≤ suc tail) × (c < plan .done) × (bitOf (getD (now follow) c 0) (target .position) ≡ 1) ⌝ }
-    ensures { λ r. ⌜ Step (plan .base) (plan .size) (spotTurn (columns (now (kinds .entry)) (now (tests .entry)) (now (levels .entry)) (now (depths .entry)) (now (pushes .entry)) (now (follow .entry))) plan (front plan (now (work .entry))) target d c) tail (now (work .entry)) r (now (work .exit)) ⌝ }
+    requires { ⌜ (0 < d) × (d ≤ suc tail) × (c < plan .done) × (bitOf (followAt (now program) c) (target .position) ≡ 1) ⌝ }
+    ensures { λ r. ⌜ StepBack plan (spotTurn (now (program .entry)) plan (front plan (now (work .entry))) target d c) tail (now (work .entry)) r (now (work .exit)) ⌝ }
 {
-    let spot = states::spot_at(kinds, tests, levels, depths, pushes, follow, plan.radix, c);
-    let leaves = leaves_of(depths[c], pushes[c]);
+    let row = automaton::row_at(program, c);
+    let spot = states::spot_at(program, plan.radix, c);
+    let leaves = leaves_of(row);
     if filed {
         return over_way(work, plan, spot, target, d, c, leaves, tail);
     }
@@ -517,41 +512,22 @@ pub fn expand_state(
     work: &mut [u32],
     plan: Plan,
     filed: bool,
-    kinds: &[u8; 64],
-    tests: &[u8; 64],
-    levels: &[u8; 64],
-    depths: &[u8; 64],
-    pushes: &[u8; 64],
-    follow: &[u64; 64],
+    program: &[u64; 128],
     d: u32,
     t: usize,
     tail: usize,
 ) -> usize
-    requires { ⌜ Ready (plan .base) (plan .size) tail (now work) ⌝ }
-    requires { ⌜ Backing filed plan (columns (now kinds) (now tests) (now levels) (now depths) (now pushes) (now follow)) (now work) ⌝ }
+    requires { ⌜ ReadyBack plan tail (now work) ⌝ }
+    requires { ⌜ Backing filed plan (now program) (now work) ⌝ }
     requires { ⌜ (0 < d) × (d ≤ suc tail) × (t < plan .size) ⌝ }
-    ensures { λ r. ⌜ Step (plan .base) (plan .size) (expand (settingIn (columns (now (kinds .entry)) (now (tests .entry)) (now (levels .entry)) (now (depths .entry)) (now (pushes .entry)) (now (follow .entry))) plan (front plan (now (work .entry)))) d t) tail (now (work .entry)) r (now (work .exit)) ⌝ }
+    ensures { λ r. ⌜ StepBack plan (expand (settingAt (now (program .entry)) plan (now (work .entry))) d t) tail (now (work .entry)) r (now (work .exit)) ⌝ }
 {
-    let target = states::target_of(depths, plan, t);
+    let target = states::target_of(program, plan, t);
     let done = plan.done;
     let mut u = tail;
     for c in 0..done {
-        if (follow[c] >> target.position) % 2 == 1 {
-            u = one_spot(
-                work,
-                plan,
-                filed,
-                kinds,
-                tests,
-                levels,
-                depths,
-                pushes,
-                follow,
-                target,
-                d,
-                c,
-                u,
-            );
+        if (automaton::follow_at(program, c) >> target.position) % 2 == 1 {
+            u = one_spot(work, plan, filed, program, target, d, c, u);
         }
     }
     u

@@ -2,3 +2,4 @@ pub mod Visits
 pub mod Bridge
 pub mod Posing
 pub mod Firsts
+pub mod Near

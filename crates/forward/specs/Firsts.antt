@@ -7,12 +7,13 @@ use Prim.Native.Nat.{ℕ, zero, suc, _+_, _^_, _<_}
 use native.Mathlib.Nat.{zero-mod}
 use native.Mathlib.Omega.{arith}
 use lib.Dec.{eqb}
+use lib.ListN.{getD}
 use Rattle.automaton.specs.Program.{bitOf, depthAt}
 use Rattle.request.specs.declared.Plan.{Plan}
 use Rattle.search.specs.Plain.{filt, count}
 use Rattle.search.specs.Loops.{loop, turns, loop-map, loop-filt, loop-count, turns-same}
 use Rattle.search.specs.Table.{Search}
-use Rattle.search.specs.PhaseTwo.{put}
+use Rattle.search.specs.PhaseTwo.{lesserWord, nearestWord, put}
 use Rattle.search.specs.Moves.{visit, visit-put}
 use Rattle.search.specs.Front.{stateIn}
 use Rattle.states.specs.Spots.{nextTurn}
@@ -29,6 +30,16 @@ first-law f plan mask a x =
     let ks = count 0 (plan .done + 1) in
     let may : ℕ → Bool = λ k. eqb (bitOf mask k) 1 in
     loop-map f (λ k. stateIn plan a k 0) (filt may ks) x ∙ (loop-filt (λ k. f (stateIn plan a k 0)) may ks x ∙ loop-count _ 0 (plan .done + 1) x)
+
+-- ---- the nearest
+
+-- the word of the nearest so far, after position k
+unfoldable pub nearTurn : Plan → List ℕ → ℕ → ℕ → ℕ → ℕ → ℕ
+nearTurn plan D mask a k v = cond (eqb (bitOf mask k) 1) (lesserWord v (getD D (stateIn plan a k 0) 0)) v
+
+pub nearest-law : (plan : Plan) (D : List ℕ) (mask a : ℕ) → nearestWord D (firstStates plan mask a) ≡ turns (nearTurn plan D mask a) 0 (plan .done + 1) 0
+unfolding nearestWord nearTurn
+nearest-law plan D mask a = first-law (λ s v. lesserWord v (getD D s 0)) plan mask a 0
 
 -- ---- the first frontier
 

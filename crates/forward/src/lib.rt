@@ -1,5 +1,5 @@
-// Forward by one line from one state: the states to which it leads are visited. Marks and frontier are phase two's pair of stretches, after
-// the distances. The checker and phase two of the finder go by this.
+// Forward by one line from one state: the states to which it leads are visited; and the first states of a search. Marks and frontier are
+// phase two's pair of stretches, after the distances. The checker and both phases of the finder go by this.
 ghost use mathlib.Core.Path.{_≡_};
 ghost use Prim.Native.Nat.{ℕ, suc, _+_, _*_, _^_, _/_, _%_, _≤_, _<_};
 ghost use lib.ListN.{length};
@@ -9,8 +9,10 @@ ghost use Rattle.search.specs.Front.{stateIn};
 ghost use Rattle.search.specs.Loaded.{settingAt};
 ghost use Rattle.search.specs.Loops.{turns};
 ghost use Rattle.search.specs.Moves.{onward};
-ghost use Rattle.states.specs.Pairs.{ReadyForth, StepForth, seen};
+ghost use Rattle.search.specs.PhaseTwo.{lesserWord, nearestWord};
+ghost use Rattle.states.specs.Pairs.{distances, ReadyForth, StepForth, seen};
 ghost use Rattle.states.specs.Spots.{Fit, nextTurn};
+ghost use Rattle.forward.specs.Firsts.{firstStates, nearTurn};
 use request::Plan;
 
 // The state `t` is visited: it comes into the frontier if its distance's word is `want`; 0 wants every state.
@@ -113,4 +115,46 @@ pub fn from_state(
         }
     }
     tail
+}
+
+// ---- the first states: those at the place `from`, at the positions of the mask `begin`
+
+// The lesser of two words, where 0 stands for no distance.
+fn lesser(v: u32, w: u32) -> u32
+    ensures { λ r. ⌜ r ≡ lesserWord v w ⌝ }
+{
+    if v == 0 {
+        return w;
+    }
+    if w == 0 {
+        return v;
+    }
+    if v < w { v } else { w }
+}
+
+// The word of the nearest first state, after position `k`.
+fn one_first(work: &[u32], plan: Plan, begin: u64, from: usize, k: usize, v: u32) -> u32
+    requires { ⌜ Laid plan (length (now work)) ⌝ }
+    requires { ⌜ (from < plan .places) × (k ≤ plan .done) ⌝ }
+    ensures { λ r. ⌜ r ≡ nearTurn plan (distances plan (now (work .entry))) begin from k v ⌝ }
+{
+    if (begin >> k) % 2 == 1 {
+        let s = states::state_at(plan, from, k, 0);
+        return lesser(v, states::word(work, plan.base + s));
+    }
+    v
+}
+
+// The word of the nearest first state: those at the place `from`, at the positions of the mask `begin`. 0 where none has a distance.
+pub fn nearest(work: &[u32], plan: Plan, begin: u64, from: usize) -> u32
+    requires { ⌜ Laid plan (length (now work)) ⌝ }
+    requires { ⌜ from < plan .places ⌝ }
+    ensures { λ r. ⌜ r ≡ nearestWord (distances plan (now (work .entry))) (firstStates plan begin from) ⌝ }
+{
+    let positions = plan.done + 1;
+    let mut v = 0;
+    for k in 0..positions {
+        v = one_first(work, plan, begin, from, k, v);
+    }
+    v
 }

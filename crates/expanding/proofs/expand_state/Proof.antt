@@ -1,33 +1,33 @@
 -- `expanding::expand_state` meets its contract, by what is left of the turns over positions, which are the expansion of the setting. Assumes nothing.
 use mathlib.Core.Path.{sym, ap, _∙_, subst₂}
 use mathlib.Core.Logic.{⊎-elim}
-use Prim.Native.Nat.{_-_, _≤_}
+use mathlib.Core.List.{List}
+use Prim.Native.Nat.{ℕ, _-_, _≤_}
 use native.Mathlib.Nat.{sub-zero}
 use native.Mathlib.Omega.{arith}
-use Rattle.automaton.specs.Columns.{Columns, columns}
 use Rattle.search.specs.Loops.{turns}
 use Rattle.states.specs.Area.{found, Under, Step}
 use Rattle.search.specs.Loaded.{settingIn}
 use Rattle.search.specs.Moves.{expand}
 use Rattle.states.specs.Spots.{front, Fit, spotTurn}
-use Rattle.states.proofs.Bounds.{stacks-pos, power-small}
+use Rattle.states.proofs.Bounds.{stacks-pos, power-small, aimed}
 use Rattle.expanding.proofs.Bridge.{expand-is}
-use Rattle.expanding.proofs.Backs.{spot-passed, backing-under, aimed}
+use Rattle.expanding.proofs.Backs.{spot-passed, backing-under}
 use Rattle.states.proofs.Changes.{under-as, step-none, loop-turn, loop-end, under-front}
 use borrow.Author.Needs.{needs}
 use Rattle.expanding.proofs.expand_state.Statement.{statement}
 use Rattle.expanding.proofs.expand_state.Tie as tie
 
 abbrev Inv-loop : tie.InvT-loop
-Inv-loop work₀ plan filed kinds tests levels depths pushes follow d t tail target done u₀ c₀ work u c = (c ≤ plan .done) × Under (plan .base) (plan .size) (expand (settingIn (columns kinds tests levels depths pushes follow) plan (front plan work₀)) d t) tail work₀ (turns (spotTurn (columns kinds tests levels depths pushes follow) plan (front plan work₀) target d) c (plan .done - c)) u work
+Inv-loop work₀ plan filed program d t tail target done u₀ c₀ work u c = (c ≤ plan .done) × Under (plan .base) (plan .size) (expand (settingIn program plan (front plan work₀)) d t) tail work₀ (turns (spotTurn program plan (front plan work₀) target d) c (plan .done - c)) u work
 
 abbrev μ-loop : tie.MeasureT-loop
-μ-loop work₀ plan filed kinds tests levels depths pushes follow d t tail target done u₀ c₀ work u c = plan .done - c
+μ-loop work₀ plan filed program d t tail target done u₀ c₀ work u c = plan .done - c
 
-abbrev cols : tie.Start Inv-loop μ-loop → Columns
-cols c = columns (c .args .kinds .now) (c .args .tests .now) (c .args .levels .now) (c .args .depths .now) (c .args .pushes .now) (c .args .follow .now)
+abbrev prog : tie.Start Inv-loop μ-loop → List ℕ
+prog c = c .args .program .now
 
-fit : (c : tie.Start Inv-loop μ-loop) → Fit (c .args .plan) (cols c) (c .args .work .now)
+fit : (c : tie.Start Inv-loop μ-loop) → Fit (c .args .plan) (prog c) (c .args .work .now)
 fit c = c .pre .1 .0 .fit
 
 target-of-requires : tie.Need-target-of-requires Inv-loop μ-loop
@@ -40,8 +40,8 @@ loop-holds c =
     let plan = a .args .plan in
     let g = front plan (a .args .work .now) in
     let st = found (plan .base) (plan .size) (a .args .tail) (a .args .work .now) in
-    let aim = ap (λ x. turns (spotTurn (cols a) plan g x (a .args .d)) 0 (plan .done) st) (c .target-of .ensures) in
-    (omega arith, rw sub-zero (under-as _ _ (a .pre .0) (aim ∙ sym (expand-is (cols a) plan g (laid .stacks-is) (laid .few-commands) (a .args .d) (a .args .t) st))))
+    let aim = ap (λ x. turns (spotTurn (prog a) plan g x (a .args .d)) 0 (plan .done) st) (c .target-of .ensures) in
+    (omega arith, rw sub-zero (under-as _ _ (a .pre .0) (aim ∙ sym (expand-is (prog a) plan g (laid .stacks-is) (laid .few-commands) (a .args .d) (a .args .t) st))))
 
 mul-if1 : tie.Need-mul-if1 Inv-loop μ-loop
 mul-if1 c = omega (arith, c .loop-test .taken, fit (c .before .before .before .before) .laid .few-commands)
@@ -63,16 +63,16 @@ one-spot-requires c κs =
 
 -- a position that the state's may come after is gone back to, and another does nothing
 step-of : (c : tie.Joined1 Inv-loop μ-loop) → let a = c .before .before .before .before .before .before in let l = c .before .before .before .loop in
-    Step (a .args .plan .base) (a .args .plan .size) (spotTurn (cols a) (a .args .plan) (front (a .args .plan) (a .args .work .now)) (c .before .before .before .before .target-of .result) (a .args .d) (l .c)) (l .u) (l .work) (c .if1 .u) (c .if1 .work)
+    Step (a .args .plan .base) (a .args .plan .size) (spotTurn (prog a) (a .args .plan) (front (a .args .plan) (a .args .work .now)) (c .before .before .before .before .target-of .result) (a .args .d) (l .c)) (l .u) (l .work) (c .if1 .u) (c .if1 .work)
 step-of c =
     let a = c .before .before .before .before .before .before in
     let l = c .before .before .before .loop in
     let plan = a .args .plan in
-    let turn = spotTurn (cols a) plan (front plan (a .args .work .now)) (c .before .before .before .before .target-of .result) (a .args .d) (l .c) in
+    let turn = spotTurn (prog a) plan (front plan (a .args .work .now)) (c .before .before .before .before .target-of .result) (a .args .d) (l .c) in
     let same = under-front (l .inv .1) (plan .base) (omega arith) in
     ⊎-elim
     (λ m. subst₂ (λ u w. Step (plan .base) (plan .size) turn (l .u) (l .work) u w) (sym (m .6)) (sym (m .5)) (rw same at (m .2 .ensures)))
-    (λ m. subst₂ (λ u w. Step (plan .base) (plan .size) turn (l .u) (l .work) u w) (sym (m .2)) (sym (m .1)) (step-none turn (l .inv .1 .ready) (spot-passed (cols a) plan _ _ _ _ _ (m .0 .left))))
+    (λ m. subst₂ (λ u w. Step (plan .base) (plan .size) turn (l .u) (l .work) u w) (sym (m .2)) (sym (m .1)) (step-none turn (l .inv .1 .ready) (spot-passed (prog a) plan _ _ _ _ _ (m .0 .left))))
     (c .if1 .came)
 
 add-c : tie.Need-add-c Inv-loop μ-loop

@@ -1,10 +1,10 @@
 -- `expanding::one_spot` meets its contract: the lines that lead back to the position, by a way or all of them. Assumes nothing.
 use mathlib.Core.Path.{_≡_, sym, ap, subst}
+use mathlib.Core.List.{List}
 use Prim.Native.Nat.{ℕ, _-_, _^_, _≤_}
 use native.Mathlib.Omega.{arith}
 use lib.Dec.{eqb}
 use lib.ListN.{length, getD}
-use Rattle.automaton.specs.Columns.{Columns, columns}
 use Rattle.automaton.specs.Shape.{deeper}
 use Rattle.states.specs.Spots.{Fit, spotIn}
 use Rattle.states.specs.declared.Spot.{Spot}
@@ -16,10 +16,10 @@ use borrow.Author.Needs.{needs}
 use Rattle.expanding.proofs.one_spot.Statement.{statement}
 use Rattle.expanding.proofs.one_spot.Tie as tie
 
-abbrev cols : tie.Start → Columns
-cols c = columns (c .args .kinds .now) (c .args .tests .now) (c .args .levels .now) (c .args .depths .now) (c .args .pushes .now) (c .args .follow .now)
+abbrev prog : tie.Start → List ℕ
+prog c = c .args .program .now
 
-fit : (c : tie.Start) → Fit (c .args .plan) (cols c) (c .args .work .now)
+fit : (c : tie.Start) → Fit (c .args .plan) (prog c) (c .args .work .now)
 fit c = c .pre .1 .0 .fit
 
 -- the depth after the position
@@ -44,7 +44,7 @@ leaves-of-requires : tie.Need-leaves-of-requires
 leaves-of-requires c κs = search needs
 
 -- what the way is chosen from
-before : (a : tie.Start) (s : Spot) → s ≡ spotIn (cols a) (a .args .plan .radix) (a .args .c) → (leaves : ℕ) → leaves ≡ deep a → Before (a .args .plan) s (a .args .target) (a .args .c) leaves
+before : (a : tie.Start) (s : Spot) → s ≡ spotIn (prog a) (a .args .plan .radix) (a .args .c) → (leaves : ℕ) → leaves ≡ deep a → Before (a .args .plan) s (a .args .target) (a .args .c) leaves
 unfolding spotIn
 before a s is leaves deep-is =
     let f = fit a in
@@ -71,7 +71,7 @@ same-length c = search needs
 returns : tie.Need-returns
 returns c =
     let a = c .before .before .before .before .before .before .before .before .before .before in
-    step-as _ (c .before .before .over-way .ensures) (spot-taken (cols a) _ _ _ _ _ _ (a .pre .1 .1 .1 .3) _ _ (c .before .before .before .before .before .before .before .before .spot-at .ensures) (ap (λ z. a .args .plan .radix ^ (z - a .args .target .depth)) (c .before .before .before .before .before .leaves-of .ensures)))
+    step-as _ (c .before .before .over-way .ensures) (spot-taken (prog a) _ _ _ _ _ _ (a .pre .1 .1 .1 .3) _ _ (c .before .before .before .before .before .before .before .before .spot-at .ensures) (ap (λ z. a .args .plan .radix ^ (z - a .args .target .depth)) (c .before .before .before .before .before .leaves-of .ensures)))
 
 by-stack-requires : tie.Need-by-stack-requires
 by-stack-requires c κs =
@@ -85,7 +85,7 @@ same-length-2 c = search needs
 returns-2 : tie.Need-returns-2
 returns-2 c =
     let a = c .before .before .before .before .before .before .before .before .before .before in
-    step-as _ (c .before .before .by-stack .ensures) (spot-taken (cols a) _ _ _ _ _ _ (a .pre .1 .1 .1 .3) _ _ (c .before .before .before .before .before .before .before .before .spot-at .ensures) (ap (λ z. a .args .plan .radix ^ (z - a .args .target .depth)) (c .before .before .before .before .before .leaves-of .ensures)))
+    step-as _ (c .before .before .by-stack .ensures) (spot-taken (prog a) _ _ _ _ _ _ (a .pre .1 .1 .1 .3) _ _ (c .before .before .before .before .before .before .before .before .spot-at .ensures) (ap (λ z. a .args .plan .radix ^ (z - a .args .target .depth)) (c .before .before .before .before .before .leaves-of .ensures)))
 
 pub one-spot-spec : {M : Type 1} → statement M
 one-spot-spec =

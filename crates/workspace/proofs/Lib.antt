@@ -1,3 +1,0 @@
-pub mod Ahead
-pub mod Stopping
-pub mod Places
