@@ -7,30 +7,30 @@ use native.Mathlib.Omega.{arith}
 use lib.ListN.{length}
 use Rattle.meaning.specs.Outcome.{refused, passed}
 use Rattle.meaning.specs.Request.{Asked, askRequest}
-use Rattle.automaton.specs.Columns.{Columns, Compiled}
+use Rattle.automaton.specs.Program.{Compiled}
 use Rattle.automaton.specs.Limits.{compiled-start}
 use Rattle.request.specs.declared.Plan.{Plan}
 use Rattle.search.specs.Answer.{answer}
 use Rattle.search.specs.Loaded.{settingIn}
 use Rattle.search.specs.Moves.{expand, fromState, expand-law, from-law}
 use Rattle.search.specs.ReadBack.{loaded-ended}
-use Rattle.workspace.specs.Chosen.{firstStates}
-use Rattle.workspace.specs.Posed.{Posed}
+use Rattle.forward.specs.Firsts.{firstStates}
+use Rattle.forward.specs.Posed.{Posed}
 use Rattle.states.specs.Spots.{front}
-use Rattle.workspace.proofs.Firsts.{first-states}
-use Rattle.workspace.proofs.Posing.{posed-plan, posed-tables}
+use Rattle.forward.proofs.Firsts.{first-states}
+use Rattle.forward.proofs.Posing.{posed-plan, posed-tables}
 use Rattle.finder.specs.Reply.{stopped, settled, findOf}
 use Rattle.finder.specs.Searching.{Searched, SearchedIn}
 
 pub posed-searched : {q : Asked} {pat : List ℕ} {plan : Plan} {from to : ℕ} {w : List ℕ} (posed : Posed q pat plan from to w)
-    → {cols : Columns} {begin : ℕ} (compiled : Compiled (q .pattern) cols begin) {word : ℕ} {out after : List ℕ}
-    → SearchedIn (settingIn cols plan (front plan w)) plan (firstStates plan begin from) to word out after
+    → {program : List ℕ} {begin : ℕ} (compiled : Compiled (q .pattern) program begin) {word : ℕ} {out after : List ℕ}
+    → SearchedIn (settingIn program plan (front plan w)) plan (firstStates plan begin from) to word out after
     → Searched (answer (q .day .lines) (q .day .places) (q .pattern) from to) word out after
-posed-searched {q} {plan = plan} {from} {to} {w} posed {cols} {begin} compiled {word} {out} {after} s =
-    let S = settingIn cols plan (front plan w) in
-    let first = first-states cols plan (length w) (posed .laid) (front plan w) begin from (λ k m. omega (arith, posed .planned .done-is, compiled-start compiled k m .0)) in
+posed-searched {q} {plan = plan} {from} {to} {w} posed {program} {begin} compiled {word} {out} {after} s =
+    let S = settingIn program plan (front plan w) in
+    let first = first-states program plan (length w) (posed .laid) (front plan w) begin from (λ k m. omega (arith, posed .planned .done-is, compiled-start compiled k m .0)) in
     let x = subst (λ firsts. SearchedIn S plan firsts to word out after) first s in
-    let found = loaded-ended (q .day .lines) (q .day .places) (q .pattern) plan (length w) (posed-plan posed) (posed .laid) (front plan w) (posed-tables posed) (posed .fit) cols begin compiled from to
+    let found = loaded-ended (q .day .lines) (q .day .places) (q .pattern) plan (length w) (posed-plan posed) (posed .laid) (front plan w) (posed-tables posed) (posed .fit) program begin compiled from to
     (expand S) (expand-law S) (fromState S) (from-law S) (posed .from-low) (posed .to-low) (x .count) (x .ended) in
     subst (λ o. Searched o word out after) found (x .searched)
 

@@ -15,7 +15,7 @@ use Rattle.search.specs.Product.{Setting}
 use Rattle.search.specs.Moves.{expand, fromState}
 use Rattle.states.specs.Area.{stretch, found, Outside, outside}
 use Rattle.states.specs.Spots.{front}
-use Rattle.workspace.specs.Stopped.{fromGoal, tableAfter, Stopped}
+use Rattle.backward.specs.Stopped.{fromGoal, tableAfter, Stopped}
 use Rattle.finder.specs.Searching.{Searched, reachedIn, SearchedIn}
 
 walk-long : (E : ℕ → ℕ → ℕ → Search → Search) (m k lo : ℕ) (st : Search) → length (walk E m k lo st) ≡ k

@@ -17,7 +17,7 @@ use Rattle.search.specs.Early.{Ended}
 use Rattle.search.specs.PhaseOne.{Progress, begun, advanceBy}
 use Rattle.search.specs.PhaseTwo.{forward}
 use Rattle.search.specs.Product.{Setting}
-use Rattle.workspace.specs.Posed.{Posed}
+use Rattle.forward.specs.Posed.{Posed}
 use Rattle.finder.specs.Reply.{chain, too-long, settled, Said, found, none-found, refusal, said, outAfter}
 
 abbrev pub wordOf : Option (List ℕ) → ℕ

@@ -5,11 +5,10 @@ ghost use mathlib.Core.Path.{_≡_};
 ghost use Prim.Native.Nat.{_<_};
 ghost use lib.ListN.{length};
 ghost use Rattle.meaning.specs.Request.{askRequest, workAfter};
-ghost use Rattle.automaton.specs.Columns.{columns};
-ghost use Rattle.search.specs.Loaded.{settingIn};
-ghost use Rattle.workspace.specs.Chosen.{firstStates};
-ghost use Rattle.states.specs.Spots.{front, Fit};
-ghost use Rattle.workspace.specs.Posed.{SomePosed};
+ghost use Rattle.search.specs.Loaded.{settingAt};
+ghost use Rattle.forward.specs.Firsts.{firstStates};
+ghost use Rattle.states.specs.Spots.{Fit};
+ghost use Rattle.forward.specs.Posed.{SomePosed};
 ghost use Rattle.finder.specs.Reply.{findReply, findOf, said, outAfter};
 ghost use Rattle.finder.specs.Demand.{Demand3};
 ghost use Rattle.finder.specs.Searching.{toldBy, SearchedIn, RightFor};
@@ -28,57 +27,26 @@ pub enum FindReply {
 fn both_phases(
     work: &mut [u32],
     plan: Plan,
-    kinds: &[u8; 64],
-    tests: &[u8; 64],
-    levels: &[u8; 64],
-    depths: &[u8; 64],
-    pushes: &[u8; 64],
-    follow: &[u64; 64],
+    program: &[u64; 128],
     begin: u64,
     from: usize,
     to: usize,
     out: &mut [u16],
 ) -> u32
-    requires { ⌜ Fit plan (columns (now kinds) (now tests) (now levels) (now depths) (now pushes) (now follow)) (now work) ⌝ }
+    requires { ⌜ Fit plan (now program) (now work) ⌝ }
     requires { ⌜ (from < plan .places) × (to < plan .places) ⌝ }
-    ensures { λ r. ⌜ SearchedIn (settingIn (columns (now (kinds .entry)) (now (tests .entry)) (now (levels .entry)) (now (depths .entry)) (now (pushes .entry)) (now (follow .entry))) plan (front plan (now (work .entry)))) plan (firstStates plan begin from) to r (now (out .entry)) (now (out .exit)) ⌝ }
+    ensures { λ r. ⌜ SearchedIn (settingAt (now (program .entry)) plan (now (work .entry))) plan (firstStates plan begin from) to r (now (out .entry)) (now (out .exit)) ⌝ }
 {
     let filed = ways::file_lines(work, plan);
-    workspace::distances(
-        work,
-        plan,
-        filed,
-        kinds,
-        tests,
-        levels,
-        depths,
-        pushes,
-        follow,
-        begin,
-        from,
-        to,
-    );
-    let nearest = workspace::nearest(work, plan, begin, from);
+    backward::distances(work, plan, filed, program, begin, from, to);
+    let nearest = forward::nearest(work, plan, begin, from);
     if nearest == 0 {
         return nearest;
     }
     if out.len() < nearest as usize - 1 {
         return nearest;
     }
-    workspace::chain_into(
-        work,
-        plan,
-        kinds,
-        tests,
-        levels,
-        depths,
-        pushes,
-        follow,
-        begin,
-        from,
-        nearest,
-        out,
-    );
+    walk::chain_into(work, plan, program, begin, from, nearest, out);
     nearest
 }
 
@@ -94,35 +62,9 @@ fn search_loaded(
     requires { ⌜ SomePosed (now pattern) plan from to (now work) ⌝ }
     ensures { λ r. ⌜ RightFor (now (pattern .entry)) plan from to (now (work .entry)) r (now (out .entry)) (now (out .exit)) ⌝ }
 {
-    let mut kinds: [u8; 64] = [0; 64];
-    let mut tests: [u8; 64] = [0; 64];
-    let mut levels: [u8; 64] = [0; 64];
-    let mut depths: [u8; 64] = [0; 64];
-    let mut pushes: [u8; 64] = [0; 64];
-    let mut follow: [u64; 64] = [0; 64];
-    let begin = compiler::compile(
-        pattern,
-        &mut kinds,
-        &mut tests,
-        &mut levels,
-        &mut depths,
-        &mut pushes,
-        &mut follow,
-    );
-    both_phases(
-        work,
-        plan,
-        &kinds,
-        &tests,
-        &levels,
-        &depths,
-        &pushes,
-        &follow,
-        begin,
-        from,
-        to,
-        out,
-    )
+    let mut program: [u64; 128] = [0; 128];
+    let begin = compiler::compile(pattern, &mut program);
+    both_phases(work, plan, &program, begin, from, to, out)
 }
 
 // Question 19, one more than the chain's length being known, or 0 where there is none.

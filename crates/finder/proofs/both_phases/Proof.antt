@@ -3,26 +3,26 @@ use mathlib.Core.Path.{_≡_, _∙_}
 use mathlib.Core.List.{List}
 use Prim.Native.Nat.{ℕ}
 use native.Mathlib.Omega.{arith}
-use Rattle.automaton.specs.Columns.{Columns, columns}
 use Rattle.search.specs.Loaded.{settingIn}
 use Rattle.search.specs.Moves.{expand}
 use Rattle.search.specs.Product.{Setting}
 use Rattle.states.specs.Spots.{front}
-use Rattle.workspace.specs.Chosen.{firstStates}
+use Rattle.forward.specs.Firsts.{firstStates}
 use Rattle.states.specs.Spots.{Fit}
-use Rattle.workspace.specs.Stopped.{fromGoal, Stopped}
+use Rattle.backward.specs.Stopped.{fromGoal, Stopped}
 use Rattle.sorting.proofs.Turns.{kept-take}
-use Rattle.expanding.proofs.Backs.{fit-same, told-fit}
+use Rattle.states.proofs.Bounds.{fit-same}
+use Rattle.expanding.proofs.Backs.{told-fit}
 use Rattle.finder.proofs.Written.{tables-same, told-none, told-long, told-written}
 use borrow.Author.Needs.{needs}
 use Rattle.finder.proofs.both_phases.Statement.{statement}
 use Rattle.finder.proofs.both_phases.Tie as tie
 
-abbrev cols : tie.Start → Columns
-cols a = columns (a .args .kinds .now) (a .args .tests .now) (a .args .levels .now) (a .args .depths .now) (a .args .pushes .now) (a .args .follow .now)
+abbrev prog : tie.Start → List ℕ
+prog a = a .args .program .now
 
 abbrev setting : tie.Start → Setting
-setting a = settingIn (cols a) (a .args .plan) (front (a .args .plan) (a .args .work .now))
+setting a = settingIn (prog a) (a .args .plan) (front (a .args .plan) (a .args .work .now))
 
 abbrev firsts : tie.Start → List ℕ
 firsts a = firstStates (a .args .plan) (a .args .begin) (a .args .from)
@@ -39,7 +39,7 @@ start k = k .before .before .before .before
 front-same : (k : tie.After-file-lines) → front (start k .args .plan) (k .file-lines .last .0) ≡ front (start k .args .plan) (start k .args .work .now)
 front-same k = kept-take (k .file-lines .ensures .1) (start k .args .plan .base) (omega arith)
 
-fit : (k : tie.After-file-lines) → Fit (start k .args .plan) (cols (start k)) (k .file-lines .last .0)
+fit : (k : tie.After-file-lines) → Fit (start k .args .plan) (prog (start k)) (k .file-lines .last .0)
 fit k = fit-same (k .file-lines .ensures .1 .long) (front-same k) (start k .pre .0)
 
 distances-requires : tie.Need-distances-requires

@@ -11,7 +11,7 @@ use Rattle.request.specs.Reply.{Numbers, requestNumber}
 use Rattle.request.specs.Told.{Parts, asked-parts, answers-refused, Told, answers-asked, told-loading, all-zero}
 use Rattle.request.specs.declared.Plan.{Plan}
 use Rattle.search.specs.Answer.{answer}
-use Rattle.workspace.proofs.Posing.{posed-from}
+use Rattle.forward.proofs.Posing.{posed-from}
 use Rattle.finder.specs.Reply.{Finding, findOf, Said, refusal, said, outAfter}
 use Rattle.finder.specs.Demand.{Demand3, finds}
 use Rattle.finder.specs.Searching.{told-by, toldBy}

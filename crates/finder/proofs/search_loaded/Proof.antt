@@ -2,7 +2,7 @@
 -- Assumes nothing.
 use mathlib.Core.Path.{sym, subst}
 use Prim.Native.Nat.{_<_}
-use Rattle.workspace.proofs.Posing.{posed-fit}
+use Rattle.forward.proofs.Posing.{posed-fit}
 use Rattle.finder.proofs.Answering.{posed-searched}
 use borrow.Author.Needs.{needs}
 use Rattle.finder.proofs.search_loaded.Statement.{statement}
