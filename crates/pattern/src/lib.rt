@@ -189,13 +189,6 @@ pub fn begin_at<'a>(src: &'a [u8], at: usize) -> Reader<'a>
     Reader { src, at }
 }
 
-// The reader's place.
-pub fn position<'a>(r: Reader<'a>) -> usize
-    ensures { λ n. ⌜ n ≡ r .entry .at ⌝ }
-{
-    r.at
-}
-
 // The command at the reader's place, asked what `command_at` asks.
 pub fn next_command<'a>(r: Reader<'a>, before: usize, kept: [u8; 4], depth: usize) -> Command
     ensures { λ c. ⌜ commandShown c ≡ commandAt (now (r .entry .src)) (r .entry .at) before kept depth ⌝ }
