@@ -15,6 +15,7 @@ use Rattle.record.specs.Outcomes.{passed-inj, andThen-passed}
 use Rattle.record.specs.Whole.{linesIn, linesOf}
 use Rattle.pattern.specs.Reply.{Counts, patternReply, counted}
 use Rattle.pattern.specs.declared.PatternReply.the-variants as Said
+use Rattle.request.specs.Layout.{largest}
 use Rattle.request.specs.Reply.{bothTold, sizingTold, measuredTold}
 use Rattle.request.specs.declared.Both.the-variants as Both
 use Rattle.request.specs.declared.Measured.the-variants as Measured
@@ -75,18 +76,18 @@ module _ (lines : List Line) (places c k : ℕ) where
   abbrev size : ℕ
   size = places * suc c * suc (length (boats lines)) ^ k
 
-  pub above : Measured.Above ≡ measuredTold lines places c k → leb size 1048576 ≡ false
-  above h = go (leb size 1048576) h
+  pub above : Measured.Above ≡ measuredTold lines places c k → leb size largest ≡ false
+  above h = go (leb size largest) h
     where
       go : (b : Bool) → Measured.Above ≡ cond b (Measured.Size (length (boats lines)) size) Measured.Above → b ≡ false
       go true t = absurd (let z : _≡_ {A = ℕ} 0 1 = cc in omega arith)
       go false t = refl
 
-  pub measured : (b n : ℕ) → Measured.Size b n ≡ measuredTold lines places c k → (leb size 1048576 ≡ true) × (b ≡ length (boats lines)) × (n ≡ size) × (n ≤ 1048576)
-  measured b n h = go (leb size 1048576) refl h
+  pub measured : (b n : ℕ) → Measured.Size b n ≡ measuredTold lines places c k → (leb size largest ≡ true) × (b ≡ length (boats lines)) × (n ≡ size) × (n ≤ largest)
+  measured b n h = go (leb size largest) refl h
     where
-      go : (t : Bool) → leb size 1048576 ≡ t → Measured.Size b n ≡ cond t (Measured.Size (length (boats lines)) size) Measured.Above → (leb size 1048576 ≡ true) × (b ≡ length (boats lines)) × (n ≡ size) × (n ≤ 1048576)
-      go true q t = let same : n ≡ size = cc in (q, cc, same, omega (arith, same, leb-true size 1048576 q))
+      go : (t : Bool) → leb size largest ≡ t → Measured.Size b n ≡ cond t (Measured.Size (length (boats lines)) size) Measured.Above → (leb size largest ≡ true) × (b ≡ length (boats lines)) × (n ≡ size) × (n ≤ largest)
+      go true q t = let same : n ≡ size = cc in (q, cc, same, omega (arith, same, leb-true size largest q))
       go false q t = absurd (let z : _≡_ {A = ℕ} 0 1 = cc in omega arith)
 
 -- the size as the code steps to it
@@ -95,19 +96,19 @@ module _ (lines : List Line) (places c k b : ℕ) (e : b ≡ length (boats lines
   stepped = ap (λ (r : ℕ). places * suc c * r ^ k) (add-one b ∙ ap suc e)
 
   pub sizing-above : Sizing.Above ≡ sizingTold (places * suc c * (b + 1) ^ k) → Measured.Above ≡ measuredTold lines places c k
-  sizing-above h = go (leb (places * suc c * (b + 1) ^ k) 1048576) refl h
+  sizing-above h = go (leb (places * suc c * (b + 1) ^ k) largest) refl h
     where
-      go : (t : Bool) → leb (places * suc c * (b + 1) ^ k) 1048576 ≡ t → Sizing.Above ≡ cond t (Sizing.Size (places * suc c * (b + 1) ^ k)) Sizing.Above → Measured.Above ≡ measuredTold lines places c k
+      go : (t : Bool) → leb (places * suc c * (b + 1) ^ k) largest ≡ t → Sizing.Above ≡ cond t (Sizing.Size (places * suc c * (b + 1) ^ k)) Sizing.Above → Measured.Above ≡ measuredTold lines places c k
       go true q t = absurd (let z : _≡_ {A = ℕ} 0 1 = cc in omega arith)
-      go false q t = sym (ap (λ (x : Bool). cond x (Measured.Size (length (boats lines)) (places * suc c * suc (length (boats lines)) ^ k)) Measured.Above) (ap (λ (n : ℕ). leb n 1048576) (sym stepped) ∙ q))
+      go false q t = sym (ap (λ (x : Bool). cond x (Measured.Size (length (boats lines)) (places * suc c * suc (length (boats lines)) ^ k)) Measured.Above) (ap (λ (n : ℕ). leb n largest) (sym stepped) ∙ q))
 
   pub sizing-size : (n : ℕ) → Sizing.Size n ≡ sizingTold (places * suc c * (b + 1) ^ k) → Measured.Size b n ≡ measuredTold lines places c k
-  sizing-size n h = go (leb (places * suc c * (b + 1) ^ k) 1048576) refl h
+  sizing-size n h = go (leb (places * suc c * (b + 1) ^ k) largest) refl h
     where
-      go : (t : Bool) → leb (places * suc c * (b + 1) ^ k) 1048576 ≡ t → Sizing.Size n ≡ cond t (Sizing.Size (places * suc c * (b + 1) ^ k)) Sizing.Above → Measured.Size b n ≡ measuredTold lines places c k
+      go : (t : Bool) → leb (places * suc c * (b + 1) ^ k) largest ≡ t → Sizing.Size n ≡ cond t (Sizing.Size (places * suc c * (b + 1) ^ k)) Sizing.Above → Measured.Size b n ≡ measuredTold lines places c k
       go true q t =
           let size : n ≡ places * suc c * (b + 1) ^ k = cc in
-          sym (ap (λ (x : Bool). cond x (Measured.Size (length (boats lines)) (places * suc c * suc (length (boats lines)) ^ k)) Measured.Above) (ap (λ (m : ℕ). leb m 1048576) (sym stepped) ∙ q) ∙ cc (e, size, stepped))
+          sym (ap (λ (x : Bool). cond x (Measured.Size (length (boats lines)) (places * suc c * suc (length (boats lines)) ^ k)) Measured.Above) (ap (λ (m : ℕ). leb m largest) (sym stepped) ∙ q) ∙ cc (e, size, stepped))
       go false q t = absurd (let z : _≡_ {A = ℕ} 0 1 = cc in omega arith)
 
 -- ---- questions 15 to 17
@@ -128,11 +129,11 @@ module _ (rec pat : List ℕ) (from to area : ℕ) (q : Asked) (e : askBoth rec 
     asked-to h = simp (e, lt-ltb _ _ f, le-ltb _ _ h)
 
     module _ (t : to < q .day .places) where
-      pub asked-size : leb (sizeOf q) 1048576 ≡ false → askRequest rec pat from to area ≡ refused 16
+      pub asked-size : leb (sizeOf q) largest ≡ false → askRequest rec pat from to area ≡ refused 16
       unfolding askRequest
       asked-size h = simp (e, lt-ltb _ _ f, lt-ltb _ _ t, h)
 
-      module _ (s : leb (sizeOf q) 1048576 ≡ true) where
+      module _ (s : leb (sizeOf q) largest ≡ true) where
         pub asked-room : area < need (sizeOf q) → askRequest rec pat from to area ≡ refused 17
         unfolding askRequest
         asked-room h = simp (e, lt-ltb _ _ f, lt-ltb _ _ t, s, lt-leb _ _ h)
@@ -150,10 +151,10 @@ module _ (rec pat : List ℕ) where
   unfolding wordsOf
   words-refused number e = simp e
 
-  pub words-above : (q : Asked) → askBoth rec pat ≡ passed q → leb (sizeOf q) 1048576 ≡ false → wordsOf rec pat ≡ refused 16
+  pub words-above : (q : Asked) → askBoth rec pat ≡ passed q → leb (sizeOf q) largest ≡ false → wordsOf rec pat ≡ refused 16
   unfolding wordsOf
   words-above q e h = simp (e, h)
 
-  pub words-are : (q : Asked) → askBoth rec pat ≡ passed q → leb (sizeOf q) 1048576 ≡ true → wordsOf rec pat ≡ passed (need (sizeOf q))
+  pub words-are : (q : Asked) → askBoth rec pat ≡ passed q → leb (sizeOf q) largest ≡ true → wordsOf rec pat ≡ passed (need (sizeOf q))
   unfolding wordsOf
   words-are q e h = simp (e, h)

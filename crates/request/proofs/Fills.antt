@@ -2,12 +2,11 @@
 -- it was. Assumes nothing.
 use mathlib.Core.Path.{_≡_, refl, sym, ap, _∙_}
 use mathlib.Core.List.{List, [], _∷_, _++_, append-nil}
-use Prim.Native.Nat.{ℕ, zero, suc, _+_, _-_, _<_}
+use Prim.Native.Nat.{ℕ, zero, suc, _+_, _<_}
 use native.Mathlib.Numerals.{add-one}
 use native.Mathlib.Omega.{arith}
 use lib.ListN.{length, getD, take, drop, set}
-use lib.Seq.{take-length, drop-length, take-at, drop-at}
-use borrow.Rule.Slice.PartMut.{putMid}
+use lib.Seq.{take-length, drop-length}
 
 abbrev pub filled : List ℕ → ℕ → List ℕ → List ℕ
 filled xs n part = take n xs ++ drop n part
@@ -27,11 +26,3 @@ pub fill-all : (xs part : List ℕ) (n : ℕ) → length xs ≡ length part → 
 fill-all xs part n same all =
     ap (λ m. take m xs ++ drop n part) (all ∙ sym same)
     ∙ (ap (λ t. t ++ drop n part) (take-length xs) ∙ (ap (λ m. xs ++ drop m part) all ∙ (ap (λ t. xs ++ t) (drop-length part) ∙ append-nil xs)))
-
--- ---- a lent middle part that comes back
-
-pub put-between : (p q r ys : List ℕ) (a k : ℕ) → length p ≡ a → length q ≡ k → putMid a k (p ++ (q ++ r)) ys ≡ p ++ (ys ++ r)
-put-between p q r ys a k ha hk =
-    let before : take a (p ++ (q ++ r)) ≡ p = take-at p (q ++ r) a ha in
-    let after : drop k (drop a (p ++ (q ++ r))) ≡ r = ap (drop k) (drop-at p (q ++ r) a ha) ∙ drop-at q r k hk in
-    ap (λ t. t ++ (ys ++ drop k (drop a (p ++ (q ++ r))))) before ∙ ap (λ t. p ++ (ys ++ t)) after

@@ -1,29 +1,97 @@
--- The layout of the work area, and what is loaded into it: each line's boat number, and the lines.
+-- The layout of the work area: the limits, where the tables of a plan stand (`Laid`), the plan of a request (`Planned`), a line in one word,
+-- and what is loaded.
 use mathlib.Core.Path.{_≡_}
 use mathlib.Core.List.{List, _++_, map}
-use Prim.Native.Nat.{ℕ, _+_, _*_, _^_, _≤_, _<_, _/_, _%_}
+use Prim.Native.Nat.{ℕ, suc, _+_, _*_, _^_, _≤_, _<_, _/_, _%_}
+use native.Mathlib.Omega.{arith}
+use lib.Dec.{leb}
 use lib.ListN.{length}
-use Rattle.meaning.specs.Record.{Line}
+use Rattle.meaning.specs.Record.{Line, boats}
+use Rattle.meaning.specs.Pattern.{commands, keeps}
+use Rattle.meaning.specs.Request.{Asked}
 use Rattle.boats.specs.Codes.{codes}
 use Rattle.request.specs.declared.Plan.{Plan}
 
--- the plan's numbers agree, and its tables stand end to end in an area of so many words
+-- ---- limits
+
+-- the largest search size (question 16)
+abbrev pub largest : ℕ
+largest = 1048576
+
+-- the last word at which the search's stretches may begin, after all that is loaded; requests One, Five and Ten raise it
+abbrev pub mostFront : ℕ
+mostFront = 16384
+
+-- an inverse is a part of this
+abbrev pub whole : ℕ
+whole = 4398046511104
+
+-- ---- the tables of a plan
+
+-- the lines in order of a key: for each key a word, one word more, and a word for each line
+abbrev pub tableWords : ℕ → ℕ → ℕ
+tableWords keys lines = suc keys + lines
+
+-- the first word after the thin lines and the two words for each place by which they are made
+abbrev pub filedEnd : Plan → ℕ
+filedEnd plan = plan .thin + tableWords (plan .places * 16) (plan .lines) + 2 * plan .places
+
+-- the first word after the lines by the place that they come from
+abbrev pub orderedEnd : Plan → ℕ
+orderedEnd plan = plan .bystart + tableWords (plan .places) (plan .lines)
+
+-- the plan's numbers agree, and its tables stand in an area of so many words
 pub record Laid (plan : Plan) (area : ℕ) : Type 0 where
-  pub words-at : plan .words ≡ plan .codes + plan .lines
-  pub base-at : plan .base ≡ plan .words + plan .lines
-  pub stacks-is : plan .stacks ≡ plan .radix ^ plan .keeps
-  pub inverse-is : plan .inverse ≡ 4398046511104 / plan .stacks + 1
-  pub size-is : plan .size ≡ plan .places * (plan .done + 1) * plan .stacks
-  pub some-radix : 0 < plan .radix
+  -- its numbers
   pub some-place : 0 < plan .places
   pub few-places : plan .places ≤ 1024
   pub few-lines : plan .lines ≤ 4096
   pub few-commands : plan .done ≤ 63
-  pub few-boats : plan .radix ≤ 4097
   pub few-keeps : plan .keeps ≤ 3
-  pub small : plan .size ≤ 1048576
-  pub few-words : plan .base ≤ 16384
+  pub some-radix : 0 < plan .radix
+  pub few-boats : plan .radix ≤ 4097
+  pub stacks-is : plan .stacks ≡ plan .radix ^ plan .keeps
+  pub inverse-is : plan .inverse ≡ whole / plan .stacks + 1
+  pub size-is : plan .size ≡ plan .places * (plan .done + 1) * plan .stacks
+  pub small : plan .size ≤ largest
+  -- what is loaded, end to end
+  pub codes-at : plan .codes ≡ plan .boats
+  pub words-at : plan .words ≡ plan .codes + plan .lines
+  pub base-at : plan .base ≡ plan .words + plan .lines
+  pub few-words : plan .base ≤ mostFront
+  -- the search's stretches
+  pub marks-at : plan .marks ≡ plan .base + plan .size
   pub room : plan .base + 3 * plan .size ≤ area
+  -- phase one's sorted lines, in words that it does not use otherwise
+  pub kinds-at : plan .bykind ≡ plan .base + 2 * plan .size
+  pub boats-at : plan .byboat ≡ plan .bykind + tableWords (plan .places * 16) (plan .lines)
+  pub thin-at : plan .thin ≡ plan .byboat + tableWords (plan .places * plan .radix) (plan .lines)
+  pub filed-is : plan .filed ≡ leb (filedEnd plan) area
+  -- phase two's sorted lines, after the frontiers
+  pub starts-at : plan .bystart ≡ plan .base + 3 * plan .size
+  pub ordered-is : plan .ordered ≡ leb (orderedEnd plan) area
+
+-- what a plan is made from: the numbers of a request that passed question 16, the first word, and how many words the area has
+pub record Fitting (places lines done keeps radix size at area : ℕ) : Type 0 where
+  pub some-place : 0 < places
+  pub few-places : places ≤ 1024
+  pub few-lines : lines ≤ 4096
+  pub few-commands : done ≤ 63
+  pub few-keeps : keeps ≤ 3
+  pub some-radix : 0 < radix
+  pub few-boats : radix ≤ 4097
+  pub size-is : size ≡ places * (done + 1) * radix ^ keeps
+  pub small : size ≤ largest
+  pub few-words : at + lines + lines ≤ mostFront
+  pub room : at + lines + lines + 3 * size ≤ area
+
+-- the plan's numbers are those of what is asked about
+pub record Planned (q : Asked) (plan : Plan) : Type 0 where
+  pub places-are : plan .places ≡ q .day .places
+  pub lines-are : plan .lines ≡ length (q .day .lines)
+  pub done-is : plan .done ≡ commands (q .pattern)
+  pub keeps-are : plan .keeps ≡ keeps (q .pattern)
+  pub radix-is : plan .radix ≡ suc (length (boats (q .day .lines)))
 
 -- ---- a line in one word: from, to and kind, 10, 10 and 4 bits; kind 0 would say that the line is out
 
@@ -31,7 +99,7 @@ abbrev pub lineWord : Line → ℕ
 lineWord l = l .from * 16384 + l .to * 16 + l .kind
 
 abbrev pub fromIn : ℕ → ℕ
-fromIn w = w / 16384
+fromIn w = w / 16384 % 1024
 
 abbrev pub toIn : ℕ → ℕ
 toIn w = w / 16 % 1024
@@ -39,16 +107,19 @@ toIn w = w / 16 % 1024
 abbrev pub kindIn : ℕ → ℕ
 kindIn w = w % 16
 
+-- what is put into a word is read off it
+module _ (l : Line) (from-low : l .from < 1024) (to-low : l .to < 1024) (kind-low : l .kind ≤ 15) where
+  pub line-from : fromIn (lineWord l) ≡ l .from
+  line-from = omega arith
+
+  pub line-to : toIn (lineWord l) ≡ l .to
+  line-to = omega arith
+
+  pub line-kind : kindIn (lineWord l) ≡ l .kind
+  line-kind = omega arith
+
 -- ---- what is loaded
 
 -- each line's boat number, the lines
 abbrev pub loadedOf : List Line → List ℕ
 loadedOf lines = codes lines ++ map lineWord lines
-
--- ---- loading
-
--- a plan for these lines, in an area of so many words
-pub record Loading (lines : List Line) (plan : Plan) (area : ℕ) : Type 0 where
-  pub lines-are : plan .lines ≡ length lines
-  pub codes-at : plan .codes ≡ 0
-  pub laid : Laid plan area

@@ -1,4 +1,3 @@
 pub mod Layout
 pub mod Reply
-pub mod Drawing
 pub mod Told

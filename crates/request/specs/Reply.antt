@@ -1,4 +1,4 @@
--- What each case of the code's enums says, in document 01's terms, and what a request that passes is planned as.
+-- What each case of the code's enums says, in document 01's terms.
 use mathlib.Core.Path.{_≡_}
 use mathlib.Core.Bool.{cond}
 use mathlib.Core.List.{List}
@@ -8,11 +8,11 @@ use lib.ListN.{length, take}
 use Rattle.meaning.specs.Outcome.{Outcome, refused, passed, Reply, value, refusal}
 use Rattle.meaning.specs.Record.{Line, boats}
 use Rattle.meaning.specs.Pattern.{commands, keeps}
-use Rattle.meaning.specs.Request.{Asked, sizeOf}
+use Rattle.meaning.specs.Request.{Asked}
 use Rattle.boats.specs.Codes.{codes}
 use Rattle.pattern.specs.declared.PatternReply.{PatternReply}
 use Rattle.pattern.specs.declared.PatternReply.the-variants as Pattern
-use Rattle.request.specs.Layout.{Laid}
+use Rattle.request.specs.Layout.{largest, Laid, Planned}
 use Rattle.request.specs.declared.Plan.{Plan}
 use Rattle.request.specs.declared.Both.{Both}
 use Rattle.request.specs.declared.Both.the-variants as Both
@@ -47,25 +47,15 @@ Small (Both.Refused number) = Unit {0}
 -- ---- the search size
 
 abbrev pub sizingTold : ℕ → Sizing
-sizingTold n = cond (leb n 1048576) (Size n) Above
+sizingTold n = cond (leb n largest) (Size n) Above
 
 -- of so many places and commands, keeps so deep, and the boats of these lines
 abbrev pub measuredTold : List Line → ℕ → ℕ → ℕ → Measured
 measuredTold lines places c k =
     let n = places * suc c * suc (length (boats lines)) ^ k in
-    cond (leb n 1048576) (Measured.Size (length (boats lines)) n) Measured.Above
+    cond (leb n largest) (Measured.Size (length (boats lines)) n) Measured.Above
 
 -- ---- a request that passes
-
--- the plan's numbers are those of what is asked about
-pub record Planned (q : Asked) (plan : Plan) : Type 0 where
-  pub places-are : plan .places ≡ q .day .places
-  pub lines-are : plan .lines ≡ length (q .day .lines)
-  pub done-is : plan .done ≡ commands (q .pattern)
-  pub keeps-are : plan .keeps ≡ keeps (q .pattern)
-  pub radix-is : plan .radix ≡ suc (length (boats (q .day .lines)))
-  pub size-is : plan .size ≡ sizeOf q
-  pub codes-at : plan .codes ≡ 0
 
 -- the number of the question that failed, or a plan that fits an area of so many words
 abbrev pub Answers : Outcome Asked → ℕ → Request → Type 0

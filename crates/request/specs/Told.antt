@@ -14,8 +14,8 @@ use Rattle.meaning.specs.Pattern.{readPattern, noneGiven}
 use Rattle.meaning.specs.Request.{Asked, sizeOf, need, askBoth, askRequest}
 use Rattle.record.specs.Outcomes.{passed-inj, and-true, ask-passed, andThen-passed}
 use Rattle.record.specs.Whole.{linesIn, linesOf}
-use Rattle.request.specs.Layout.{Laid, Loading}
-use Rattle.request.specs.Reply.{Answers, Planned}
+use Rattle.request.specs.Layout.{largest, Laid, Planned}
+use Rattle.request.specs.Reply.{Answers}
 use Rattle.request.specs.declared.Plan.{Plan}
 use Rattle.request.specs.declared.Request.{Request}
 use Rattle.request.specs.declared.Request.the-variants as Request
@@ -27,14 +27,14 @@ pub record Parts (rec pat : List ℕ) (from to : ℕ) (q : Asked) : Type 0 where
   pub pattern-read : readPattern noneGiven pat ≡ passed (q .pattern)
   pub from-low : from < q .day .places
   pub to-low : to < q .day .places
-  pub small : sizeOf q ≤ 1048576
+  pub small : sizeOf q ≤ largest
 
 pub asked-parts : (rec pat : List ℕ) (from to words : ℕ) (q : Asked) → askRequest rec pat from to words ≡ passed q → Parts rec pat from to q
 unfolding askRequest
 asked-parts rec pat from to words q h =
     let (b, e, rest) = andThen-passed (askBoth rec pat) _ q h in
     let (places, more) = ask-passed (ltb from (b .day .places) && ltb to (b .day .places)) 15 _ q rest in
-    let (small, last) = ask-passed (leb (sizeOf b) 1048576) 16 _ q more in
+    let (small, last) = ask-passed (leb (sizeOf b) largest) 16 _ q more in
     let (room, same) = ask-passed (leb (need (sizeOf b)) words) 17 (passed b) q last in
     let (day, r, f) = andThen-passed (readRecord rec) _ b e in
     let (p, s, g) = andThen-passed (readPattern noneGiven pat) _ b f in
@@ -72,14 +72,8 @@ answers-asked (passed q) area r plan (own, is, planned, laid) e =
     record { asked = q; is = refl; planned = subst (Planned q) plans planned; laid = subst (λ (p : Plan). Laid p area) plans laid }
 
 -- the record can be loaded by it
-pub told-loading : {rec pat : List ℕ} {from to area : ℕ} {plan : Plan} (t : Told (askRequest rec pat from to area) area plan) → Parts rec pat from to (t .asked) → Loading (linesOf rec) plan area
-told-loading {rec} {plan = plan} t p =
-    let lines : linesOf rec ≡ t .asked .day .lines = ap linesIn (p .day-read) in
-    record {
-      lines-are = t .planned .lines-are ∙ sym (ap length lines);
-      codes-at = t .planned .codes-at;
-      laid = t .laid;
-    }
+pub told-loading : {rec pat : List ℕ} {from to area : ℕ} {plan : Plan} (t : Told (askRequest rec pat from to area) area plan) → Parts rec pat from to (t .asked) → Laid plan area × (plan .lines ≡ length (linesOf rec))
+told-loading t p = (t .laid, t .planned .lines-are ∙ sym (ap length (ap linesIn (p .day-read))))
 
 -- ---- the area after clearing
 

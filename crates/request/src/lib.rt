@@ -1,21 +1,28 @@
 // Requests: questions 15 to 17, the search size, the layout of the work area, loading the record into it and clearing it.
 ghost use mathlib.Core.Path.{_≡_};
 ghost use mathlib.Core.List.{_++_, map};
-ghost use Prim.Native.Nat.{suc, _+_, _*_, _-_, _^_, _<_, _≤_};
+ghost use Prim.Native.Nat.{suc, _+_, _*_, _^_, _<_, _≤_};
 ghost use lib.ListN.{length, take, drop, replicate};
 ghost use Rattle.meaning.specs.Outcome.{told};
-ghost use Rattle.meaning.specs.Request.{askBoth, askRequest, wordsOf};
+ghost use Rattle.meaning.specs.Request.{need, askBoth, askRequest, wordsOf};
 ghost use Rattle.meaning.specs.Writing.{lineAt};
 ghost use Rattle.boats.specs.Codes.{codes};
 ghost use Rattle.record.specs.Whole.{linesOf};
-ghost use Rattle.request.specs.Layout.{lineWord, loadedOf, Loading};
+ghost use Rattle.request.specs.Layout.{largest, tableWords, Laid, Fitting, lineWord, fromIn, toIn, kindIn, loadedOf};
 ghost use Rattle.request.specs.Reply.{bothTold, bothNumber, patternNumber, Small, sizingTold, measuredTold, Answers, Numbers, requestNumber, wordsReply};
-ghost use Rattle.request.specs.Drawing.{Fitting, Drawn};
 use pattern::PatternReply;
 use record::Reading;
 
-// The numbers of a search, and where its tables stand in the work area, end to end: from `codes` on each line's boat number, from
-// `words` on the lines, and from `base` on three stretches of `size` words for the search.
+// The largest search size.
+const LARGEST: usize = 1048576;
+
+// The words that a search needs besides four for each state.
+const EXTRA: usize = 8192;
+
+// An inverse is a part of this, 2^42.
+pub const WHOLE: usize = 4398046511104;
+
+// The numbers of a search, and where each of its tables begins in the work area.
 pub struct Plan {
     pub places: usize,
     pub lines: usize,
@@ -26,13 +33,27 @@ pub struct Plan {
     pub radix: usize,
     // radix to the power of keeps: how many stacks of kept boats there are.
     pub stacks: usize,
-    // 2^42 divided by stacks, and one: a number below 2^20 times this, divided by 2^42, is that number divided by stacks.
+    // WHOLE divided by stacks, and one: a number below 2^20 times this, divided by WHOLE, is that number divided by stacks.
     pub inverse: usize,
     // The search size: places, positions and stacks.
     pub size: usize,
+    // What is loaded: the boats, of which no words stand here yet, each line's boat number, and the lines. All tables stand from `boats` on.
+    pub boats: usize,
     pub codes: usize,
     pub words: usize,
+    // The search's pairs of stretches of `size` words: phase one's distances and its queue from `base` on, phase two's marks and its
+    // frontiers from `marks` on, which is where the queue was.
     pub base: usize,
+    pub marks: usize,
+    // Phase one's sorted lines, after its pair: by place and kind, by place and boat, and those by kind that are enough where only the
+    // place that a line comes from matters. `filed` says that there is room for all three.
+    pub bykind: usize,
+    pub byboat: usize,
+    pub thin: usize,
+    pub filed: bool,
+    // Phase two's sorted lines, after its pair: by the place that they come from. `ordered` says that there is room.
+    pub bystart: usize,
+    pub ordered: bool,
 }
 
 // ---- the questions
@@ -104,8 +125,6 @@ pub enum Sizing {
     Above,
 }
 
-const LARGEST: usize = 1048576;
-
 // places × (commands + 1) × radix to the power of keeps, step by step.
 fn size_of(places: usize, commands: usize, radix: usize, keeps: usize) -> Sizing
     requires { ⌜ (places ≤ 1024) × (commands ≤ 63) × (0 < radix) × (radix ≤ 4097) ⌝ }
@@ -150,33 +169,68 @@ fn measure(
     Measured::Size { boats, size }
 }
 
+// The words that a search of a size needs.
+fn words_for(size: usize) -> usize
+    requires { ⌜ size ≤ largest ⌝ }
+    ensures { λ r. ⌜ r ≡ need size ⌝ }
+{
+    4 * size + EXTRA
+}
+
 // ---- the plan
 
-// The layout of the work area, computed here and nowhere else.
+// How many words a table of sorted lines has.
+fn table_words(keys: usize, lines: usize) -> usize
+    requires { ⌜ (keys < 4294967296) × (lines ≤ 4096) ⌝ }
+    ensures { λ r. ⌜ r ≡ tableWords keys lines ⌝ }
+{
+    keys + 1 + lines
+}
+
+// The layout of an area of `area` words, from word `at` on, computed here and nowhere else.
 fn planned(
     places: usize,
     lines: usize,
     done: usize,
     keeps: usize,
-    boats: usize,
+    radix: usize,
     size: usize,
+    at: usize,
+    area: usize,
 ) -> Plan
-    requires { ⌜ Fitting places lines done keeps boats size ⌝ }
-    ensures { λ r. ⌜ Drawn places lines done keeps boats size r ⌝ }
+    requires { ⌜ Fitting places lines done keeps radix size at area ⌝ }
+    ensures laid { λ r. ⌜ Laid r area ⌝ }
+    ensures numbers { λ r. ⌜ (r .places ≡ places) × (r .lines ≡ lines) × (r .done ≡ done) × (r .keeps ≡ keeps) × (r .radix ≡ radix) × (r .boats ≡ at) ⌝ }
 {
     let stacks = size / (places * (done + 1));
+    let words = at + lines;
+    let base = words + lines;
+    let bykind = base + 2 * size;
+    let byboat = bykind + table_words(places * 16, lines);
+    let thin = byboat + table_words(places * radix, lines);
+    let filed_end = thin + table_words(places * 16, lines) + 2 * places;
+    let bystart = bykind + size;
+    let ordered_end = bystart + table_words(places, lines);
     Plan {
         places,
         lines,
         done,
         keeps,
-        radix: boats + 1,
+        radix,
         stacks,
-        inverse: 4398046511104 / stacks + 1,
+        inverse: WHOLE / stacks + 1,
         size,
-        codes: 0,
-        words: lines,
-        base: lines + lines,
+        boats: at,
+        codes: at,
+        words,
+        base,
+        marks: base + size,
+        bykind,
+        byboat,
+        thin,
+        filed: filed_end <= area,
+        bystart,
+        ordered: ordered_end <= area,
     }
 }
 
@@ -230,10 +284,11 @@ pub fn ask_request(
     let Measured::Size { boats, size } = measured else {
         return Request::Refused(16);
     };
-    if area < 4 * size + 8192 {
+    if area < words_for(size) {
         return Request::Refused(17);
     }
-    Request::Asked(planned(places, lines, commands, keeps, boats, size))
+    let plan = planned(places, lines, commands, keeps, boats + 1, size, 0, area);
+    Request::Asked(plan)
 }
 
 // How many words of work area a request needs, or the number of the question that failed.
@@ -261,7 +316,7 @@ pub fn words_needed(day: &[u8], pattern: &[u8]) -> WordsReply
     let Measured::Size { boats: _, size } = measured else {
         return WordsReply::Refused(16, 0);
     };
-    WordsReply::Words(4 * size + 8192)
+    WordsReply::Words(words_for(size))
 }
 
 // ---- the work area
@@ -284,6 +339,25 @@ fn line_word(day: &[u8], i: usize) -> u32
 {
     let l = record::line_at(day, i);
     l.from as u32 * 16384 + l.to as u32 * 16 + l.kind as u32
+}
+
+// The place that a line comes from, the place that it leads to, and its kind, by its word. Whoever reads a line's word does it here.
+pub fn from_of(word: u32) -> usize
+    ensures { λ r. ⌜ (r ≡ fromIn word) × (r < 1024) ⌝ }
+{
+    (word / 16384 % 1024) as usize
+}
+
+pub fn to_of(word: u32) -> usize
+    ensures { λ r. ⌜ (r ≡ toIn word) × (r < 1024) ⌝ }
+{
+    (word / 16 % 1024) as usize
+}
+
+pub fn kind_of(word: u32) -> usize
+    ensures { λ r. ⌜ (r ≡ kindIn word) × (r < 16) ⌝ }
+{
+    (word % 16) as usize
 }
 
 // The lines, a word each.
@@ -320,9 +394,9 @@ fn load_codes(numbers: &[u16], part: &mut [u32])
 // Puts a record that passed, and the numbers of its boats, into a work area: each line's boat number and the lines, each in its own
 // stretch. All other words stay as they were.
 pub fn load(day: &[u8], plan: Plan, numbers: &[u16; 4096], work: &mut [u32])
-    requires { ⌜ Loading (linesOf (now day)) plan (length (now work)) ⌝ }
+    requires { ⌜ Laid plan (length (now work)) × (plan .lines ≡ length (linesOf (now day))) ⌝ }
     requires { ⌜ take (plan .lines) (now numbers) ≡ codes (linesOf (now day)) ⌝ }
-    ensures { λ _. ⌜ now (work .exit) ≡ loadedOf (linesOf (now (day .entry))) ++ drop (plan .base) (now (work .entry)) ⌝ }
+    ensures { λ _. ⌜ now (work .exit) ≡ take (plan .boats) (now (work .entry)) ++ (loadedOf (linesOf (now (day .entry))) ++ drop (plan .base) (now (work .entry))) ⌝ }
 {
     let codes = plan.codes;
     let words = plan.words;

@@ -18,7 +18,7 @@ use Rattle.automaton.specs.Listed.{_∈_}
 use Rattle.automaton.specs.Automaton.{nodes, nodeAt, start}
 use Rattle.automaton.specs.Program.{Compiled, members}
 use Rattle.boats.specs.Codes.{codes, codes-length}
-use Rattle.request.specs.Layout.{Laid, lineWord, fromIn, toIn, kindIn, loadedOf}
+use Rattle.request.specs.Layout.{Laid, lineWord, line-from, line-to, line-kind, loadedOf}
 use Rattle.request.specs.declared.Plan.{Plan}
 use Rattle.search.specs.Plain.{memb, solve}
 use Rattle.search.specs.Sets.{memb-same}
@@ -35,18 +35,6 @@ use Rattle.search.specs.Loaded.{codeAt, wordAt, lineIn, linesIn, setting
 use Rattle.search.specs.Steps.{Ok, next-ok, preds-ok}
 use Rattle.search.specs.Same.{Same, passes-same, same-succs, same-preds, same-goal, same-starting, same-solve, same-moved}
 use Rattle.search.specs.Front.{lines-many, line-at, tables, table-at}
-
--- ---- words and what they say
-
-module _ (l : Line) (to-low : l .to < 1024) (kind-low : l .kind ≤ 15) where
-  line-from : fromIn (lineWord l) ≡ l .from
-  line-from = omega arith
-
-  line-to : toIn (lineWord l) ≡ l .to
-  line-to = omega arith
-
-  line-kind : kindIn (lineWord l) ≡ l .kind
-  line-kind = omega arith
 
 -- ---- what a request's plan and tables are
 
@@ -110,9 +98,9 @@ module _ (lines : List Line) (places : ℕ) (p : Pattern) (plan : Plan) (area : 
           deepest = planned .keeps-are;
           many = lines-many plan g 0 (plan .lines) ∙ planned .lines-are;
           as-many = refl;
-          from = λ i less. ap (λ (l : Line). l .from) (line-back i less) ∙ line-from (lineAt lines i) (to-low i less) (fit .kind i less .1);
-          kind = λ i less. ap (λ (l : Line). l .kind) (line-back i less) ∙ line-kind (lineAt lines i) (to-low i less) (fit .kind i less .1);
-          to = λ i less. ap (λ (l : Line). l .to) (line-back i less) ∙ line-to (lineAt lines i) (to-low i less) (fit .kind i less .1);
+          from = λ i less. ap (λ (l : Line). l .from) (line-back i less) ∙ line-from (lineAt lines i) (low i less .0) (low i less .1) (fit .kind i less .1);
+          kind = λ i less. ap (λ (l : Line). l .kind) (line-back i less) ∙ line-kind (lineAt lines i) (low i less .0) (low i less .1) (fit .kind i less .1);
+          to = λ i less. ap (λ (l : Line). l .to) (line-back i less) ∙ line-to (lineAt lines i) (low i less .0) (low i less .1) (fit .kind i less .1);
           code = code-back;
           node = compiled .nodes-are;
           pass = λ c v i hc less.
@@ -120,8 +108,8 @@ module _ (lines : List Line) (places : ℕ) (p : Pattern) (plan : Plan) (area : 
               ∙ passes-same (settingIn program plan g) (setting lines p) (planned .radix-is) refl (nodeAt (nodes p []) c .test) v (getD (codes lines) i 0);
         }
           where
-            to-low : (i : ℕ) → i < length lines → lineAt lines i .to < 1024
-            to-low i less = omega (arith, fit .few-places, fit .within i less .1)
+            low : (i : ℕ) → i < length lines → (lineAt lines i .from < 1024) × (lineAt lines i .to < 1024)
+            low i less = let (from, to) = fit .within i less in (omega (arith, fit .few-places, from), omega (arith, fit .few-places, to))
 
         -- ---- its states
 

@@ -3,7 +3,8 @@
 use mathlib.Core.Path.{_≡_, refl, sym, ap, _∙_, subst}
 use mathlib.Core.Bool.{true}
 use mathlib.Core.List.{List}
-use Prim.Native.Nat.{ℕ, suc, _*_, _^_, _<_, _≤_}
+use Prim.Native.Nat.{ℕ, suc, _+_, _*_, _^_, _<_, _≤_}
+use native.Mathlib.Numerals.{add-one}
 use native.Mathlib.Omega.{arith}
 use lib.Dec.{leb}
 use lib.ListN.{length, take}
@@ -12,8 +13,8 @@ use Rattle.meaning.specs.Request.{askBoth, sizeOf, need}
 use Rattle.record.specs.Whole.{linesOf, lines-short}
 use Rattle.boats.specs.Boats.{boats-few}
 use lib.Seq.{take-length}
+use Rattle.request.specs.Layout.{largest, Fitting}
 use Rattle.request.specs.Reply.{bothNumber, Small}
-use Rattle.request.specs.Drawing.{Fitting, laid, planned-of}
 use Rattle.request.specs.declared.Request.the-variants as Request
 use Rattle.request.proofs.Asking.{Counted, both-refused, both-counted, counted-size, above, measured, refused-both, asked-from, asked-to, asked-size, asked-room, asked-all}
 use borrow.Author.Needs.{needs}
@@ -112,7 +113,7 @@ returns-4 c =
     let b = d .before .before in
     let h = passes b in
     let no = above _ _ _ _ (sym (c .enum-told2 .given .1) ∙ c .before .before .measure .ensures .0) in
-    rw (asked-size (rec b) (pat b) (from b) (to b) (area b) (h .asked) (h .both) (from-below d) (to-below d) (ap (λ (n : ℕ). leb n 1048576) (sym (counted-size _ _ _ _ _ _ h)) ∙ no)) (refl, tt)
+    rw (asked-size (rec b) (pat b) (from b) (to b) (area b) (h .asked) (h .both) (from-below d) (to-below d) (ap (λ (n : ℕ). leb n largest) (sym (counted-size _ _ _ _ _ _ h)) ∙ no)) (refl, tt)
 
 -- ---- where the size is known
 
@@ -125,70 +126,84 @@ count c = length (boats (linesOf (rec (met c))))
 abbrev size : tie.After-known-told2 → ℕ
 size c = c .before .measured .given .0 .1 .0
 
-size-is : (c : tie.After-known-told2) → (leb (places (met c) * suc (commands (met c)) * suc (count c) ^ keeps (met c)) 1048576 ≡ true) × (c .before .measured .given .0 .0 ≡ count c) × (size c ≡ places (met c) * suc (commands (met c)) * suc (count c) ^ keeps (met c)) × (size c ≤ 1048576)
+size-is : (c : tie.After-known-told2) → (leb (places (met c) * suc (commands (met c)) * suc (count c) ^ keeps (met c)) largest ≡ true) × (c .before .measured .given .0 .0 ≡ count c) × (size c ≡ places (met c) * suc (commands (met c)) * suc (count c) ^ keeps (met c)) × (size c ≤ largest)
 size-is c = measured _ _ _ _ _ _ (sym (c .before .measured .given .1) ∙ c .before .before .before .measure .ensures .0)
 
-fits : (c : tie.After-known-told2) → size c ≤ 1048576
+fits : (c : tie.After-known-told2) → size c ≤ largest
 fits c = size-is c .3
 
 whole : (c : tie.After-known-told2) → size c ≡ sizeOf (passes (met c) .asked)
 whole c = size-is c .2 ∙ counted-size _ _ _ _ _ _ (passes (met c))
 
-allowed : (c : tie.After-known-told2) → leb (sizeOf (passes (met c) .asked)) 1048576 ≡ true
-allowed c = ap (λ (n : ℕ). leb n 1048576) (sym (counted-size _ _ _ _ _ _ (passes (met c)))) ∙ size-is c .0
+allowed : (c : tie.After-known-told2) → leb (sizeOf (passes (met c) .asked)) largest ≡ true
+allowed c = ap (λ (n : ℕ). leb n largest) (sym (counted-size _ _ _ _ _ _ (passes (met c)))) ∙ size-is c .0
 
 few-boats : (c : tie.After-known-told2) → count c ≤ 4096
 few-boats c =
     let lines = linesOf (rec (met c)) in
     omega (arith, boats-few lines (length lines) (omega arith), ap (λ ls. length (boats ls)) (take-length lines), lines-short (rec (met c)))
 
-fitting : (c : tie.After-known-told2) → Fitting (places (met c)) (lines (met c)) (commands (met c)) (keeps (met c)) (c .before .measured .given .0 .0) (size c)
-fitting c =
+fitting : (c : tie.After-known-told2) → need (size c) ≤ area (met c) → Fitting (places (met c)) (lines (met c)) (commands (met c)) (keeps (met c)) (c .before .measured .given .0 .0 + 1) (size c) 0 (area (met c))
+fitting c room =
     let s = small (met c) in
     let y = size-is c in
+    let b = c .before .measured .given .0 .0 in
     record {
       some-place = s .0;
       few-places = s .1;
       few-lines = s .2;
       few-commands = s .3;
       few-keeps = s .4;
+      some-radix = omega arith;
       few-boats = omega (arith, y .1, few-boats c);
-      size-is = y .2 ∙ ap (λ (n : ℕ). places (met c) * suc (commands (met c)) * suc n ^ keeps (met c)) (sym (y .1));
+      size-is = y .2 ∙ cc (add-one (commands (met c)), add-one b, y .1);
       small = fits c;
+      few-words = omega (arith, s .2);
+      room = omega (arith, s .2);
     }
 
-mul-if3 : tie.Need-mul-if3
-mul-if3 c = omega (arith, fits c)
-
-add-if3 : tie.Need-add-if3
-add-if3 c = omega (arith, fits c)
+words-for-requires : tie.Need-words-for-requires
+words-for-requires c κs = fits c
 
 returns-5 : tie.Need-returns-5
 returns-5 c =
-    let d = c .before .before .before .before .before .before in
-    let b = d .before .before in
-    let h = passes b in
-    rw (asked-room (rec b) (pat b) (from b) (to b) (area b) (h .asked) (h .both) (from-below d) (to-below d) (allowed (c .before)) (omega (arith, whole (c .before), c .if3 .taken))) (refl, tt)
-
-planned-requires : tie.Need-planned-requires
-planned-requires c κs = fitting (c .before)
-
-returns-6 : tie.Need-returns-6
-returns-6 c =
     let e = c .before .before in
     let d = e .before .before .before .before .before in
     let b = d .before .before in
     let h = passes b in
-    let room : need (sizeOf (h .asked)) ≤ area b = omega (arith, whole e, c .before .if3 .left) in
-    let same : c .planned .result .lines ≡ lines b = c .planned .ensures .lines-are in
-    rw (asked-all (rec b) (pat b) (from b) (to b) (area b) (h .asked) (h .both) (from-below d) (to-below d) (allowed e) room) (
+    rw (asked-room (rec b) (pat b) (from b) (to b) (area b) (h .asked) (h .both) (from-below d) (to-below d) (allowed e) (omega (arith, whole e, c .before .words-for .ensures, c .if3 .taken))) (refl, tt)
+
+add-planned : tie.Need-add-planned
+add-planned c = let e = c .before .before in omega (arith, size-is e .1, few-boats e)
+
+-- the area has the words that are needed
+room : (c : tie.Else3) → need (size (c .before .before)) ≤ area (met (c .before .before))
+room c = omega (arith, c .before .words-for .ensures, c .if3 .left)
+
+planned-requires : tie.Need-planned-requires
+planned-requires c κs = fitting (c .before .before) (room c)
+
+returns-6 : tie.Need-returns-6
+returns-6 c =
+    let e = c .before .before .before in
+    let d = e .before .before .before .before .before in
+    let b = d .before .before in
+    let h = passes b in
+    let n = c .planned .ensures .1 in
+    rw (asked-all (rec b) (pat b) (from b) (to b) (area b) (h .asked) (h .both) (from-below d) (to-below d) (allowed e) (omega (arith, whole e, room (c .before)))) (
       (
         c .planned .result,
         refl,
-        planned-of (h .asked) _ _ _ _ _ _ (c .planned .result) (c .planned .ensures) (h .places-are) (h .lines-are) (h .commands-are) (h .keeps-are) (size-is e .1 ∙ ap (λ ls. length (boats ls)) (h .lines-of)) (whole e),
-        laid _ _ _ _ _ _ (area b) (c .planned .result) (fitting e) (c .planned .ensures) (omega (arith, c .before .if3 .left)),
+        record {
+          places-are = n .0 ∙ h .places-are;
+          lines-are = n .1 ∙ h .lines-are;
+          done-is = n .2 ∙ h .commands-are;
+          keeps-are = n .3 ∙ h .keeps-are;
+          radix-is = n .4 ∙ (add-one (e .before .measured .given .0 .0) ∙ ap suc (size-is e .1 ∙ ap (λ ls. length (boats ls)) (h .lines-of)));
+        },
+        c .planned .ensures .0,
       ),
-      ap (λ n. take n (e .before .before .before .measure .last .1 .1 .1 .1 .1 .0)) same ∙ e .before .before .before .measure .ensures .1,
+      ap (λ n. take n (e .before .before .before .measure .last .1 .1 .1 .1 .1 .0)) (n .1) ∙ e .before .before .before .measure .ensures .1,
     )
 
 pub ask-request-spec : {M : Type 1} → statement M
@@ -206,8 +221,8 @@ ask-request-spec =
     enum-known-measured
     enum-told-2
     returns-4
-    mul-if3
-    add-if3
+    words-for-requires
     returns-5
+    add-planned
     planned-requires
     returns-6)

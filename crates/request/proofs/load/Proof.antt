@@ -46,8 +46,8 @@ returns c =
     let o = c .before .before .before .before .before .before in
     let a = o .before .before .before .before .before in
     let lines = linesOf (a .args .day .now) in
-    let numbered : o .load-codes .last .1 .0 ≡ codes lines = o .load-codes .ensures ∙ (ap (λ n. take n (a .args .numbers .now)) (codes-long lines (a .args .plan) (a .args .work .now) (a .pre .0)) ∙ a .pre .1) in
-    rw (c .before .before .load-lines .ensures, numbered) (tables-loaded lines (a .args .plan) (a .args .work .now) (a .pre .0))
+    let numbered : o .load-codes .last .1 .0 ≡ codes lines = o .load-codes .ensures ∙ (ap (λ n. take n (a .args .numbers .now)) (codes-long lines (a .args .plan) (a .args .work .now) (a .pre .0 .0) (a .pre .0 .1)) ∙ a .pre .1) in
+    rw (c .before .before .load-lines .ensures, numbered) (tables-loaded lines (a .args .plan) (a .args .work .now) (a .pre .0 .0) (a .pre .0 .1))
 
 pub load-spec : {M : Type 1} → statement M
 load-spec =

@@ -1,24 +1,25 @@
--- `request::planned` meets its contract: its numbers are those that it is given, and the stacks are what is left of the size.
+-- `request::planned` meets its contract: the stacks are what is left of the size, and each table begins where the one before it ends.
 -- Assumes nothing.
-use mathlib.Core.Path.{_≡_, refl, ap, _∙_}
-use Prim.Native.Nat.{ℕ, suc, _+_, _*_, _^_, _/_, _<_, _≤_}
+use mathlib.Core.Path.{_≡_, refl, sym, ap, _∙_}
+use Prim.Native.Nat.{ℕ, _+_, _*_, _^_, _/_, _<_, _≤_}
 use native.Mathlib.Nat.{mul-le-mul, mul-div-cancel-left, one-le-pow, div-le-self}
-use native.Mathlib.Numerals.{add-one}
 use native.Mathlib.Omega.{arith}
 use borrow.Author.Needs.{needs}
+use Rattle.request.specs.Layout.{whole}
 use Rattle.request.proofs.planned.Statement.{statement}
 use Rattle.request.proofs.planned.Tie as tie
 
 few : (c : tie.Start) → c .args .places * (c .args .done + 1) ≤ 65536
 few c = mul-le-mul {n₂ = 1024} {m₂ = 64} (c .pre .few-places) (omega (arith, c .pre .few-commands))
 
-some : (c : tie.Start) → 0 < c .args .places * suc (c .args .done)
+some : (c : tie.Start) → 0 < c .args .places * (c .args .done + 1)
 some c = mul-le-mul {n₁ = 1} {m₁ = 1} (c .pre .some-place) (omega arith)
 
-stacks-are : (c : tie.Start) → c .args .size / (c .args .places * (c .args .done + 1)) ≡ suc (c .args .boats) ^ c .args .keeps
-stacks-are c =
-    let a = c .args in
-    ap (λ (n : ℕ). a .size / (a .places * n)) (add-one (a .done)) ∙ (ap (λ (n : ℕ). n / (a .places * suc (a .done))) (c .pre .size-is) ∙ mul-div-cancel-left _ (some c))
+few-keys : (c : tie.Start) → c .args .places * c .args .radix ≤ 4195328
+few-keys c = mul-le-mul {n₂ = 1024} {m₂ = 4097} (c .pre .few-places) (c .pre .few-boats)
+
+stacks-are : (c : tie.Start) → c .args .size / (c .args .places * (c .args .done + 1)) ≡ c .args .radix ^ c .args .keeps
+stacks-are c = let a = c .args in ap (λ (n : ℕ). n / (a .places * (a .done + 1))) (c .pre .size-is) ∙ mul-div-cancel-left _ (some c)
 
 add-stacks : tie.Need-add-stacks
 add-stacks c = search needs
@@ -29,34 +30,108 @@ mul-stacks c = omega (arith, few c)
 div-stacks : tie.Need-div-stacks
 div-stacks c = search needs
 
-add-t8 : tie.Need-add-t8
-add-t8 c = search needs
+add-words : tie.Need-add-words
+add-words c = search needs
 
-div-t9 : tie.Need-div-t9
-div-t9 c = let none = one-le-pow (c .args .keeps) (suc (c .args .boats)) (omega arith) in omega (arith, none, stacks-are c)
+add-base : tie.Need-add-base
+add-base c = search needs
 
-add-t10 : tie.Need-add-t10
-add-t10 c = omega (arith, div-le-self 4398046511104 (c .args .size / (c .args .places * (c .args .done + 1))))
+mul-bykind : tie.Need-mul-bykind
+mul-bykind c = search needs
 
-add-t11 : tie.Need-add-t11
-add-t11 c = search needs
+add-bykind : tie.Need-add-bykind
+add-bykind c = search needs
+
+mul-table-words : tie.Need-mul-table-words
+mul-table-words c = search needs
+
+table-words-requires : tie.Need-table-words-requires
+table-words-requires c κs = search needs
+
+add-byboat : tie.Need-add-byboat
+add-byboat c = search needs
+
+mul-table-words-2 : tie.Need-mul-table-words-2
+mul-table-words-2 c = omega (arith, few-keys (c .before))
+
+table-words-requires-2 : tie.Need-table-words-requires-2
+table-words-requires-2 c κs = (omega (arith, few-keys (c .before)), omega (arith, c .before .pre .few-lines))
+
+add-thin : tie.Need-add-thin
+add-thin c = omega (arith, few-keys (c .before .before))
+
+mul-table-words-3 : tie.Need-mul-table-words-3
+mul-table-words-3 c = search needs
+
+table-words-requires-3 : tie.Need-table-words-requires-3
+table-words-requires-3 c κs = search needs
+
+add-filed-end : tie.Need-add-filed-end
+add-filed-end c = omega (arith, few-keys (c .before .before .before))
+
+mul-filed-end : tie.Need-mul-filed-end
+mul-filed-end c = search needs
+
+add-filed-end-2 : tie.Need-add-filed-end-2
+add-filed-end-2 c = omega (arith, few-keys (c .before .before .before))
+
+add-bystart : tie.Need-add-bystart
+add-bystart c = search needs
+
+table-words-requires-4 : tie.Need-table-words-requires-4
+table-words-requires-4 c κs = search needs
+
+add-ordered-end : tie.Need-add-ordered-end
+add-ordered-end c = search needs
+
+div-t21 : tie.Need-div-t21
+div-t21 c =
+    let s = c .before .before .before .before in
+    omega (arith, one-le-pow (s .args .keeps) (s .args .radix) (s .pre .some-radix), stacks-are s)
+
+add-t19 : tie.Need-add-t19
+add-t19 c =
+    let a = c .before .before .before .before .args in
+    omega (arith, div-le-self whole (a .size / (a .places * (a .done + 1))))
+
+add-t20 : tie.Need-add-t20
+add-t20 c = search needs
 
 returns : tie.Need-returns
 returns c =
-    let a = c .args in
-    record {
-      places-are = refl;
-      lines-are = refl;
-      done-is = refl;
-      keeps-are = refl;
-      radix-is = add-one (a .boats);
-      stacks-is = stacks-are c;
-      inverse-is = refl;
-      size-is = refl;
-      codes-at = refl;
-      words-at = omega arith;
-      base-at = refl;
-    }
+    let s = c .before .before .before .before in
+    let p = s .pre in
+    let kinds = c .before .before .before .table-words .ensures in
+    let boats = c .before .before .table-words2 .ensures in
+    let thin = c .before .table-words3 .ensures in
+    let starts = c .table-words4 .ensures in (
+      record {
+        some-place = p .some-place;
+        few-places = p .few-places;
+        few-lines = p .few-lines;
+        few-commands = p .few-commands;
+        few-keeps = p .few-keeps;
+        some-radix = p .some-radix;
+        few-boats = p .few-boats;
+        stacks-is = stacks-are s;
+        inverse-is = refl;
+        size-is = p .size-is ∙ ap (λ (n : ℕ). s .args .places * (s .args .done + 1) * n) (sym (stacks-are s));
+        small = p .small;
+        codes-at = refl;
+        words-at = refl;
+        base-at = refl;
+        few-words = p .few-words;
+        marks-at = refl;
+        room = p .room;
+        kinds-at = refl;
+        boats-at = cc;
+        thin-at = cc;
+        filed-is = cc;
+        starts-at = omega arith;
+        ordered-is = cc;
+      },
+      (refl, refl, refl, refl, refl, refl),
+    )
 
 pub planned-spec : {M : Type 1} → statement M
 planned-spec =
@@ -65,8 +140,25 @@ planned-spec =
     add-stacks
     mul-stacks
     div-stacks
-    add-t8
-    div-t9
-    add-t10
-    add-t11
+    add-words
+    add-base
+    mul-bykind
+    add-bykind
+    mul-table-words
+    table-words-requires
+    add-byboat
+    mul-table-words-2
+    table-words-requires-2
+    add-thin
+    mul-table-words-3
+    table-words-requires-3
+    add-filed-end
+    mul-filed-end
+    add-filed-end-2
+    add-bystart
+    table-words-requires-4
+    add-ordered-end
+    div-t21
+    add-t19
+    add-t20
     returns)

@@ -5,6 +5,7 @@ use native.Mathlib.Nat.{mul-le-mul}
 use native.Mathlib.Numerals.{add-one}
 use native.Mathlib.Omega.{arith}
 use borrow.Author.Tests.{le-leb, lt-leb}
+use Rattle.request.specs.Layout.{largest}
 use Rattle.request.specs.declared.Sizing.the-variants.{Size}
 use Rattle.request.proofs.Sizes.{size-start, size-step, size-grows}
 use borrow.Author.Needs.{needs}
@@ -12,7 +13,7 @@ use Rattle.request.proofs.size_of.Statement.{statement}
 use Rattle.request.proofs.size_of.Tie as tie
 
 abbrev Inv-loop : tie.InvT-loop
-Inv-loop places commands radix keeps size₀ k₀ size k = (k ≤ keeps) × (size ≡ places * suc commands * radix ^ k) × (size ≤ 1048576)
+Inv-loop places commands radix keeps size₀ k₀ size k = (k ≤ keeps) × (size ≡ places * suc commands * radix ^ k) × (size ≤ largest)
 
 abbrev μ-loop : tie.MeasureT-loop
 μ-loop places commands radix keeps size₀ k₀ size k = keeps - k
@@ -21,7 +22,7 @@ few : (c : tie.Start Inv-loop μ-loop) → c .args .places * (c .args .commands 
 few c = mul-le-mul {n₂ = 1024} {m₂ = 64} (c .pre .0) (omega (arith, c .pre .1))
 
 product : (c : tie.In-loop Inv-loop μ-loop) → c .before .loop .size * c .before .before .args .radix ≤ 4296015872
-product c = mul-le-mul {n₂ = 1048576} {m₂ = 4097} (c .before .loop .inv .2) (c .before .before .pre .3)
+product c = mul-le-mul {n₂ = largest} {m₂ = 4097} (c .before .loop .inv .2) (c .before .before .pre .3)
 
 add-size : tie.Need-add-size Inv-loop μ-loop
 add-size c = search needs
@@ -42,7 +43,7 @@ returns c =
     let b = c .before .before in
     let a = b .before .args in
     let now : b .loop .size * a .radix ≡ a .places * suc (a .commands) * a .radix ^ (b .loop .k + 1) = ap (λ (n : ℕ). n * a .radix) (b .loop .inv .1) ∙ size-step (a .places * suc (a .commands)) (a .radix) (b .loop .k) in
-    simp (lt-leb (a .places * suc (a .commands) * a .radix ^ a .keeps) 1048576 (omega (arith, c .if1 .taken, now, size-grows (a .places * suc (a .commands)) (a .radix) (b .loop .k + 1) (a .keeps) (b .before .pre .2) (omega (arith, c .before .loop-test .taken)))))
+    simp (lt-leb (a .places * suc (a .commands) * a .radix ^ a .keeps) largest (omega (arith, c .if1 .taken, now, size-grows (a .places * suc (a .commands)) (a .radix) (b .loop .k + 1) (a .keeps) (b .before .pre .2) (omega (arith, c .before .loop-test .taken)))))
 
 add-k : tie.Need-add-k Inv-loop μ-loop
 add-k c = search needs
@@ -62,7 +63,7 @@ returns-2 c =
     let a = b .before .args in
     let all : b .loop .k ≡ a .keeps = omega (arith, c .loop-test .left, b .loop .inv .0) in
     let whole : b .loop .size ≡ a .places * suc (a .commands) * a .radix ^ a .keeps = b .loop .inv .1 ∙ ap (λ (k : ℕ). a .places * suc (a .commands) * a .radix ^ k) all in
-    simp (le-leb (a .places * suc (a .commands) * a .radix ^ a .keeps) 1048576 (omega (arith, whole, b .loop .inv .2))) (ap Size whole)
+    simp (le-leb (a .places * suc (a .commands) * a .radix ^ a .keeps) largest (omega (arith, whole, b .loop .inv .2))) (ap Size whole)
 
 pub size-of-spec : {M : Type 1} → statement M
 size-of-spec =

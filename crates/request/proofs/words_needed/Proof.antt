@@ -3,14 +3,14 @@
 use mathlib.Core.Path.{_≡_, sym, ap, _∙_, subst}
 use mathlib.Core.Bool.{true}
 use mathlib.Core.List.{List}
-use Prim.Native.Nat.{ℕ, suc, _+_, _*_, _^_, _<_, _≤_}
-use native.Mathlib.Omega.{arith}
+use Prim.Native.Nat.{ℕ, suc, _*_, _^_, _<_, _≤_}
 use lib.Dec.{leb}
 use lib.ListN.{length}
 use Rattle.meaning.specs.Outcome.{told, refusal, value}
 use Rattle.meaning.specs.Record.{boats}
-use Rattle.meaning.specs.Request.{askBoth}
+use Rattle.meaning.specs.Request.{need, askBoth}
 use Rattle.record.specs.Whole.{linesOf}
+use Rattle.request.specs.Layout.{largest}
 use Rattle.request.specs.Reply.{bothNumber, Small}
 use Rattle.request.proofs.Asking.{Counted, both-refused, both-counted, counted-size, above, measured, words-refused, words-above, words-are}
 use borrow.Author.Needs.{needs}
@@ -79,30 +79,27 @@ returns-2 c =
     let b = c .before .before .before .before in
     let h = passes b in
     let no = above _ _ _ _ (sym (c .enum-told2 .given .1) ∙ c .before .before .measure .ensures .0) in
-    sym (ap told (words-above (rec b) (pat b) (h .asked) (h .both) (ap (λ (n : ℕ). leb n 1048576) (sym (counted-size _ _ _ _ _ _ h)) ∙ no)))
+    sym (ap told (words-above (rec b) (pat b) (h .asked) (h .both) (ap (λ (n : ℕ). leb n largest) (sym (counted-size _ _ _ _ _ _ h)) ∙ no)))
 
 -- ---- where the size is known
 
 size-is : (c : tie.After-known-told2) → let b = c .before .before .before .before .before in
-    (leb (places b * suc (commands b) * suc (length (boats (linesOf (rec b)))) ^ keeps b) 1048576 ≡ true) × (c .before .measured .given .0 .0 ≡ length (boats (linesOf (rec b)))) × (c .before .measured .given .0 .1 .0 ≡ places b * suc (commands b) * suc (length (boats (linesOf (rec b)))) ^ keeps b) × (c .before .measured .given .0 .1 .0 ≤ 1048576)
+    (leb (places b * suc (commands b) * suc (length (boats (linesOf (rec b)))) ^ keeps b) largest ≡ true) × (c .before .measured .given .0 .0 ≡ length (boats (linesOf (rec b)))) × (c .before .measured .given .0 .1 .0 ≡ places b * suc (commands b) * suc (length (boats (linesOf (rec b)))) ^ keeps b) × (c .before .measured .given .0 .1 .0 ≤ largest)
 size-is c = measured _ _ _ _ _ _ (sym (c .before .measured .given .1) ∙ c .before .before .before .measure .ensures .0)
 
-fits : (c : tie.After-known-told2) → c .before .measured .given .0 .1 .0 ≤ 1048576
+fits : (c : tie.After-known-told2) → c .before .measured .given .0 .1 .0 ≤ largest
 fits c = size-is c .3
 
-mul-t13 : tie.Need-mul-t13
-mul-t13 c = omega (arith, fits c)
-
-add-t14 : tie.Need-add-t14
-add-t14 c = omega (arith, fits c)
+words-for-requires : tie.Need-words-for-requires
+words-for-requires c κs = fits c
 
 returns-3 : tie.Need-returns-3
 returns-3 c =
-    let b = c .before .before .before .before .before in
+    let b = c .before .before .before .before .before .before in
     let h = passes b in
-    let yes = size-is c in
+    let yes = size-is (c .before) in
     let whole = counted-size _ _ _ _ _ _ h in
-    ap (λ (n : ℕ). value (4 * n + 8192)) (yes .2 ∙ whole) ∙ sym (ap told (words-are (rec b) (pat b) (h .asked) (h .both) (ap (λ (n : ℕ). leb n 1048576) (sym whole) ∙ yes .0)))
+    ap value (c .words-for .ensures ∙ ap need (yes .2 ∙ whole)) ∙ sym (ap told (words-are (rec b) (pat b) (h .asked) (h .both) (ap (λ (n : ℕ). leb n largest) (sym whole) ∙ yes .0)))
 
 pub words-needed-spec : {M : Type 1} → statement M
 words-needed-spec =
@@ -117,6 +114,5 @@ words-needed-spec =
     enum-known-measured
     enum-told-2
     returns-2
-    mul-t13
-    add-t14
+    words-for-requires
     returns-3)
