@@ -9,7 +9,7 @@ use lib.Dec.{eqb}
 use borrow.Author.Tests.{eq-eqb, ne-eqb}
 use Rattle.meaning.specs.Writing.{lineAt}
 use Rattle.automaton.specs.Program.{rowAt, followAt, depthAt, nodeIn}
-use Rattle.request.specs.Layout.{toIn}
+use Rattle.request.specs.Layout.{fromIn, toIn, kindIn}
 use Rattle.request.specs.declared.Plan.{Plan}
 use Rattle.search.specs.Plain.{memb}
 use Rattle.search.specs.Loops.{turns, turns-within}
@@ -79,14 +79,14 @@ module _ (a : List ℕ) (plan : Plan) (g : List ℕ) where
         same-turn : (k : ℕ) → k < plan .done + 1 → (b : Search) → body k b ≡ turn s i k b
         same-turn k l b = next-turn s i k b h (omega arith)
 
-    -- line i as the code holds it: its word p, its boat's number x; and the position of s
-    module _ (s i p : ℕ) (st : Search) (h : i < plan .lines) (e : p ≡ wordAt plan g i) where
+    -- line i as the code holds it: the place q that it comes from, its kind x, the place r that it leads to
+    module _ (s i : ℕ) (st : Search) (h : i < plan .lines) (q : ℕ) (eq : q ≡ fromIn (wordAt plan g i)) where
       abbrev here : Bool
-      here = eqb (p / 16384) (s / plan .stacks / (plan .done + 1))
+      here = eqb q (s / plan .stacks / (plan .done + 1))
 
       from-is : onward S see i s st
           ≡ cond
-          (here && (eqb (p % 16) (spot (pos s) .kind) && okay (plan .radix) (spot (pos s)) (codeAt plan g i) (s % plan .stacks)))
+          (here && (eqb (kindIn (wordAt plan g i)) (spot (pos s) .kind) && okay (plan .radix) (spot (pos s)) (codeAt plan g i) (s % plan .stacks)))
           (overNext S see i s st)
           st
       unfolding onward settingIn nodeIn placeOf posOf stackOf stacks spotIn
@@ -97,31 +97,31 @@ module _ (a : List ℕ) (plan : Plan) (g : List ℕ) where
             ← next,
             line-at plan g i h,
             passes-is a plan g (pos s) (s % plan .stacks) (codeAt plan g i),
-            e,
+            eq,
           )
 
       pub from-elsewhere : here ≡ false → onward S see i s st ≡ st
       from-elsewhere f = from-is ∙ rw f
 
       -- the state's position c and stack v
-      module _ (f : here ≡ true) (c v : ℕ) (ec : c ≡ pos s) (ev : v ≡ s % plan .stacks) where
-        pub from-other-kind : (p % 16 ≡ rowAt a c .kind → ⊥) → onward S see i s st ≡ st
-        from-other-kind n = from-is ∙ rw (f, ne-eqb _ _ (λ k. n (k ∙ (kind-is (pos s) ∙ ap (λ c. rowAt a c .kind) (sym ec)))))
+      module _ (f : here ≡ true) (c v : ℕ) (ec : c ≡ pos s) (ev : v ≡ s % plan .stacks) (x : ℕ) (ex : x ≡ kindIn (wordAt plan g i)) where
+        pub from-other-kind : (x ≡ rowAt a c .kind → ⊥) → onward S see i s st ≡ st
+        from-other-kind n = from-is ∙ rw (f, ne-eqb _ _ (λ k. n (ex ∙ (k ∙ (kind-is (pos s) ∙ ap (λ c. rowAt a c .kind) (sym ec))))))
 
-        module _ (own : p % 16 ≡ rowAt a c .kind) (sp : Spot) (es : sp ≡ spot c) (x : ℕ) (ex : x ≡ codeAt plan g i) where
+        module _ (own : x ≡ rowAt a c .kind) (sp : Spot) (es : sp ≡ spot c) (b : ℕ) (eb : b ≡ codeAt plan g i) where
           is : sp ≡ spot (pos s)
           is = es ∙ ap spot ec
 
-          k : p % 16 ≡ sp .kind
-          k = own ∙ (sym (kind-is c) ∙ ap (λ (z : Spot). z .kind) (sym es))
+          k : kindIn (wordAt plan g i) ≡ sp .kind
+          k = sym ex ∙ (own ∙ (sym (kind-is c) ∙ ap (λ (z : Spot). z .kind) (sym es)))
 
-          pub from-refused : okay (plan .radix) sp x v ≡ false → onward S see i s st ≡ st
-          from-refused o = from-is ∙ rw (← is, ← ex, ← ev, f, eq-eqb _ _ k, o)
+          pub from-refused : okay (plan .radix) sp b v ≡ false → onward S see i s st ≡ st
+          from-refused o = from-is ∙ rw (← is, ← eb, ← ev, f, eq-eqb _ _ k, o)
 
-          pub from-taken : okay (plan .radix) sp x v ≡ true
-              → (u : ℕ) → u ≡ on sp v x → (mask : ℕ) → mask ≡ followAt a c
-              → onward S see i s st ≡ turns (nextTurn plan a mask see (p / 16 % 1024) u) 0 (plan .done + 1) st
-          from-taken o u eu mask em =
-              let goes : onward S see i s st ≡ overNext S see i s st = from-is ∙ rw (← is, ← ex, ← ev, f, eq-eqb _ _ k, o) in
-              let after : left s i ≡ u = sym (eu ∙ rw (is, ex, ev)) in
-              goes ∙ (next-is s i st h ∙ rw (after, e, em, ec))
+          pub from-taken : okay (plan .radix) sp b v ≡ true
+              → (u : ℕ) → u ≡ on sp v b → (mask : ℕ) → mask ≡ followAt a c → (r : ℕ) → r ≡ toIn (wordAt plan g i)
+              → onward S see i s st ≡ turns (nextTurn plan a mask see r u) 0 (plan .done + 1) st
+          from-taken o u eu mask em r er =
+              let goes : onward S see i s st ≡ overNext S see i s st = from-is ∙ rw (← is, ← eb, ← ev, f, eq-eqb _ _ k, o) in
+              let after : left s i ≡ u = sym (eu ∙ rw (is, eb, ev)) in
+              goes ∙ (next-is s i st h ∙ rw (after, er, em, ec))

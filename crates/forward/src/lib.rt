@@ -99,18 +99,19 @@ pub fn from_state(
     requires { ⌜ (i < plan .lines) × (s < plan .size) ⌝ }
     ensures { λ r. ⌜ StepForth plan (onward (settingAt (now (program .entry)) plan (now (work .entry))) (seen plan (now (work .entry)) want) i s) tail (now (work .entry)) r (now (work .exit)) ⌝ }
 {
-    let line = states::word(work, plan.words + i) as usize;
-    let from = line / 16384;
+    let line = states::word(work, plan.words + i);
+    let from = request::from_of(line);
     if states::stands_at(plan, s, from) {
         let here = states::standing_at(plan, s, from);
         let at = here.position;
-        if line % 16 == automaton::kind_at(program, at) {
+        if request::kind_of(line) == automaton::kind_at(program, at) {
             let spot = states::spot_at(program, plan.radix, at);
             let code = states::word(work, plan.codes + i);
             if states::passes(plan.radix, spot, code, here.stack) {
                 let u = states::put_on(spot, here.stack, code);
                 let follow = automaton::follow_at(program, at);
-                return over_next(work, plan, program, follow, want, line / 16 % 1024, u, tail);
+                let to = request::to_of(line);
+                return over_next(work, plan, program, follow, want, to, u, tail);
             }
         }
     }

@@ -1,13 +1,16 @@
 -- `forward::from_state` meets its contract: each test that stops the line makes the step of the setting none, and past them it is the loop over the next positions.
 -- Assumes nothing.
-use mathlib.Core.Path.{_≡_, sym, _∙_, subst}
+use mathlib.Core.Path.{_≡_, sym, ap, _∙_, subst}
+use mathlib.Core.Bool.{true}
 use mathlib.Core.List.{List}
 use Prim.Native.Nat.{ℕ, _+_, _/_, _%_, _<_, _≤_}
 use native.Mathlib.Nat.{mod-lt}
 use native.Mathlib.Omega.{arith}
+use lib.Dec.{eqb}
 use lib.ListN.{length}
-use Rattle.request.specs.Layout.{toIn}
-use Rattle.states.specs.Spots.{Fit}
+use Rattle.request.specs.Layout.{fromIn, toIn, kindIn}
+use Rattle.search.specs.Loaded.{codeAt, wordAt}
+use Rattle.states.specs.Spots.{front, Fit, Sane}
 use Rattle.states.proofs.Bounds.{word-low, code-low, base-in, word-front, code-front, stacks-pos, power-small, block-small, stacks-small, spot-sane}
 use Rattle.states.proofs.Changes.{step-as, step-none}
 use Rattle.forward.proofs.Bridge.{from-elsewhere, from-other-kind, from-refused, from-taken}
@@ -43,109 +46,159 @@ add-word c = omega (arith, in-area (c .before .before .before) .0)
 word-requires : tie.Need-word-requires
 word-requires c κs = in-area (c .before .before .before) .0
 
-cast-line : tie.Need-cast-line
-cast-line c = search needs
+from-of-requires : tie.Need-from-of-requires
+from-of-requires c κs = search needs
+
+-- ---- where the line's word is read
+
+abbrev start : tie.After-from-of → tie.Start
+start o = o .before .before .before .before .before
+
+-- it is the word of the loaded line
+word-is : (o : tie.After-from-of) → let a = start o .args in o .before .word .result ≡ wordAt (a .plan) (front (a .plan) (a .work .now)) (a .i)
+word-is o = word-front (fit (start o) .laid) _ _ (start o .pre .1 .1 .0) _ (o .before .word .ensures)
 
 stands-at-requires : tie.Need-stands-at-requires
 stands-at-requires c κs =
-    let laid = fit (c .before .before .before .before) .laid in
-    (stacks-pos laid, block-small laid, laid .few-commands, omega arith)
+    let laid = fit (start c) .laid in
+    (stacks-pos laid, block-small laid, laid .few-commands, omega (arith, c .from-of .ensures .1))
 
 standing-at-requires : tie.Need-standing-at-requires
 standing-at-requires c κs =
-    let laid = fit (c .before .before .before .before .before .before) .laid in
-    ((stacks-pos laid, block-small laid, laid .few-commands, omega arith), (sym (c .before .stands-at .ensures) ∙ c .if1 .taken, laid .inverse-is))
+    let o = c .before .before in
+    let laid = fit (start o) .laid in
+    ((stacks-pos laid, block-small laid, laid .few-commands, omega (arith, o .from-of .ensures .1)), (sym (c .before .stands-at .ensures) ∙ c .if1 .taken, laid .inverse-is))
+
+kind-of-requires : tie.Need-kind-of-requires
+kind-of-requires c κs = search needs
+
+-- ---- where the state stands at the line's place
+
+abbrev line : tie.After-kind-of → tie.After-from-of
+line k = k .before .before .before .before
+
+there : (k : tie.After-kind-of) → let a = start (line k) .args in eqb (line k .from-of .result) (a .s / a .plan .stacks / (a .plan .done + 1)) ≡ true
+there k = sym (k .before .before .before .stands-at .ensures) ∙ k .before .before .if1 .taken
+
+position-low : (k : tie.After-kind-of) → k .before .standing-at .result .position ≤ start (line k) .args .plan .done
+position-low k = pos-low (start (line k)) _ (k .before .standing-at .ensures .0)
 
 kind-at-requires : tie.Need-kind-at-requires
-kind-at-requires c κs = let a = c .before .before .before .before .before .before .before in omega (arith, pos-low a _ (c .standing-at .ensures .0), fit a .laid .few-commands)
+kind-at-requires c κs = omega (arith, position-low c, fit (start (line c)) .laid .few-commands)
 
 spot-at-requires : tie.Need-spot-at-requires
 spot-at-requires c κs =
-    let a = c .before .before .before .before .before .before .before .before .before in
-    let f = fit a in
-    let low = pos-low a _ (c .before .before .standing-at .ensures .0) in
+    let k = c .before .before in
+    let f = fit (start (line k)) in
+    let low = position-low k in
     ((omega (arith, low, f .laid .few-commands), f .laid .some-radix), (power-small (f .laid) _ (f .levels-low _ low), power-small (f .laid) _ (f .depths-low _ low)))
 
+-- ---- where it is of the line's kind
+
+abbrev kinds : tie.After-spot-at → tie.After-kind-of
+kinds p = p .before .before .before
+
+sane : (p : tie.After-spot-at) → Sane (p .spot-at .result)
+sane p = spot-sane (fit (start (line (kinds p)))) _ (position-low (kinds p)) _ (p .spot-at .ensures)
+
 add-word-2 : tie.Need-add-word-2
-add-word-2 c = let h = in-area (c .before .before .before .before .before .before .before .before .before .before .before .before) in omega (arith, h .1, h .2)
+add-word-2 c = let h = in-area (start (line (kinds (c .before .before)))) in omega (arith, h .1, h .2)
 
 word-requires-2 : tie.Need-word-requires-2
-word-requires-2 c κs = in-area (c .before .before .before .before .before .before .before .before .before .before .before .before) .1
+word-requires-2 c κs = in-area (start (line (kinds (c .before .before)))) .1
 
 passes-requires : tie.Need-passes-requires
-passes-requires c κs =
-    let a = c .before .before .before .before .before .before .before .before .before .before .before .before .before in
-    (fit a .laid .some-radix, spot-sane (fit a) _ (pos-low a _ (c .before .before .before .before .before .before .standing-at .ensures .0)) _ (c .before .before .before .spot-at .ensures) .some-level)
+passes-requires c κs = let p = c .before .before .before in (fit (start (line (kinds p))) .laid .some-radix, sane p .some-level)
+
+abbrev spots : tie.After-passes → tie.After-spot-at
+spots w = w .before .before .before .before
+
+-- the boat's number is that of the loaded line
+code-is : (w : tie.After-passes) → let a = start (line (kinds (spots w))) .args in w .before .word2 .result ≡ codeAt (a .plan) (front (a .plan) (a .work .now)) (a .i)
+code-is w = let a = start (line (kinds (spots w))) in code-front (fit a .laid) _ _ (a .pre .1 .1 .0) _ (w .before .word2 .ensures)
 
 put-on-requires : tie.Need-put-on-requires
 put-on-requires c κs =
-    let a = c .before .before .before .before .before .before .before .before .before .before .before .before .before .before .before in
-    let here = c .before .before .before .before .before .before .before .before .standing-at .ensures in
-    (spot-sane (fit a) _ (pos-low a _ (here .0)) _ (c .before .before .before .before .before .spot-at .ensures) .small-weight, stack-small a _ (here .1))
+    let p = spots (c .before) in
+    (sane p .small-weight, stack-small (start (line (kinds p))) _ (kinds p .before .standing-at .ensures .1))
+
+-- ---- where its boat passes
 
 follow-at-requires : tie.Need-follow-at-requires
-follow-at-requires c κs = let a = c .before .before .before .before .before .before .before .before .before .before .before .before .before .before .before .before in omega (arith, pos-low a _ (c .before .before .before .before .before .before .before .before .before .standing-at .ensures .0), fit a .laid .few-commands)
+follow-at-requires c κs = let k = kinds (spots (c .before .before)) in omega (arith, position-low k, fit (start (line k)) .laid .few-commands)
+
+to-of-requires : tie.Need-to-of-requires
+to-of-requires c κs = search needs
+
+abbrev passed : tie.After-to-of → tie.After-passes
+passed t = t .before .before .before .before
+
+to-is : (t : tie.After-to-of) → let o = line (kinds (spots (passed t))) in let a = start o .args in t .to-of .result ≡ toIn (wordAt (a .plan) (front (a .plan) (a .work .now)) (a .i))
+to-is t = t .to-of .ensures .0 ∙ ap toIn (word-is (line (kinds (spots (passed t)))))
 
 over-next-requires : tie.Need-over-next-requires
 over-next-requires c κs =
-    let a = c .before .before .before .before .before .before .before .before .before .before .before .before .before .before .before .before .before .before in
+    let t = c .before in
+    let a = start (line (kinds (spots (passed t)))) in
     let f = fit a in
-    let p = word-front (f .laid) _ _ (a .pre .1 .1 .0) _ (c .before .before .before .before .before .before .before .before .before .before .before .before .before .before .word .ensures) in
-    (a .pre .0, (f .laid, (subst (λ z. toIn z < a .args .plan .places) (sym p) (f .ends _ (a .pre .1 .1 .0)), f .depths-low)))
+    (a .pre .0, (f .laid, (subst (_< a .args .plan .places) (sym (to-is t)) (f .ends _ (a .pre .1 .1 .0)), f .depths-low)))
 
 same-length : tie.Need-same-length
 same-length c = search needs
 
 returns : tie.Need-returns
 returns c =
-    let a = c .before .before .before .before .before .before .before .before .before .before .before .before .before .before .before .before .before .before .before .before .before in
+    let t = c .before .before .before .before in
+    let w = passed t in
+    let p = spots w in
+    let k = kinds p in
+    let o = line k in
+    let a = start o in
     let laid = fit a .laid in
-    let p = word-front laid _ _ (a .pre .1 .1 .0) _ (c .before .before .before .before .before .before .before .before .before .before .before .before .before .before .before .before .before .word .ensures) in
-    let x = code-front laid _ _ (a .pre .1 .1 .0) _ (c .before .before .before .before .before .before .before .before .word2 .ensures) in
-    let there = sym (c .before .before .before .before .before .before .before .before .before .before .before .before .before .before .before .before .stands-at .ensures) ∙ c .before .before .before .before .before .before .before .before .before .before .before .before .before .before .before .if1 .taken in
-    let here = c .before .before .before .before .before .before .before .before .before .before .before .before .before .before .standing-at .ensures in
-    let kind = c .before .before .before .before .before .before .before .before .before .before .before .before .if2 .taken ∙ c .before .before .before .before .before .before .before .before .before .before .before .before .before .kind-at .ensures in
-    let ok = sym (c .before .before .before .before .before .before .before .passes .ensures) ∙ c .before .before .before .before .before .before .if3 .taken in
+    let here = k .before .standing-at .ensures in
     step-as _ (c .before .before .over-next .ensures)
-    (from-taken (program a) _ _ (laid .stacks-is) (laid .few-commands) _ _ _ _ _ (a .pre .1 .1 .0) p there _ _ (here .0) (here .1) kind _ (c .before .before .before .before .before .before .before .before .before .before .before .spot-at .ensures) _ x ok _ (c .before .before .before .before .before .put-on .ensures) _ (c .before .before .before .before .follow-at .ensures))
+    (from-taken (program a) _ _ (laid .stacks-is) (laid .few-commands) _ _ _ _ (a .pre .1 .1 .0) _ (o .from-of .ensures .0 ∙ ap fromIn (word-is o)) (there k) _ _ (here .0) (here .1) _ (k .kind-of .ensures .0 ∙ ap kindIn (word-is o))
+    (p .before .if2 .taken ∙ p .before .before .kind-at .ensures) _ (p .spot-at .ensures) _ (code-is w) (sym (w .passes .ensures) ∙ t .before .before .before .if3 .taken) _ (t .before .before .put-on .ensures) _ (t .before .follow-at .ensures) _ (to-is t))
 
 same-length-2 : tie.Need-same-length-2
 same-length-2 c = search needs
 
 returns-2 : tie.Need-returns-2
 returns-2 c =
-    let a = c .before .before .before .before .before .before .before .before .before .before .before .before .before .before .before in
+    let w = c .before in
+    let p = spots w in
+    let k = kinds p in
+    let o = line k in
+    let a = start o in
     let laid = fit a .laid in
-    let p = word-front laid _ _ (a .pre .1 .1 .0) _ (c .before .before .before .before .before .before .before .before .before .before .before .word .ensures) in
-    let x = code-front laid _ _ (a .pre .1 .1 .0) _ (c .before .before .word2 .ensures) in
-    let there = sym (c .before .before .before .before .before .before .before .before .before .before .stands-at .ensures) ∙ c .before .before .before .before .before .before .before .before .before .if1 .taken in
-    let here = c .before .before .before .before .before .before .before .before .standing-at .ensures in
-    let kind = c .before .before .before .before .before .before .if2 .taken ∙ c .before .before .before .before .before .before .before .kind-at .ensures in
-    let no-pass = sym (c .before .passes .ensures) ∙ c .if3 .left in
+    let here = k .before .standing-at .ensures in
     step-none _ (a .pre .0)
-    (from-refused (program a) _ _ (laid .stacks-is) (laid .few-commands) _ _ _ _ _ (a .pre .1 .1 .0) p there _ _ (here .0) (here .1) kind _ (c .before .before .before .before .before .spot-at .ensures) _ x no-pass)
+    (from-refused (program a) _ _ (laid .stacks-is) (laid .few-commands) _ _ _ _ (a .pre .1 .1 .0) _ (o .from-of .ensures .0 ∙ ap fromIn (word-is o)) (there k) _ _ (here .0) (here .1) _ (k .kind-of .ensures .0 ∙ ap kindIn (word-is o))
+    (p .before .if2 .taken ∙ p .before .before .kind-at .ensures) _ (p .spot-at .ensures) _ (code-is w) (sym (w .passes .ensures) ∙ c .if3 .left))
 
 same-length-3 : tie.Need-same-length-3
 same-length-3 c = search needs
 
 returns-3 : tie.Need-returns-3
 returns-3 c =
-    let a = c .before .before .before .before .before .before .before .before .before in
+    let k = c .before .before in
+    let o = line k in
+    let a = start o in
     let laid = fit a .laid in
-    let p = word-front laid _ _ (a .pre .1 .1 .0) _ (c .before .before .before .before .before .word .ensures) in
-    let there = sym (c .before .before .before .before .stands-at .ensures) ∙ c .before .before .before .if1 .taken in
-    let here = c .before .before .standing-at .ensures in
-    step-none _ (a .pre .0) (from-other-kind (program a) _ _ (laid .stacks-is) (laid .few-commands) _ _ _ _ _ (a .pre .1 .1 .0) p there _ _ (here .0) (here .1) (λ k. c .if2 .left (k ∙ sym (c .before .kind-at .ensures))))
+    let here = k .before .standing-at .ensures in
+    step-none _ (a .pre .0)
+    (from-other-kind (program a) _ _ (laid .stacks-is) (laid .few-commands) _ _ _ _ (a .pre .1 .1 .0) _ (o .from-of .ensures .0 ∙ ap fromIn (word-is o)) (there k) _ _ (here .0) (here .1) _ (k .kind-of .ensures .0 ∙ ap kindIn (word-is o))
+    (λ e. c .if2 .left (e ∙ sym (c .before .kind-at .ensures))))
 
 same-length-4 : tie.Need-same-length-4
 same-length-4 c = search needs
 
 returns-4 : tie.Need-returns-4
 returns-4 c =
-    let a = c .before .before .before .before .before .before in
+    let o = c .before .before in
+    let a = start o in
     let laid = fit a .laid in
-    let p = word-front laid _ _ (a .pre .1 .1 .0) _ (c .before .before .word .ensures) in
-    step-none _ (a .pre .0) (from-elsewhere (program a) _ _ (laid .stacks-is) (laid .few-commands) _ _ _ _ _ (a .pre .1 .1 .0) p (sym (c .before .stands-at .ensures) ∙ c .if1 .left))
+    step-none _ (a .pre .0) (from-elsewhere (program a) _ _ (laid .stacks-is) (laid .few-commands) _ _ _ _ (a .pre .1 .1 .0) _ (o .from-of .ensures .0 ∙ ap fromIn (word-is o)) (sym (c .before .stands-at .ensures) ∙ c .if1 .left))
 
 pub from-state-spec : {M : Type 1} → statement M
 from-state-spec =
@@ -153,9 +206,10 @@ from-state-spec =
     (tie.spec
     add-word
     word-requires
-    cast-line
+    from-of-requires
     stands-at-requires
     standing-at-requires
+    kind-of-requires
     kind-at-requires
     spot-at-requires
     add-word-2
@@ -163,6 +217,7 @@ from-state-spec =
     passes-requires
     put-on-requires
     follow-at-requires
+    to-of-requires
     over-next-requires
     same-length
     returns
