@@ -18,7 +18,7 @@ use Rattle.search.specs.Check.{exist, moved, check}
 use Rattle.search.specs.ReadBack.{loaded-check}
 use Rattle.forward.specs.Posed.{Posed}
 use Rattle.states.specs.Spots.{front}
-use Rattle.forward.proofs.Posing.{posed-plan, posed-tables}
+use Rattle.forward.proofs.Posing.{posed-tables}
 use Rattle.checker.specs.Walk.{Within}
 
 module _ {q : Asked} {pat : List ℕ} {plan : Plan} {from to : ℕ} {w : List ℕ} (posed : Posed q pat plan from to w) where
@@ -34,4 +34,4 @@ module _ {q : Asked} {pat : List ℕ} {plan : Plan} {from to : ℕ} {w : List �
     posed-check chain e =
         let moves = memb (goal In to) (moved (succs In) (starting In from (members begin)) chain) in
         sym (ap (_&& moves) e)
-        ∙ loaded-check (q .day .lines) (q .day .places) (q .pattern) plan (length w) (posed-plan posed) (posed .laid) (front plan w) (posed-tables posed) (posed .fit) program begin compiled from to chain
+        ∙ loaded-check q plan (length w) (posed .planned) (posed .laid) (front plan w) (posed-tables posed) (posed .fit) program begin compiled from to chain

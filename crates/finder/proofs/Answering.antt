@@ -18,7 +18,7 @@ use Rattle.forward.specs.Firsts.{firstStates}
 use Rattle.forward.specs.Posed.{Posed}
 use Rattle.states.specs.Spots.{front}
 use Rattle.forward.proofs.Firsts.{first-states}
-use Rattle.forward.proofs.Posing.{posed-plan, posed-tables}
+use Rattle.forward.proofs.Posing.{posed-tables}
 use Rattle.finder.specs.Reply.{stopped, settled, findOf}
 use Rattle.finder.specs.Searching.{Searched, SearchedIn}
 
@@ -30,7 +30,7 @@ posed-searched {q} {plan = plan} {from} {to} {w} posed {program} {begin} compile
     let S = settingIn program plan (front plan w) in
     let first = first-states program plan (length w) (posed .laid) (front plan w) begin from (λ k m. omega (arith, posed .planned .done-is, compiled-start compiled k m .0)) in
     let x = subst (λ firsts. SearchedIn S plan firsts to word out after) first s in
-    let found = loaded-ended (q .day .lines) (q .day .places) (q .pattern) plan (length w) (posed-plan posed) (posed .laid) (front plan w) (posed-tables posed) (posed .fit) program begin compiled from to
+    let found = loaded-ended q plan (length w) (posed .planned) (posed .laid) (front plan w) (posed-tables posed) (posed .fit) program begin compiled from to
     (expand S) (expand-law S) (fromState S) (from-law S) (posed .from-low) (posed .to-low) (x .count) (x .ended) in
     subst (λ o. Searched o word out after) found (x .searched)
 

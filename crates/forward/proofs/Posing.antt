@@ -1,11 +1,11 @@
 -- A request posed is one to search by: `posed-from` (the area after loading is posed), `posed-fit` (its tables fit), `posed-tables` (they
 -- are those of its record).
 use mathlib.Core.Path.{_≡_, sym, ap, _∙_, subst}
-use mathlib.Core.List.{List, _++_, map}
-use Prim.Native.Nat.{ℕ, _<_, _≤_}
+use mathlib.Core.List.{List, _++_, map, append-assoc}
+use Prim.Native.Nat.{ℕ, _+_, _<_, _≤_}
 use native.Mathlib.Omega.{arith}
-use lib.ListN.{length, getD, take, drop, length-append, length-drop, length-map}
-use lib.Seq.{take-at, take-take}
+use lib.ListN.{length, getD, take, drop, length-append, length-take, length-drop, length-map}
+use lib.Seq.{take-at, drop-at, take-take}
 use Rattle.meaning.specs.Record.{Line}
 use Rattle.meaning.specs.Writing.{lineAt}
 use Rattle.meaning.specs.Pattern.{Pattern, commands}
@@ -16,19 +16,18 @@ use Rattle.automaton.specs.Program.{rowAt, Compiled}
 use Rattle.compiler.specs.Compiling.{Small}
 use Rattle.automaton.specs.Limits.{compiled-depth}
 use Rattle.boats.specs.Codes.{codes, code-low, codes-length}
-use Rattle.request.specs.Layout.{Laid, lineWord, fromIn, toIn, loadedOf}
-use Rattle.request.specs.Reply as Request
+use Rattle.request.specs.Layout.{Laid, Planned, lineWord, fromIn, toIn, loadedOf}
 use Rattle.request.specs.Told.{Parts, Told}
 use Rattle.request.specs.declared.Plan.{Plan}
 use Rattle.search.specs.Loaded.{codeAt, wordAt, settingIn}
 use Rattle.search.specs.Answer.{setting}
 use Rattle.search.specs.Front.{line-at, tables}
-use Rattle.search.specs.ReadBack.{Planned, loaded-same}
+use Rattle.search.specs.ReadBack.{loaded-same}
 use Rattle.states.specs.Spots.{front, Fit}
 use Rattle.forward.specs.Posed.{Posed}
 
--- the tables fill the words before `base`
-tables-long : {q : Asked} {plan : Plan} {area : ℕ} → Request.Planned q plan → Laid plan area → length (loadedOf (q .day .lines)) ≡ plan .base
+-- the tables fill the words from `codes` up to `base`
+tables-long : {q : Asked} {plan : Plan} {area : ℕ} → Planned q plan → Laid plan area → plan .codes + length (loadedOf (q .day .lines)) ≡ plan .base
 tables-long {q} {plan} p l =
     let lines = q .day .lines in
     omega (
@@ -37,20 +36,22 @@ tables-long {q} {plan} p l =
       codes-length lines,
       length-map lines lineWord,
       p .lines-are,
-      p .codes-at,
       l .words-at,
       l .base-at,
     )
 
 -- the area after loading, by the plan of a request that passed; `old` is what it was before
 pub posed-from : {rec pat : List ℕ} {from to : ℕ} {plan : Plan} (old : List ℕ) (t : Told (askRequest rec pat from to (length old)) (length old) plan) → Parts rec pat from to (t .asked)
-    → ((i : ℕ) → getD rec i 0 < 256) → (w : List ℕ) → w ≡ loadedOf (linesOf rec) ++ drop (plan .base) old
+    → ((i : ℕ) → getD rec i 0 < 256) → (w : List ℕ) → w ≡ take (plan .boats) old ++ (loadedOf (linesOf rec) ++ drop (plan .base) old)
     → Posed (t .asked) pat plan from to w
 posed-from {rec} {plan = plan} old t p low w is =
     let g = loadedOf (t .asked .day .lines) in
-    let made : w ≡ g ++ drop (plan .base) old = is ∙ ap (λ ls. loadedOf ls ++ drop (plan .base) old) (ap linesIn (p .day-read)) in
-    let front : length g ≡ plan .base = tables-long (t .planned) (t .laid) in
-    let long : length w ≡ length old = omega (arith, ap length made, length-append g (drop (plan .base) old), front, length-drop (plan .base) old, t .laid .room) in
+    let before = take (plan .boats) old in
+    let after = drop (plan .base) old in
+    let made : w ≡ before ++ (g ++ after) = is ∙ ap (λ ls. before ++ (loadedOf ls ++ after)) (ap linesIn (p .day-read)) in
+    let whole : plan .codes + length g ≡ plan .base = tables-long (t .planned) (t .laid) in
+    let short : length before ≡ plan .codes = omega (arith, length-take (plan .boats) old, t .laid .codes-at, t .laid .words-at, t .laid .base-at, t .laid .room) in
+    let long : length w ≡ length old = omega (arith, ap length made, length-append before (g ++ after), length-append g after, short, whole, length-drop (plan .base) old, t .laid .room) in
     record {
       reads = p .pattern-read;
       planned = t .planned;
@@ -58,7 +59,9 @@ posed-from {rec} {plan = plan} old t p low w is =
       fit = record-fits rec (t .asked .day) (p .day-read) low;
       from-low = p .from-low;
       to-low = p .to-low;
-      loaded = ap (take (plan .base)) made ∙ take-at g (drop (plan .base) old) (plan .base) front;
+      loaded =
+          ap (λ l. drop (plan .codes) (take (plan .base) l)) (made ∙ sym (append-assoc before g after))
+          ∙ (ap (drop (plan .codes)) (take-at (before ++ g) after (plan .base) (omega (arith, length-append before g, short, whole))) ∙ drop-at before g (plan .codes) short);
     }
 
 module _ {q : Asked} {pat : List ℕ} {plan : Plan} {from to : ℕ} {w : List ℕ} (posed : Posed q pat plan from to w) where
@@ -68,19 +71,8 @@ module _ {q : Asked} {pat : List ℕ} {plan : Plan} {from to : ℕ} {w : List �
   abbrev tree : Pattern
   tree = q .pattern
 
-  pub posed-plan : Planned lines (q .day .places) tree plan
-  posed-plan = let p = posed .planned in record {
-    places-are = p .places-are;
-    lines-are = p .lines-are;
-    done-is = p .done-is;
-    keeps-are = p .keeps-are;
-    radix-is = p .radix-is;
-  }
-
   pub posed-tables : tables plan (front plan w) ≡ loadedOf lines
-  posed-tables =
-      ap (λ n. drop n (take (plan .base) (front plan w))) (posed .planned .codes-at)
-      ∙ (take-take (plan .base) (plan .base) w (omega arith) ∙ posed .loaded)
+  posed-tables = ap (drop (plan .codes)) (take-take (plan .base) (plan .base) w (omega arith)) ∙ posed .loaded
 
   module _ {program : List ℕ} {begin : ℕ} (compiled : Compiled tree program begin) (small : (k : ℕ) → k ≤ commands tree → Small (rowAt program k)) where
     -- the tables' lines are the request's
@@ -88,7 +80,7 @@ module _ {q : Asked} {pat : List ℕ} {plan : Plan} {from to : ℕ} {w : List �
     unfolding settingIn setting
     line-is i h =
         let li : i < length lines = omega (arith, posed .planned .lines-are) in
-        let same = loaded-same lines (q .day .places) tree plan (length w) posed-plan (posed .laid) (front plan w) posed-tables (posed .fit) program begin compiled in
+        let same = loaded-same q plan (length w) (posed .planned) (posed .laid) (front plan w) posed-tables (posed .fit) program begin compiled in
         let here = line-at plan (front plan w) i h in
         let within = posed .fit .within i li in
         let a : fromIn (wordAt plan (front plan w) i) ≡ lineAt lines i .from = sym (ap (λ (l : Line). l .from) here) ∙ same .from i li in
@@ -100,7 +92,7 @@ module _ {q : Asked} {pat : List ℕ} {plan : Plan} {from to : ℕ} {w : List �
     unfolding settingIn setting
     code-below i h =
         let li : i < length lines = omega (arith, posed .planned .lines-are) in
-        let same = loaded-same lines (q .day .places) tree plan (length w) posed-plan (posed .laid) (front plan w) posed-tables (posed .fit) program begin compiled in
+        let same = loaded-same q plan (length w) (posed .planned) (posed .laid) (front plan w) posed-tables (posed .fit) program begin compiled in
         omega (arith, same .code i li, code-low lines i li, posed .planned .radix-is)
 
     pub posed-fit : Fit plan program w

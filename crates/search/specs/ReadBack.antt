@@ -11,14 +11,14 @@ use lib.Seq.{getD-append-add}
 use Rattle.meaning.specs.Record.{Line, boats}
 use Rattle.meaning.specs.Writing.{noLine, lineAt}
 use Rattle.meaning.specs.Pattern.{Pattern, commands, keeps}
-use Rattle.meaning.specs.Request.{searchSize}
+use Rattle.meaning.specs.Request.{Asked, searchSize}
 use Rattle.boats.specs.Boats.{word}
 use Rattle.record.specs.Fit.{Fit}
 use Rattle.automaton.specs.Listed.{_∈_}
 use Rattle.automaton.specs.Automaton.{nodes, nodeAt, start}
 use Rattle.automaton.specs.Program.{Compiled, members}
 use Rattle.boats.specs.Codes.{codes, codes-length}
-use Rattle.request.specs.Layout.{Laid, lineWord, line-from, line-to, line-kind, loadedOf}
+use Rattle.request.specs.Layout.{Laid, Planned, lineWord, line-from, line-to, line-kind, loadedOf}
 use Rattle.request.specs.declared.Plan.{Plan}
 use Rattle.search.specs.Plain.{memb, solve}
 use Rattle.search.specs.Sets.{memb-same}
@@ -36,16 +36,6 @@ use Rattle.search.specs.Steps.{Ok, next-ok, preds-ok}
 use Rattle.search.specs.Same.{Same, passes-same, same-succs, same-preds, same-goal, same-starting, same-solve, same-moved}
 use Rattle.search.specs.Front.{lines-many, line-at, tables, table-at}
 
--- ---- what a request's plan and tables are
-
--- the plan's numbers are those of the lines, their places and the pattern
-pub record Planned (lines : List Line) (places : ℕ) (p : Pattern) (plan : Plan) : Type 0 where
-  pub places-are : plan .places ≡ places
-  pub lines-are : plan .lines ≡ length lines
-  pub done-is : plan .done ≡ commands p
-  pub keeps-are : plan .keeps ≡ keeps p
-  pub radix-is : plan .radix ≡ suc (length (boats lines))
-
 -- ---- of a request
 
 -- the positions of the mask, at place a with an empty stack, are the starts, in some order
@@ -59,7 +49,16 @@ starts-members S p program begin compiled a s = (over (members begin) (start p) 
         let (k, mk, e) = Memᴰ·of-map at K m in
         subst (_∈ map at K′) e (Memᴰ·map at (f k mk))
 
-module _ (lines : List Line) (places : ℕ) (p : Pattern) (plan : Plan) (area : ℕ) (planned : Planned lines places p plan) (laid : Laid plan area) where
+module _ (q : Asked) (plan : Plan) (area : ℕ) (planned : Planned q plan) (laid : Laid plan area) where
+  abbrev lines : List Line
+  lines = q .day .lines
+
+  abbrev places : ℕ
+  places = q .day .places
+
+  abbrev p : Pattern
+  p = q .pattern
+
   pub size-asked : plan .size ≡ searchSize lines places p
   unfolding searchSize
   size-asked =
