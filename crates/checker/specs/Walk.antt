@@ -38,7 +38,7 @@ walked next N (i ∷ c) st = walked next N c (stepped next N i st)
 
 -- marks and frontier begin here
 abbrev pub marks : Plan → ℕ
-marks plan = plan .base + plan .size
+marks plan = plan .marks
 
 -- between two lines of the chain: the pair holds a set of states, and nothing else is marked
 pub record Alive (plan : Plan) (tail : ℕ) (w : List ℕ) : Type 0 where

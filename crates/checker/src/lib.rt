@@ -48,9 +48,9 @@ fn set_aside(work: &mut [u32], plan: Plan, i: usize)
     requires { ⌜ (i < plan .size) × (frontierAt plan (now work) i < plan .size) ⌝ }
     ensures { λ _. ⌜ now (work .exit) ≡ asideOf plan i (now (work .entry)) ⌝ }
 {
-    let s = states::word(work, plan.base + plan.size + plan.size + i);
+    let s = states::word(work, plan.marks + plan.size + i);
     states::write(work, plan.base, plan.size, i, s);
-    states::write(work, plan.base + plan.size, plan.size, s as usize, 0);
+    states::write(work, plan.marks, plan.size, s as usize, 0);
 }
 
 // All states of the frontier come into the list, and nothing is marked.
@@ -130,11 +130,11 @@ fn leads(
     requires { ⌜ (from < plan .places) × (to < plan .places) × (exist (plan .lines) (now chain) ≡ true) ⌝ }
     ensures { λ r. ⌜ r ≡ ends (settingAt (now (program .entry)) plan (now (work .entry))) begin from to (now (chain .entry)) ⌝ }
 {
-    states::clear_stretch(work, plan.base + plan.size, plan.size);
+    states::clear_stretch(work, plan.marks, plan.size);
     let starts = forward::over_next(work, plan, program, begin, 0, from, 0, 0);
     let tail = run_chain(work, plan, program, chain, starts);
     let end = states::state_at(plan, to, plan.done, 0);
-    if states::dist_at(work, plan.base + plan.size, plan.size, tail, end) == 0 {
+    if states::dist_at(work, plan.marks, plan.size, tail, end) == 0 {
         return false;
     }
     true

@@ -18,15 +18,14 @@ use request::Plan;
 // The state `t` is visited: it comes into the frontier if its distance's word is `want`; 0 wants every state.
 pub fn visit_state(work: &mut [u32], plan: Plan, want: u32, t: usize, tail: usize) -> usize
     requires { ⌜ ReadyForth plan tail (now work) ⌝ }
-    requires { ⌜ t < plan .size ⌝ }
+    requires { ⌜ Laid plan (length (now work)) × (t < plan .size) ⌝ }
     ensures { λ r. ⌜ StepForth plan (seen plan (now (work .entry)) want t) tail (now (work .entry)) r (now (work .exit)) ⌝ }
 {
-    let marks = plan.base + plan.size;
     if want == 0 {
-        return states::push_if_new(work, marks, plan.size, 1, t, tail);
+        return states::push_if_new(work, plan.marks, plan.size, 1, t, tail);
     }
     if states::word(work, plan.base + t) == want {
-        return states::push_if_new(work, marks, plan.size, 1, t, tail);
+        return states::push_if_new(work, plan.marks, plan.size, 1, t, tail);
     }
     tail
 }

@@ -22,13 +22,13 @@ distances plan w = stretch (plan .base) (plan .size) w
 -- ---- phase two
 
 abbrev pub ReadyForth : Plan → ℕ → List ℕ → Type 0
-ReadyForth plan = Ready (plan .base + plan .size) (plan .size)
+ReadyForth plan = Ready (plan .marks) (plan .size)
 
 abbrev pub StepForth : Plan → (Search → Search) → ℕ → List ℕ → ℕ → List ℕ → Type 0
-StepForth plan = Step (plan .base + plan .size) (plan .size)
+StepForth plan = Step (plan .marks) (plan .size)
 
 abbrev pub foundForth : Plan → ℕ → List ℕ → Search
-foundForth plan = found (plan .base + plan .size) (plan .size)
+foundForth plan = found (plan .marks) (plan .size)
 
 -- a state is visited where its distance's word is the one that is wanted
 abbrev pub seen : Plan → List ℕ → ℕ → ℕ → Search → Search

@@ -43,23 +43,23 @@ use Rattle.states.proofs.Bounds.{fit-same}
 -- ---- the tables stay
 
 pub leading-under : {plan : Plan} {a : List ℕ} {F : Search → Search} {t₀ : ℕ} {w₀ : List ℕ} {G : Search → Search} {t : ℕ} {w : List ℕ}
-    → Under (plan .base + plan .size) (plan .size) F t₀ w₀ G t w → Leading plan a w₀ → Leading plan a w
+    → Under (plan .marks) (plan .size) F t₀ w₀ G t w → Leading plan a w₀ → Leading plan a w
 leading-under {plan} {w₀ = w₀} {t = t} {w = w} u h =
     let f = under-front u (plan .base) (omega arith) in
     record {
       fit = fit-same (u .long) f (h .fit);
-      ordered = λ room. sorted-same Order.Start plan (startsAt plan) w₀ w (h .ordered (subst (Roomy plan) (u .long) room)) f (under-back u (startsAt plan) (omega (arith, u .ready .fits)));
+      ordered = λ room. sorted-same Order.Start plan (plan .bystart) w₀ w (h .ordered (subst (Roomy plan) (u .long) room)) f (under-back u (plan .bystart) (omega (arith, u .ready .fits)));
     }
 
 -- the lines put in order: no word before them changes
-module _ (plan : Plan) (w v : List ℕ) (before : take (startsAt plan) v ≡ take (startsAt plan) w) where
+module _ (plan : Plan) (w v : List ℕ) (before : take (plan .bystart) v ≡ take (plan .bystart) w) where
   pub ordered-front : front plan v ≡ front plan w
-  ordered-front = sym (take-take (plan .base) (startsAt plan) v (omega arith)) ∙ (ap (take (plan .base)) before ∙ take-take (plan .base) (startsAt plan) w (omega arith))
+  ordered-front = sym (take-take (plan .base) (plan .bystart) v (omega arith)) ∙ (ap (take (plan .base)) before ∙ take-take (plan .base) (plan .bystart) w (omega arith))
 
-  pub ordered-dist : startsAt plan ≤ length w → startsAt plan ≤ length v → stretch (plan .base) (plan .size) v ≡ stretch (plan .base) (plan .size) w
+  pub ordered-dist : plan .bystart ≤ length w → plan .bystart ≤ length v → stretch (plan .base) (plan .size) v ≡ stretch (plan .base) (plan .size) w
   ordered-dist hw hv =
-      sym (stretch-take (startsAt plan) (plan .base) (plan .size) v (omega arith) hv)
-      ∙ (ap (stretch (plan .base) (plan .size)) before ∙ stretch-take (startsAt plan) (plan .base) (plan .size) w (omega arith) hw)
+      sym (stretch-take (plan .bystart) (plan .base) (plan .size) v (omega arith) hv)
+      ∙ (ap (stretch (plan .base) (plan .size)) before ∙ stretch-take (plan .bystart) (plan .base) (plan .size) w (omega arith) hw)
 
   pub ordered-leading : {a : List ℕ} → length v ≡ length w → Ordered plan v → Fit plan a w → Leading plan a v
   ordered-leading long ordered fit = record { fit = fit-same long ordered-front fit; ordered = ordered }
@@ -74,12 +74,12 @@ module _ {plan : Plan} {a : List ℕ} {w : List ℕ} (f : Fit plan a w) (g : Lis
   abbrev S : Setting
   S = settingIn a plan g
 
-  to-stand : {q lo tail : ℕ} {v : List ℕ} → Ready (plan .base + plan .size) (plan .size) tail v → Standing plan q lo tail v
-      → Stand S q lo (found (plan .base + plan .size) (plan .size) tail v .queue)
+  to-stand : {q lo tail : ℕ} {v : List ℕ} → Ready (plan .marks) (plan .size) tail v → Standing plan q lo tail v
+      → Stand S q lo (found (plan .marks) (plan .size) tail v .queue)
   to-stand r stand j le less = sym (place-in (f .laid) a g _) ∙ stand j le (omega (arith, less, ready-long r))
 
-  of-stand : {q lo tail : ℕ} {v : List ℕ} → Ready (plan .base + plan .size) (plan .size) tail v
-      → Stand S q lo (found (plan .base + plan .size) (plan .size) tail v .queue) → Standing plan q lo tail v
+  of-stand : {q lo tail : ℕ} {v : List ℕ} → Ready (plan .marks) (plan .size) tail v
+      → Stand S q lo (found (plan .marks) (plan .size) tail v .queue) → Standing plan q lo tail v
   of-stand r stand j le less = place-in (f .laid) a g _ ∙ stand j le (omega (arith, less, ready-long r))
 
   -- the setting's stacks are no deeper than the keeps
@@ -94,13 +94,13 @@ module _ {plan : Plan} {a : List ℕ} {w : List ℕ} (f : Fit plan a w) (g : Lis
   -- ---- the frontiers
 
   -- the line chosen leads to one place
-  pub try-together : (D : List ℕ) (want lo n : ℕ) {t u : ℕ} {w₀ v : List ℕ} → Ready (plan .base + plan .size) (plan .size) t w₀
-      → Step (plan .base + plan .size) (plan .size) (tryTable (fromState S D) want lo n 0) t w₀ u v → Together plan t u v
+  pub try-together : (D : List ℕ) (want lo n : ℕ) {t u : ℕ} {w₀ v : List ℕ} → Ready (plan .marks) (plan .size) t w₀
+      → Step (plan .marks) (plan .size) (tryTable (fromState S D) want lo n 0) t w₀ u v → Together plan t u v
   unfolding tryTable
   try-together D want lo n {t} {u} {w₀} {v} r step =
-      let (q, stand) = try-stand S some-radix shallow D want lo n 0 (found (plan .base + plan .size) (plan .size) t w₀) in
-      let own = subst (λ (x : ℕ). Stand S q x (found (plan .base + plan .size) (plan .size) u v .queue)) (ready-long r)
-      (subst (λ (x : Search). Stand S q (length (found (plan .base + plan .size) (plan .size) t w₀ .queue)) (x .queue)) (sym (step .now-found)) stand) in
+      let (q, stand) = try-stand S some-radix shallow D want lo n 0 (found (plan .marks) (plan .size) t w₀) in
+      let own = subst (λ (x : ℕ). Stand S q x (found (plan .marks) (plan .size) u v .queue)) (ready-long r)
+      (subst (λ (x : Search). Stand S q (length (found (plan .marks) (plan .size) t w₀ .queue)) (x .queue)) (sym (step .now-found)) stand) in
       (q, of-stand (step .ready) own)
 
   -- the first states are at one place
@@ -113,8 +113,8 @@ module _ {plan : Plan} {a : List ℕ} {w : List ℕ} (f : Fit plan a w) (g : Lis
       let less : k < plan .done + 1 = omega (arith, low) in
       sym (place-in (f .laid) a g t) ∙ (ap (placeAt plan) (sym is) ∙ (ap (_/ (plan .done + 1)) at ∙ digits-div q less))
 
-  pub first-together : (D : List ℕ) (want mask q n : ℕ) {u : ℕ} {v : List ℕ} → Ready (plan .base + plan .size) (plan .size) u v
-      → found (plan .base + plan .size) (plan .size) u v ≡ loop (put D want) (firstStates plan mask q) (blank n) → Together plan 0 u v
+  pub first-together : (D : List ℕ) (want mask q n : ℕ) {u : ℕ} {v : List ℕ} → Ready (plan .marks) (plan .size) u v
+      → found (plan .marks) (plan .size) u v ≡ loop (put D want) (firstStates plan mask q) (blank n) → Together plan 0 u v
   unfolding blank
   first-together D want mask q n {u} {v} r is =
       let stand = put-stand S some-radix shallow D want q (firstStates plan mask q) (blank n) refl (first-place mask q) in
@@ -132,7 +132,7 @@ unfolding packIn
 packed plan g xs = map-id xs
 
 -- where the table ends
-pub start-end : (plan : Plan) → sortedEnd Order.Start plan (startsAt plan) ≡ startsAt plan + (plan .places + 1 + plan .lines)
+pub start-end : (plan : Plan) → sortedEnd Order.Start plan (plan .bystart) ≡ plan .bystart + (plan .places + 1 + plan .lines)
 unfolding keys
 start-end plan = omega arith
 
@@ -148,12 +148,12 @@ start-keyed w laid starts i h = (starts i h, omega (arith, h, laid .few-lines))
 -- ---- the words lo up to hi of the area are the lines from the place of the frontier
 
 pub record Here (plan : Plan) (lo hi : ℕ) (w : List ℕ) : Type 0 where
-  pub after : startsAt plan ≤ lo
+  pub after : plan .bystart ≤ lo
   pub within : hi ≤ length w
   pub lines-low : (k : ℕ) → lo ≤ k → k < hi → getD w k 0 < plan .lines
 
-module _ {plan : Plan} {q : ℕ} {w : List ℕ} (room : Roomy plan (length w)) (run : Run Order.Start plan (startsAt plan) w q) (lo hi : ℕ)
-    (el : lo ≡ getD w (startsAt plan + q) 0) (eh : hi ≡ getD w (startsAt plan + suc q) 0) where
+module _ {plan : Plan} {q : ℕ} {w : List ℕ} (room : Roomy plan (length w)) (run : Run Order.Start plan (plan .bystart) w q) (lo hi : ℕ)
+    (el : lo ≡ getD w (plan .bystart + q) 0) (eh : hi ≡ getD w (plan .bystart + suc q) 0) where
   run-has : stretch lo (hi - lo) w ≡ having Order.Start plan (front plan w) q
   run-has = (λ t. stretch (el t) (eh t - el t) w) ∙ (run .has ∙ packed plan (front plan w) (having Order.Start plan (front plan w) q))
 
@@ -174,20 +174,20 @@ module _ {plan : Plan} {q : ℕ} {w : List ℕ} (room : Roomy plan (length w)) (
       }
 
   -- they are tried instead of all lines
-  pub here-all : {a : List ℕ} (f : Fit plan a w) (want from tail : ℕ) → Ready (plan .base + plan .size) (plan .size) tail w → Standing plan q from tail w
-      → tryList (leads a plan w) want from (plan .lines) (stretch lo (hi - lo) w) (found (plan .base + plan .size) (plan .size) tail w)
-      ≡ try (leads a plan w) want from (plan .lines) 0 (found (plan .base + plan .size) (plan .size) tail w)
+  pub here-all : {a : List ℕ} (f : Fit plan a w) (want from tail : ℕ) → Ready (plan .marks) (plan .size) tail w → Standing plan q from tail w
+      → tryList (leads a plan w) want from (plan .lines) (stretch lo (hi - lo) w) (found (plan .marks) (plan .size) tail w)
+      ≡ try (leads a plan w) want from (plan .lines) 0 (found (plan .marks) (plan .size) tail w)
   here-all {a} f want from tail r stand =
-      let st = found (plan .base + plan .size) (plan .size) tail w in
+      let st = found (plan .marks) (plan .size) tail w in
       let D = stretch (plan .base) (plan .size) w in
       sym (try-place (settingIn a plan (front plan w)) D want from (plan .lines) q st (to-stand f (front plan w) r stand)
       ∙ ap (λ ls. tryList (leads a plan w) want from (plan .lines) ls st) (sym (run-has ∙ having-is f (front plan w) q)))
 
 -- the words of the lines stay
 pub here-same : (plan : Plan) {F : Search → Search} {t₀ : ℕ} {w₀ : List ℕ} {G : Search → Search} {t : ℕ} {w : List ℕ}
-    → Under (plan .base + plan .size) (plan .size) F t₀ w₀ G t w → (k : ℕ) → startsAt plan ≤ k → getD w k 0 ≡ getD w₀ k 0
+    → Under (plan .marks) (plan .size) F t₀ w₀ G t w → (k : ℕ) → plan .bystart ≤ k → getD w k 0 ≡ getD w₀ k 0
 here-same plan {w₀ = w₀} {w = w} u k le =
-    let at = startsAt plan in
+    let at = plan .bystart in
     let sum : at + (k - at) ≡ k = omega arith in
     let read : (x : List ℕ) → getD x k 0 ≡ getD (drop at x) (k - at) 0 = λ x. ap (λ j. getD x j 0) (sym sum) ∙ sym (getD-drop at x (k - at) 0) in
     read w ∙ (ap (λ x. getD x (k - at) 0) (under-back u at (omega (arith, u .ready .fits))) ∙ sym (read w₀))

@@ -1,6 +1,7 @@
 -- Phase two by place: a frontier stands at one place, and after the frontiers, where there is room, stand the lines in order of the place that
 -- they come from. `Chose` is what choosing a line promises, by whichever way.
 use mathlib.Core.Path.{_≡_}
+use mathlib.Core.Bool.{true}
 use mathlib.Core.List.{List}
 use Prim.Native.Nat.{ℕ, _+_, _/_, _≤_, _<_}
 use lib.ListN.{length, getD}
@@ -12,23 +13,16 @@ use Rattle.search.specs.Loaded.{settingAt}
 use Rattle.search.specs.Moves.{fromState}
 use Rattle.states.specs.Pairs.{distances, StepForth, foundForth}
 use Rattle.states.specs.Spots.{Fit}
-use Rattle.sorting.specs.Sorting.{sortedEnd, Sorted}
+use Rattle.sorting.specs.Sorting.{Sorted}
 use Rattle.sorting.specs.declared.Order.the-variants as Order
 use Rattle.forward.specs.Firsts.{firstStates}
 use Rattle.walk.specs.Chosen.{tryTable}
 
 -- ---- the lines in order of the place that they come from
 
--- where they stand
-abbrev pub startsAt : Plan → ℕ
-startsAt plan = plan .base + plan .size + plan .size + plan .size
-
--- is there room for them in an area of so many words, all of them numbers of 32 bits?
-abbrev pub Roomy : Plan → ℕ → Type 0
-Roomy plan area = (sortedEnd Order.Start plan (startsAt plan) ≤ area) × (sortedEnd Order.Start plan (startsAt plan) < 4294967296)
-
+-- where the plan has room for them, they stand there
 abbrev pub Ordered : Plan → List ℕ → Type 0
-Ordered plan w = Roomy plan (length w) → Sorted Order.Start plan (startsAt plan) w
+Ordered plan w = plan .ordered ≡ true → Sorted Order.Start plan (plan .bystart) w
 
 -- what phase two goes by: the loaded tables, and the lines in that order
 pub record Leading (plan : Plan) (a : List ℕ) (w : List ℕ) : Type 0 where

@@ -9,43 +9,21 @@ ghost use Rattle.request.specs.Layout.{Laid};
 ghost use Rattle.search.specs.PhaseTwo.{gather};
 ghost use Rattle.states.specs.Pairs.{ReadyForth, StepForth, foundForth};
 ghost use Rattle.states.specs.Spots.{front, Fit, Starts};
-ghost use Rattle.walk.specs.Leading.{startsAt, Roomy, Ordered, Leading, Standing, Together, leads, Chose, chainFrom, firstFrontier};
+ghost use Rattle.walk.specs.Leading.{Ordered, Leading, Standing, Together, leads, Chose, chainFrom, firstFrontier};
 use request::Plan;
 use sorting::Order;
 
 // ---- the lines in order of the place that they come from, after the frontiers
-
-// Where they stand, in an area of so many words.
-fn starts_at(plan: Plan, area: usize) -> usize
-    requires { ⌜ Laid plan area ⌝ }
-    ensures { λ r. ⌜ r ≡ startsAt plan ⌝ }
-{
-    plan.base + plan.size + plan.size + plan.size
-}
-
-// Is there room for them in an area of so many words?
-fn fits(plan: Plan, area: usize) -> bool
-    requires { ⌜ Laid plan area ⌝ }
-    ensures { λ r. ⌜ (r ≡ true → Roomy plan area) × (Roomy plan area → r ≡ true) ⌝ }
-{
-    let at = starts_at(plan, area);
-    let words = plan.places + 1 + plan.lines;
-    if area - at < words {
-        return false;
-    }
-    at + words < 4294967296
-}
 
 // They are put there, where there is room. No word before them changes.
 fn order_lines(work: &mut [u32], plan: Plan)
     requires { ⌜ Laid plan (length (now work)) ⌝ }
     requires { ⌜ Starts plan (front plan (now work)) ⌝ }
     ensures { λ _. ⌜ Ordered plan (now (work .exit)) ⌝ }
-    ensures { λ _. ⌜ (take (startsAt plan) (now (work .exit)) ≡ take (startsAt plan) (now (work .entry))) × (length (now (work .exit)) ≡ length (now (work .entry))) ⌝ }
+    ensures { λ _. ⌜ (take (plan .bystart) (now (work .exit)) ≡ take (plan .bystart) (now (work .entry))) × (length (now (work .exit)) ≡ length (now (work .entry))) ⌝ }
 {
-    if fits(plan, work.len()) {
-        let at = starts_at(plan, work.len());
-        sorting::sort_lines(work, plan, Order::Start, at);
+    if plan.ordered {
+        sorting::sort_lines(work, plan, Order::Start);
     }
 }
 
@@ -64,11 +42,10 @@ pub fn gather_line(
     requires { ⌜ (0 < want) × (i < plan .lines) × (lo ≤ tail) ⌝ }
     ensures { λ r. ⌜ StepForth plan (gather (leads (now (program .entry)) plan (now (work .entry))) want i lo) tail (now (work .entry)) r (now (work .exit)) ⌝ }
 {
-    let marks = plan.base + plan.size;
     let mut t = tail;
     let mut j = lo;
     while j < tail {
-        let s = states::waiting(work, marks, plan.size, t, j);
+        let s = states::waiting(work, plan.marks, plan.size, t, j);
         t = forward::from_state(work, plan, program, want, i, s, t);
         j += 1;
     }
@@ -115,7 +92,7 @@ fn place_of(work: &[u32], plan: Plan, lo: usize, tail: usize) -> usize
     ensures { λ r. ⌜ (r < plan .places) × Standing plan r lo tail (now (work .entry)) ⌝ }
 {
     if lo < tail {
-        let s = states::waiting(work, plan.base + plan.size, plan.size, tail, lo);
+        let s = states::waiting(work, plan.marks, plan.size, tail, lo);
         return s / plan.stacks / (plan.done + 1);
     }
     0
@@ -132,12 +109,12 @@ fn choose_here(
 ) -> Choice
     requires { ⌜ ReadyForth plan tail (now work) ⌝ }
     requires { ⌜ Leading plan (now program) (now work) ⌝ }
-    requires { ⌜ Roomy plan (length (now work)) ⌝ }
+    requires { ⌜ plan .ordered ≡ true ⌝ }
     requires { ⌜ (0 < want) × (lo ≤ tail) × Together plan lo tail (now work) ⌝ }
     ensures { λ r. ⌜ Chose plan (now (program .entry)) want lo tail (now (work .entry)) (r .line) (r .tail) (now (work .exit)) ⌝ }
 {
     let q = place_of(work, plan, lo, tail);
-    let run = sorting::run_of(work, plan, Order::Start, starts_at(plan, work.len()), q);
+    let run = sorting::run_of(work, plan, Order::Start, q);
     let mut k = run.lo;
     while k < run.hi {
         let i = states::word(work, k) as usize;
@@ -167,7 +144,7 @@ pub fn choose_line(
     requires { ⌜ (0 < want) × (lo ≤ tail) × Together plan lo tail (now work) ⌝ }
     ensures { λ r. ⌜ Chose plan (now (program .entry)) want lo tail (now (work .entry)) (r .line) (r .tail) (now (work .exit)) ⌝ }
 {
-    if fits(plan, work.len()) {
+    if plan.ordered {
         return choose_here(work, plan, program, want, lo, tail);
     }
     choose_all(work, plan, program, want, lo, tail)
@@ -216,7 +193,7 @@ pub fn chain_into(
     ensures { λ _. ⌜ now (out .exit) ≡ chainFrom (now (program .entry)) plan (nearest - 1) (firstFrontier plan begin from nearest (now (work .entry))) (now (work .entry)) ++ drop (nearest - 1) (now (out .entry)) ⌝ }
 {
     order_lines(work, plan);
-    states::clear_stretch(work, plan.base + plan.size, plan.size);
+    states::clear_stretch(work, plan.marks, plan.size);
     let tail = forward::over_next(work, plan, program, begin, nearest, from, 0, 0);
     walk_lines(work, plan, program, nearest - 1, tail, out)
 }

@@ -16,7 +16,7 @@ use Rattle.forward.proofs.over_next.Statement.{statement}
 use Rattle.forward.proofs.over_next.Tie as tie
 
 abbrev Inv-loop : tie.InvT-loop
-Inv-loop work₀ plan program mask want to v tail t₀ rest₀ k₀ work t rest k = (k ≤ plan .done + 1) × (rest ≡ mask / 2 ^ k) × Under (plan .base + plan .size) (plan .size) (turns (nextTurn plan program mask (visit (stretch (plan .base) (plan .size) work₀) want) to v) 0 (plan .done + 1)) tail work₀ (turns (nextTurn plan program mask (visit (stretch (plan .base) (plan .size) work₀) want) to v) k (plan .done + 1 - k)) t work
+Inv-loop work₀ plan program mask want to v tail t₀ rest₀ k₀ work t rest k = (k ≤ plan .done + 1) × (rest ≡ mask / 2 ^ k) × Under (plan .marks) (plan .size) (turns (nextTurn plan program mask (visit (stretch (plan .base) (plan .size) work₀) want) to v) 0 (plan .done + 1)) tail work₀ (turns (nextTurn plan program mask (visit (stretch (plan .base) (plan .size) work₀) want) to v) k (plan .done + 1 - k)) t work
 
 abbrev μ-loop : tie.MeasureT-loop
 μ-loop work₀ plan program mask want to v tail t₀ rest₀ k₀ work t rest k = plan .done + 1 - k

@@ -1,14 +1,12 @@
 -- `forward::visit_state` meets its contract: a push, or nothing, as the word wanted says. Assumes nothing.
 use mathlib.Core.Path.{sym, _∙_}
+use native.Mathlib.Omega.{arith}
 use Rattle.states.proofs.Stretches.{stretch-get}
 use Rattle.states.proofs.Changes.{step-as, step-none}
 use Rattle.forward.proofs.Visits.{visit-all, visit-taken, visit-passed}
 use borrow.Author.Needs.{needs}
 use Rattle.forward.proofs.visit_state.Statement.{statement}
 use Rattle.forward.proofs.visit_state.Tie as tie
-
-add-marks : tie.Need-add-marks
-add-marks c = search needs
 
 push-if-new-requires : tie.Need-push-if-new-requires
 push-if-new-requires c κs = search needs
@@ -20,10 +18,10 @@ returns : tie.Need-returns
 returns c = step-as _ (c .before .before .push-if-new .ensures) (visit-all _ _ _ _ (c .before .before .before .before .if1 .taken))
 
 add-word : tie.Need-add-word
-add-word c = search needs
+add-word c = let laid = c .before .before .before .before .pre .1 .0 in omega (arith, laid .room, laid .few-words, laid .small, c .before .before .before .before .pre .1 .1)
 
 word-requires : tie.Need-word-requires
-word-requires c κs = search needs
+word-requires c κs = let laid = c .before .before .before .before .pre .1 .0 in omega (arith, laid .room, c .before .before .before .before .pre .1 .1)
 
 push-if-new-requires-2 : tie.Need-push-if-new-requires-2
 push-if-new-requires-2 c κs = search needs
@@ -33,8 +31,8 @@ same-length-2 c = search needs
 
 returns-2 : tie.Need-returns-2
 returns-2 c =
-    let a = c .before .before .before .before .before .before .before .before .before .before .before .args in
-    let own = stretch-get (a .plan .base) (a .plan .size) (a .work .now) (a .t) (c .before .before .before .before .before .before .before .before .before .before .before .pre .1) in
+    let a = c .before .before .before .before .before .before .before .before .before .before .args in
+    let own = stretch-get (a .plan .base) (a .plan .size) (a .work .now) (a .t) (c .before .before .before .before .before .before .before .before .before .before .pre .1 .1) in
     step-as _ (c .before .before .push-if-new2 .ensures) (visit-taken _ _ _ _ (c .before .before .before .before .before .before .before .before .if1 .left) (own ∙ (sym (c .before .before .before .before .before .word .ensures) ∙ c .before .before .before .before .if2 .taken)))
 
 same-length-3 : tie.Need-same-length-3
@@ -42,15 +40,14 @@ same-length-3 c = search needs
 
 returns-3 : tie.Need-returns-3
 returns-3 c =
-    let a = c .before .before .before .before .before .before .before .args in
-    let own = stretch-get (a .plan .base) (a .plan .size) (a .work .now) (a .t) (c .before .before .before .before .before .before .before .pre .1) in
-    step-none _ (c .before .before .before .before .before .before .before .pre .0) (visit-passed _ _ _ _ (c .before .before .before .before .if1 .left) (λ e. c .if2 .left (c .before .word .ensures ∙ (sym own ∙ e))))
+    let a = c .before .before .before .before .before .before .args in
+    let own = stretch-get (a .plan .base) (a .plan .size) (a .work .now) (a .t) (c .before .before .before .before .before .before .pre .1 .1) in
+    step-none _ (c .before .before .before .before .before .before .pre .0) (visit-passed _ _ _ _ (c .before .before .before .before .if1 .left) (λ e. c .if2 .left (c .before .word .ensures ∙ (sym own ∙ e))))
 
 pub visit-state-spec : {M : Type 1} → statement M
 visit-state-spec =
     tie.close
     (tie.spec
-    add-marks
     push-if-new-requires
     same-length
     returns

@@ -52,7 +52,7 @@ over-next-requires c κs =
     let o = c .before .before .before .before .before .before .before .before in
     let a = start o in
     let p = a .args .plan in
-    let u = cleared-under (p .base + p .size) (p .size) (o .order-lines .last .0) (room o) (small o) in
+    let u = cleared-under (p .marks) (p .size) (o .order-lines .last .0) (room o) (small o) in
     rw (c .before .before .before .clear-stretch .ensures) (u .ready, (subst (Laid p) (sym (u .long)) (leading o .fit .laid), (a .pre .1 .0, fit a .depths-low)))
 
 sub-walk-lines : tie.Need-sub-walk-lines
@@ -65,7 +65,7 @@ walk-lines-requires c κs =
     let p = a .args .plan in
     let v = o .order-lines .last .0 in
     let first = rw (c .before .before .before .before .before .before .before .before .clear-stretch .ensures) at (c .before .before .before .before .over-next .ensures) in
-    let step = step-cleared (p .base + p .size) (p .size) v (room o) _ _ _ first in
+    let step = step-cleared (p .marks) (p .size) v (room o) _ _ _ first in
     let begun = start-law p (prog a) (a .args .begin) _ (a .args .nearest) (a .args .from) (blank (p .size)) (a .pre .1 .1) in
     let together = first-together (fit a) (front p v) _ (a .args .nearest) (a .args .begin) (a .args .from) (p .size) (step .ready) (step .now-found ∙ sym begun) in
     (step .ready, (leading-under (step-under step) (leading o), (omega (arith, a .pre .1 .2), together)))
@@ -85,9 +85,9 @@ returns c =
     let (before, long) = o .order-lines .ensures .1 in
     let d = stretch (p .base) (p .size) (a .args .work .now) in
     let dist-kept = ordered-dist p (a .args .work .now) v before (omega (arith, fit a .laid .room)) (omega (arith, fit a .laid .room, long)) in
-    let u = cleared-under (p .base + p .size) (p .size) v (room o) (small o) in
+    let u = cleared-under (p .marks) (p .size) v (room o) (small o) in
     let first = rw (c .before .before .before .before .before .before .before .before .before .before .before .before .before .clear-stretch .ensures, under-stretch u (p .base) (p .size) (omega arith), dist-kept) at (c .before .before .before .before .before .before .before .before .before .over-next .ensures) in
-    let step = step-cleared (p .base + p .size) (p .size) v (room o) _ _ _ first in
+    let step = step-cleared (p .marks) (p .size) v (room o) _ _ _ first in
     let begun = start-law p (prog a) (a .args .begin) d (a .args .nearest) (a .args .from) (blank (p .size)) (a .pre .1 .1) in
     let table = step .now-found ∙ sym begun in
     let dist-same = under-stretch (step-under step) (p .base) (p .size) (omega arith) in

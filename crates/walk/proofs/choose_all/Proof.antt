@@ -18,7 +18,7 @@ use Rattle.walk.proofs.choose_all.Statement.{statement}
 use Rattle.walk.proofs.choose_all.Tie as tie
 
 abbrev Inv-loop : tie.InvT-loop
-Inv-loop work₀ plan program want lo tail lines i₀ work i = (i ≤ plan .lines) × (try (fromState (settingIn program plan (front plan work₀)) (stretch (plan .base) (plan .size) work₀)) want lo (plan .lines - i) i (found (plan .base + plan .size) (plan .size) tail work) ≡ try (fromState (settingIn program plan (front plan work₀)) (stretch (plan .base) (plan .size) work₀)) want lo (plan .lines) 0 (found (plan .base + plan .size) (plan .size) tail work₀)) × Under (plan .base + plan .size) (plan .size) (tryTable (fromState (settingIn program plan (front plan work₀)) (stretch (plan .base) (plan .size) work₀)) want lo (plan .lines) 0) tail work₀ (tryTable (fromState (settingIn program plan (front plan work₀)) (stretch (plan .base) (plan .size) work₀)) want lo (plan .lines - i) i) tail work
+Inv-loop work₀ plan program want lo tail lines i₀ work i = (i ≤ plan .lines) × (try (fromState (settingIn program plan (front plan work₀)) (stretch (plan .base) (plan .size) work₀)) want lo (plan .lines - i) i (found (plan .marks) (plan .size) tail work) ≡ try (fromState (settingIn program plan (front plan work₀)) (stretch (plan .base) (plan .size) work₀)) want lo (plan .lines) 0 (found (plan .marks) (plan .size) tail work₀)) × Under (plan .marks) (plan .size) (tryTable (fromState (settingIn program plan (front plan work₀)) (stretch (plan .base) (plan .size) work₀)) want lo (plan .lines) 0) tail work₀ (tryTable (fromState (settingIn program plan (front plan work₀)) (stretch (plan .base) (plan .size) work₀)) want lo (plan .lines - i) i) tail work
 
 abbrev μ-loop : tie.MeasureT-loop
 μ-loop work₀ plan program want lo tail lines i₀ work i = plan .lines - i

@@ -20,8 +20,8 @@ use Rattle.walk.proofs.choose_here.Tie as tie
 abbrev Inv-loop : tie.InvT-loop
 Inv-loop work₀ plan program want lo tail q run k₀ work k =
     ((run .lo ≤ k) × (k ≤ run .hi) × Here plan (run .lo) (run .hi) work₀)
-    × (tryList (leads program plan work₀) want lo (plan .lines) (stretch k (run .hi - k) work₀) (found (plan .base + plan .size) (plan .size) tail work) ≡ try (leads program plan work₀) want lo (plan .lines) 0 (found (plan .base + plan .size) (plan .size) tail work₀))
-    × Under (plan .base + plan .size) (plan .size) (tryTable (leads program plan work₀) want lo (plan .lines) 0) tail work₀ (listTable (leads program plan work₀) want lo (plan .lines) (stretch k (run .hi - k) work₀)) tail work
+    × (tryList (leads program plan work₀) want lo (plan .lines) (stretch k (run .hi - k) work₀) (found (plan .marks) (plan .size) tail work) ≡ try (leads program plan work₀) want lo (plan .lines) 0 (found (plan .marks) (plan .size) tail work₀))
+    × Under (plan .marks) (plan .size) (tryTable (leads program plan work₀) want lo (plan .lines) 0) tail work₀ (listTable (leads program plan work₀) want lo (plan .lines) (stretch k (run .hi - k) work₀)) tail work
 
 abbrev μ-loop : tie.MeasureT-loop
 μ-loop work₀ plan program want lo tail q run k₀ work k = run .hi - k

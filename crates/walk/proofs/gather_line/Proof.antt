@@ -16,7 +16,7 @@ use Rattle.walk.proofs.gather_line.Statement.{statement}
 use Rattle.walk.proofs.gather_line.Tie as tie
 
 abbrev Inv-loop : tie.InvT-loop
-Inv-loop work₀ plan program want i lo tail marks t₀ j₀ work t j = (lo ≤ j) × (j ≤ tail) × Under (plan .base + plan .size) (plan .size) (gather (fromState (settingIn program plan (front plan work₀)) (stretch (plan .base) (plan .size) work₀)) want i lo) tail work₀ (turns (gatherTurn (fromState (settingIn program plan (front plan work₀)) (stretch (plan .base) (plan .size) work₀)) want i) j (tail - j)) t work
+Inv-loop work₀ plan program want i lo tail marks t₀ j₀ work t j = (lo ≤ j) × (j ≤ tail) × Under (plan .marks) (plan .size) (gather (fromState (settingIn program plan (front plan work₀)) (stretch (plan .base) (plan .size) work₀)) want i lo) tail work₀ (turns (gatherTurn (fromState (settingIn program plan (front plan work₀)) (stretch (plan .base) (plan .size) work₀)) want i) j (tail - j)) t work
 
 abbrev μ-loop : tie.MeasureT-loop
 μ-loop work₀ plan program want i lo tail marks t₀ j₀ work t j = tail - j

@@ -22,10 +22,10 @@ use Rattle.walk.proofs.walk_lines.Tie as tie
 abbrev Inv-loop : tie.InvT-loop
 Inv-loop work₀ plan program far tail out₀ lo₀ t₀ left₀ j₀ work out lo t left j =
     ((j + left ≡ far) × (lo ≤ t) × (length out ≡ length out₀))
-    × (take j out ++ walk (fromState (settingIn program plan (front plan work₀)) (stretch (plan .base) (plan .size) work₀)) (plan .lines) left lo (found (plan .base + plan .size) (plan .size) t work) ≡ walk (fromState (settingIn program plan (front plan work₀)) (stretch (plan .base) (plan .size) work₀)) (plan .lines) far 0 (found (plan .base + plan .size) (plan .size) tail work₀))
+    × (take j out ++ walk (fromState (settingIn program plan (front plan work₀)) (stretch (plan .base) (plan .size) work₀)) (plan .lines) left lo (found (plan .marks) (plan .size) t work) ≡ walk (fromState (settingIn program plan (front plan work₀)) (stretch (plan .base) (plan .size) work₀)) (plan .lines) far 0 (found (plan .marks) (plan .size) tail work₀))
     × (drop j out ≡ drop j out₀)
     × Together plan lo t work
-    × Under (plan .base + plan .size) (plan .size) anything tail work₀ anything t work
+    × Under (plan .marks) (plan .size) anything tail work₀ anything t work
 
 abbrev μ-loop : tie.MeasureT-loop
 μ-loop work₀ plan program far tail out₀ lo₀ t₀ left₀ j₀ work out lo t left j = left
