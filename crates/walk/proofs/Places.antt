@@ -10,11 +10,11 @@ use lib.Arith.{digits-div}
 use lib.Dec.{eqb}
 use lib.ListN.{length, getD, take, drop}
 use lib.Seq.{drop-cons, getD-drop, take-take}
-use borrow.Author.Tests.{eq-eqb, ne-eqb}
+use borrow.Author.Tests.{eq-eqb, ne-eqb, leb-true}
 use Rattle.meaning.specs.Record.{Line}
 use Rattle.automaton.specs.Listed.{_∈_, getD-in}
 use Rattle.automaton.specs.Program.{bitOf, nodeIn}
-use Rattle.request.specs.Layout.{Laid}
+use Rattle.request.specs.Layout.{Laid, orderedEnd}
 use Rattle.request.specs.declared.Plan.{Plan}
 use Rattle.search.specs.Plain.{filt, count}
 use Rattle.search.specs.Sets.{filt-in, count-in}
@@ -32,12 +32,12 @@ use Rattle.states.specs.Spots.{front, Starts, Fit}
 use Rattle.states.proofs.Bounds.{stacks-pos}
 use Rattle.states.proofs.Changes.{under-front, under-back, ready-long}
 use Rattle.states.proofs.Stretches.{stretch-get, stretch-length, stretch-take}
-use Rattle.sorting.specs.Sorting.{keys, keyIn, packIn, having, sortedEnd, Run, Keyed}
+use Rattle.sorting.specs.Sorting.{keys, keyIn, packIn, having, tableEnd, Run, Keyed}
 use Rattle.sorting.specs.Runs.{sorted-same}
 use Rattle.sorting.specs.declared.Order.the-variants as Order
 use Rattle.forward.specs.Firsts.{firstStates}
 use Rattle.walk.specs.Chosen.{tryTable}
-use Rattle.walk.specs.Leading.{startsAt, Roomy, Ordered, Leading, placeAt, Standing, Together, leads}
+use Rattle.walk.specs.Leading.{Ordered, Leading, placeAt, Standing, Together, leads}
 use Rattle.states.proofs.Bounds.{fit-same}
 
 -- ---- the tables stay
@@ -45,19 +45,21 @@ use Rattle.states.proofs.Bounds.{fit-same}
 pub leading-under : {plan : Plan} {a : List ℕ} {F : Search → Search} {t₀ : ℕ} {w₀ : List ℕ} {G : Search → Search} {t : ℕ} {w : List ℕ}
     → Under (plan .marks) (plan .size) F t₀ w₀ G t w → Leading plan a w₀ → Leading plan a w
 leading-under {plan} {w₀ = w₀} {t = t} {w = w} u h =
-    let f = under-front u (plan .base) (omega arith) in
+    let l = h .fit .laid in
+    let f = under-front u (plan .base) (omega (arith, l .marks-at)) in
     record {
       fit = fit-same (u .long) f (h .fit);
-      ordered = λ room. sorted-same Order.Start plan (plan .bystart) w₀ w (h .ordered (subst (Roomy plan) (u .long) room)) f (under-back u (plan .bystart) (omega (arith, u .ready .fits)));
+      ordered = λ room. sorted-same Order.Start plan (plan .bystart) w₀ w (h .ordered room) f (under-back u (plan .bystart) (omega (arith, u .ready .fits, l .marks-at, l .starts-at)));
     }
 
 -- the lines put in order: no word before them changes
-module _ (plan : Plan) (w v : List ℕ) (before : take (plan .bystart) v ≡ take (plan .bystart) w) where
+module _ {plan : Plan} {area : ℕ} (laid : Laid plan area) (w v : List ℕ) (before : take (plan .bystart) v ≡ take (plan .bystart) w) where
   pub ordered-front : front plan v ≡ front plan w
-  ordered-front = sym (take-take (plan .base) (plan .bystart) v (omega arith)) ∙ (ap (take (plan .base)) before ∙ take-take (plan .base) (plan .bystart) w (omega arith))
+  ordered-front = let low = laid .starts-at in sym (take-take (plan .base) (plan .bystart) v (omega arith)) ∙ (ap (take (plan .base)) before ∙ take-take (plan .base) (plan .bystart) w (omega arith))
 
   pub ordered-dist : plan .bystart ≤ length w → plan .bystart ≤ length v → stretch (plan .base) (plan .size) v ≡ stretch (plan .base) (plan .size) w
   ordered-dist hw hv =
+      let low = laid .starts-at in
       sym (stretch-take (plan .bystart) (plan .base) (plan .size) v (omega arith) hv)
       ∙ (ap (stretch (plan .base) (plan .size)) before ∙ stretch-take (plan .bystart) (plan .base) (plan .size) w (omega arith) hw)
 
@@ -131,11 +133,6 @@ packed : (plan : Plan) (g xs : List ℕ) → map (packIn Order.Start plan g) xs 
 unfolding packIn
 packed plan g xs = map-id xs
 
--- where the table ends
-pub start-end : (plan : Plan) → sortedEnd Order.Start plan (plan .bystart) ≡ plan .bystart + (plan .places + 1 + plan .lines)
-unfolding keys
-start-end plan = omega arith
-
 -- a place is a key, and every line has one
 pub start-keys : (plan : Plan) {q : ℕ} → q < plan .places → q < keys Order.Start plan
 unfolding keys
@@ -145,6 +142,11 @@ pub start-keyed : {plan : Plan} (w : List ℕ) → Laid plan (length w) → Star
 unfolding keys keyIn packIn
 start-keyed w laid starts i h = (starts i h, omega (arith, h, laid .few-lines))
 
+-- where the plan has room for them, the table ends in the area
+pub start-room : {plan : Plan} {area : ℕ} → Laid plan area → plan .ordered ≡ true → tableEnd Order.Start plan ≤ area
+unfolding keys
+start-room {plan} {area} laid room = let fits = leb-true (orderedEnd plan) area (sym (laid .ordered-is) ∙ room) in omega (arith, fits)
+
 -- ---- the words lo up to hi of the area are the lines from the place of the frontier
 
 pub record Here (plan : Plan) (lo hi : ℕ) (w : List ℕ) : Type 0 where
@@ -152,14 +154,14 @@ pub record Here (plan : Plan) (lo hi : ℕ) (w : List ℕ) : Type 0 where
   pub within : hi ≤ length w
   pub lines-low : (k : ℕ) → lo ≤ k → k < hi → getD w k 0 < plan .lines
 
-module _ {plan : Plan} {q : ℕ} {w : List ℕ} (room : Roomy plan (length w)) (run : Run Order.Start plan (plan .bystart) w q) (lo hi : ℕ)
+module _ {plan : Plan} {q : ℕ} {w : List ℕ} (room : tableEnd Order.Start plan ≤ length w) (run : Run Order.Start plan (plan .bystart) w q) (lo hi : ℕ)
     (el : lo ≡ getD w (plan .bystart + q) 0) (eh : hi ≡ getD w (plan .bystart + suc q) 0) where
   run-has : stretch lo (hi - lo) w ≡ having Order.Start plan (front plan w) q
   run-has = (λ t. stretch (el t) (eh t - el t) w) ∙ (run .has ∙ packed plan (front plan w) (having Order.Start plan (front plan w) q))
 
   pub here-of : Here plan lo hi w
   here-of =
-      let high : hi ≤ length w = omega (arith, eh, run .high, room .0) in
+      let high : hi ≤ length w = omega (arith, eh, run .high, room) in
       record {
         after = omega (arith, el, run .low);
         within = high;
@@ -184,13 +186,13 @@ module _ {plan : Plan} {q : ℕ} {w : List ℕ} (room : Roomy plan (length w)) (
       ∙ ap (λ ls. tryList (leads a plan w) want from (plan .lines) ls st) (sym (run-has ∙ having-is f (front plan w) q)))
 
 -- the words of the lines stay
-pub here-same : (plan : Plan) {F : Search → Search} {t₀ : ℕ} {w₀ : List ℕ} {G : Search → Search} {t : ℕ} {w : List ℕ}
+pub here-same : {plan : Plan} {area : ℕ} → Laid plan area → {F : Search → Search} {t₀ : ℕ} {w₀ : List ℕ} {G : Search → Search} {t : ℕ} {w : List ℕ}
     → Under (plan .marks) (plan .size) F t₀ w₀ G t w → (k : ℕ) → plan .bystart ≤ k → getD w k 0 ≡ getD w₀ k 0
-here-same plan {w₀ = w₀} {w = w} u k le =
+here-same {plan} laid {w₀ = w₀} {w = w} u k le =
     let at = plan .bystart in
     let sum : at + (k - at) ≡ k = omega arith in
     let read : (x : List ℕ) → getD x k 0 ≡ getD (drop at x) (k - at) 0 = λ x. ap (λ j. getD x j 0) (sym sum) ∙ sym (getD-drop at x (k - at) 0) in
-    read w ∙ (ap (λ x. getD x (k - at) 0) (under-back u at (omega (arith, u .ready .fits))) ∙ sym (read w₀))
+    read w ∙ (ap (λ x. getD x (k - at) 0) (under-back u at (omega (arith, u .ready .fits, laid .marks-at, laid .starts-at))) ∙ sym (read w₀))
 
 -- ---- the lines of a list, tried one after the other
 

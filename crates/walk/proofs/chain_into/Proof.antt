@@ -32,35 +32,32 @@ abbrev start : tie.After-order-lines → tie.Start
 start o = o .before .before .before .before
 
 leading : (o : tie.After-order-lines) → Leading (start o .args .plan) (prog (start o)) (o .order-lines .last .0)
-leading o = let (ordered, (before, long)) = o .order-lines .ensures in ordered-leading (start o .args .plan) (start o .args .work .now) (o .order-lines .last .0) before long ordered (fit (start o))
+leading o = let (ordered, (before, long)) = o .order-lines .ensures in ordered-leading (fit (start o) .laid) (start o .args .work .now) (o .order-lines .last .0) before long ordered (fit (start o))
 
 -- the pair stands in the area
-room : (o : tie.After-order-lines) → start o .args .plan .base + start o .args .plan .size + start o .args .plan .size + start o .args .plan .size ≤ length (o .order-lines .last .0)
-room o = omega (arith, leading o .fit .laid .room)
+room : (o : tie.After-order-lines) → start o .args .plan .marks + start o .args .plan .size + start o .args .plan .size ≤ length (o .order-lines .last .0)
+room o = omega (arith, leading o .fit .laid .room, fit (start o) .laid .marks-at)
 
 small : (o : tie.After-order-lines) → start o .args .plan .size < 4294967296
 small o = omega (arith, fit (start o) .laid .small)
 
-add-clear-stretch : tie.Need-add-clear-stretch
-add-clear-stretch c = omega (arith, room (c .before .before .before .before))
-
 clear-stretch-requires : tie.Need-clear-stretch-requires
-clear-stretch-requires c κs = omega (arith, room (c .before .before .before .before))
+clear-stretch-requires c κs = omega (arith, room (c .before .before .before))
 
 over-next-requires : tie.Need-over-next-requires
 over-next-requires c κs =
-    let o = c .before .before .before .before .before .before .before .before in
+    let o = c .before .before .before .before .before .before .before in
     let a = start o in
     let p = a .args .plan in
     let u = cleared-under (p .marks) (p .size) (o .order-lines .last .0) (room o) (small o) in
     rw (c .before .before .before .clear-stretch .ensures) (u .ready, (subst (Laid p) (sym (u .long)) (leading o .fit .laid), (a .pre .1 .0, fit a .depths-low)))
 
 sub-walk-lines : tie.Need-sub-walk-lines
-sub-walk-lines c = omega (arith, c .before .before .before .before .before .before .before .before .before .before .before .before .before .before .before .before .pre .1 .1)
+sub-walk-lines c = omega (arith, c .before .before .before .before .before .before .before .before .before .before .before .before .before .before .before .pre .1 .1)
 
 walk-lines-requires : tie.Need-walk-lines-requires
 walk-lines-requires c κs =
-    let o = c .before .before .before .before .before .before .before .before .before .before .before .before .before in
+    let o = c .before .before .before .before .before .before .before .before .before .before .before .before in
     let a = start o in
     let p = a .args .plan in
     let v = o .order-lines .last .0 in
@@ -78,27 +75,26 @@ same-length-2 c = search needs
 
 returns : tie.Need-returns
 returns c =
-    let o = c .before .before .before .before .before .before .before .before .before .before .before .before .before .before .before .before .before .before in
+    let o = c .before .before .before .before .before .before .before .before .before .before .before .before .before .before .before .before .before in
     let a = start o in
     let p = a .args .plan in
     let v = o .order-lines .last .0 in
     let (before, long) = o .order-lines .ensures .1 in
     let d = stretch (p .base) (p .size) (a .args .work .now) in
-    let dist-kept = ordered-dist p (a .args .work .now) v before (omega (arith, fit a .laid .room)) (omega (arith, fit a .laid .room, long)) in
+    let dist-kept = ordered-dist (fit a .laid) (a .args .work .now) v before (omega (arith, fit a .laid .room, fit a .laid .starts-at)) (omega (arith, fit a .laid .room, fit a .laid .starts-at, long)) in
     let u = cleared-under (p .marks) (p .size) v (room o) (small o) in
-    let first = rw (c .before .before .before .before .before .before .before .before .before .before .before .before .before .clear-stretch .ensures, under-stretch u (p .base) (p .size) (omega arith), dist-kept) at (c .before .before .before .before .before .before .before .before .before .over-next .ensures) in
+    let first = rw (c .before .before .before .before .before .before .before .before .before .before .before .before .before .clear-stretch .ensures, under-stretch u (p .base) (p .size) (omega (arith, fit a .laid .marks-at)), dist-kept) at (c .before .before .before .before .before .before .before .before .before .over-next .ensures) in
     let step = step-cleared (p .marks) (p .size) v (room o) _ _ _ first in
     let begun = start-law p (prog a) (a .args .begin) d (a .args .nearest) (a .args .from) (blank (p .size)) (a .pre .1 .1) in
     let table = step .now-found ∙ sym begun in
-    let dist-same = under-stretch (step-under step) (p .base) (p .size) (omega arith) in
-    rw (under-front (step-under step) (p .base) (omega arith), dist-same, ordered-front p (a .args .work .now) v before, dist-kept, table) at (c .before .before .before .before .walk-lines .ensures)
+    let dist-same = under-stretch (step-under step) (p .base) (p .size) (omega (arith, fit a .laid .marks-at)) in
+    rw (under-front (step-under step) (p .base) (omega (arith, fit a .laid .marks-at)), dist-same, ordered-front (fit a .laid) (a .args .work .now) v before, dist-kept, table) at (c .before .before .before .before .walk-lines .ensures)
 
 pub chain-into-spec : {M : Type 1} → statement M
 chain-into-spec =
     tie.close
     (tie.spec
     order-lines-requires
-    add-clear-stretch
     clear-stretch-requires
     over-next-requires
     sub-walk-lines

@@ -12,7 +12,7 @@ use Rattle.states.proofs.Changes.{under-as, under-step, under-end, under-front,
 use Rattle.walk.specs.Chosen.{tryTable}
 use Rattle.walk.specs.Leading.{Leading, leads}
 use Rattle.states.proofs.Bounds.{fit-same}
-use Rattle.walk.proofs.Places.{Here, here-of, here-all, here-same, start-keys, listTable, listed-same, listed-table, listed-none, listed-next, listed-next-table, listed-here}
+use Rattle.walk.proofs.Places.{Here, here-of, here-all, here-same, start-keys, start-room, listTable, listed-same, listed-table, listed-none, listed-next, listed-next-table, listed-here}
 use borrow.Author.Needs.{needs}
 use Rattle.walk.proofs.choose_here.Statement.{statement}
 use Rattle.walk.proofs.choose_here.Tie as tie
@@ -38,23 +38,20 @@ area-low c = omega arith
 place-of-requires : tie.Need-place-of-requires Inv-loop μ-loop
 place-of-requires c κs = let a = c .before .before in (a .pre .0, (leading a .fit .laid, a .pre .1 .1 .1 .2))
 
-starts-at-requires : tie.Need-starts-at-requires Inv-loop μ-loop
-starts-at-requires c κs = leading (c .before .before .before .before) .fit .laid
-
 run-of-requires : tie.Need-run-of-requires Inv-loop μ-loop
 run-of-requires c κs =
-    let a = c .before .before .before .before .before in
+    let a = c .before .before .before .before in
     let room = a .pre .1 .1 .0 in
-    rw (c .starts-at .ensures) (leading a .ordered room, (start-keys (a .args .plan) (c .before .before .place-of .ensures .0), room .0))
+    (leading a .ordered room, (start-keys (a .args .plan) (c .before .place-of .ensures .0), start-room (leading a .fit .laid) room))
 
 loop-holds : tie.Need-loop-holds Inv-loop μ-loop
 loop-holds c =
-    let a = c .before .before .before .before .before .before in
+    let a = c .before .before .before .before .before in
     let p = a .args .plan in
-    let room = a .pre .1 .1 .0 in
-    let (low, stand) = c .before .before .before .place-of .ensures in
-    let run = leading a .ordered room (c .before .before .before .place-of .result) (start-keys p low) in
-    let (el, eh, rises, within) = rw (c .before .starts-at .ensures) at (c .run-of .ensures) in
+    let (low, stand) = c .before .before .place-of .ensures in
+    let run = leading a .ordered (a .pre .1 .1 .0) (c .before .before .place-of .result) (start-keys p low) in
+    let room = start-room (leading a .fit .laid) (a .pre .1 .1 .0) in
+    let (el, eh, rises, within) = c .run-of .ensures in
     let b = c .run-of .result in
     let all = here-all room run (b .lo) (b .hi) el eh (leading a .fit) (a .args .want) (a .args .lo) (a .args .tail) (a .pre .0) stand in
     ((omega (arith, rises), omega (arith, rises), here-of room run (b .lo) (b .hi) el eh), all, under-as _ _ (a .pre .0) (listed-same _ _ _ _ _ _ _ all))
@@ -70,14 +67,14 @@ cast-i c = search needs
 -- ---- one turn
 
 abbrev start : tie.After-word Inv-loop μ-loop → tie.Start Inv-loop μ-loop
-start l = l .before .before .before .before .before .before .before .before .before .before .before
+start l = l .before .before .before .before .before .before .before .before .before .before
 
 -- the word at k is a line
 line-low : (l : tie.After-word Inv-loop μ-loop) → l .word .result < start l .args .plan .lines
 line-low l =
     let k = l .before .before .before .before .loop in
     let h = k .inv .0 in
-    let is = l .word .ensures ∙ here-same (start l .args .plan) (k .inv .2) (k .k) (omega (arith, h .2 .after, h .0)) in
+    let is = l .word .ensures ∙ here-same (leading (start l) .fit .laid) (k .inv .2) (k .k) (omega (arith, h .2 .after, h .0)) in
     omega (arith, is, h .2 .lines-low (k .k) (h .0) (l .before .before .if1 .taken))
 
 gather-line-requires : tie.Need-gather-line-requires Inv-loop μ-loop
@@ -93,11 +90,12 @@ returns : tie.Need-returns Inv-loop μ-loop
 returns c =
     let l = c .before .before .before .before .before in
     let p = start l .args .plan in
+    let laid = leading (start l) .fit .laid in
     let k = l .before .before .before .before .loop in
     let (range, whole, u) = k .inv in
     let less = l .before .before .if1 .taken in
-    let at = l .word .ensures ∙ here-same p u (k .k) (omega (arith, range .2 .after, range .0)) in
-    let step = rw (under-front u (p .base) (omega arith), under-stretch u (p .base) (p .size) (omega arith)) at (c .before .before .before .gather-line .ensures) in
+    let at = l .word .ensures ∙ here-same (leading (start l) .fit .laid) u (k .k) (omega (arith, range .2 .after, range .0)) in
+    let step = rw (under-front u (p .base) (omega (arith, laid .marks-at)), under-stretch u (p .base) (p .size) (omega (arith, laid .marks-at))) at (c .before .before .before .gather-line .ensures) in
     let here = listed-here _ _ _ (p .lines) (k .k) _ _ _ _ _ less (range .2 .within) at (step .now-found) (λ e. c .if2 .taken (sym (ready-long (step .ready)) ∙ (e ∙ ready-long (u .ready)))) in
     let table = sym (listed-table _ _ _ _ _ _ _ here ∙ step .now-found) in
     record {
@@ -118,11 +116,12 @@ loop-again : tie.Need-loop-again Inv-loop μ-loop
 loop-again c =
     let l = c .before .before .before .before .before in
     let p = start l .args .plan in
+    let laid = leading (start l) .fit .laid in
     let k = l .before .before .before .before .loop in
     let (range, whole, u) = k .inv in
     let less = l .before .before .if1 .taken in
-    let at = l .word .ensures ∙ here-same p u (k .k) (omega (arith, range .2 .after, range .0)) in
-    let any = rw (under-front u (p .base) (omega arith), under-stretch u (p .base) (p .size) (omega arith)) at (c .before .before .before .gather-line .ensures) in
+    let at = l .word .ensures ∙ here-same (leading (start l) .fit .laid) u (k .k) (omega (arith, range .2 .after, range .0)) in
+    let any = rw (under-front u (p .base) (omega (arith, laid .marks-at)), under-stretch u (p .base) (p .size) (omega (arith, laid .marks-at))) at (c .before .before .before .gather-line .ensures) in
     let step = step-count (c .if2 .left) any in
     let long = ready-long (step .ready) ∙ sym (ready-long (u .ready)) in
     let next = listed-next _ _ _ (p .lines) (k .k) _ _ _ _ _ less (range .2 .within) at (step .now-found) long in
@@ -134,7 +133,7 @@ same-length-2 c = search needs
 
 returns-2 : tie.Need-returns-2 Inv-loop μ-loop
 returns-2 c =
-    let p = c .before .before .before .before .before .before .before .before .before .args .plan in
+    let p = c .before .before .before .before .before .before .before .before .args .plan in
     let k = c .before .before .loop in
     let past : c .before .before .before .run-of .result .hi ≤ k .k = omega (arith, c .if1 .left) in
     let none = listed-none _ _ _ (p .lines) (k .k) _ _ _ past in
@@ -147,7 +146,6 @@ choose-here-spec =
     Inv-loop
     μ-loop
     place-of-requires
-    starts-at-requires
     run-of-requires
     loop-holds
     word-requires

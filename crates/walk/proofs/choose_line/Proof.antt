@@ -2,11 +2,8 @@
 use Rattle.walk.proofs.choose_line.Statement.{statement}
 use Rattle.walk.proofs.choose_line.Tie as tie
 
-fits-requires : tie.Need-fits-requires
-fits-requires c κs = c .before .pre .1 .0 .fit .laid
-
 choose-here-requires : tie.Need-choose-here-requires
-choose-here-requires c κs = let a = c .before .before .before .before in (a .pre .0, (a .pre .1 .0, (c .before .before .fits2 .ensures .0 (c .before .if1 .taken), a .pre .1 .1)))
+choose-here-requires c κs = let a = c .before .before .before in (a .pre .0, (a .pre .1 .0, (c .before .if1 .taken, a .pre .1 .1)))
 
 same-length : tie.Need-same-length
 same-length c = c .before .before .choose-here .ensures .step .long
@@ -15,7 +12,7 @@ returns : tie.Need-returns
 returns c = c .before .before .choose-here .ensures
 
 choose-all-requires : tie.Need-choose-all-requires
-choose-all-requires c κs = let a = c .before .before .before .before in (a .pre .0, (a .pre .1 .0 .fit, (a .pre .1 .1 .0, a .pre .1 .1 .1)))
+choose-all-requires c κs = let a = c .before .before .before in (a .pre .0, (a .pre .1 .0 .fit, (a .pre .1 .1 .0, a .pre .1 .1 .1)))
 
 same-length-2 : tie.Need-same-length-2
 same-length-2 c = c .before .before .choose-all .ensures .step .long
@@ -27,7 +24,6 @@ pub choose-line-spec : {M : Type 1} → statement M
 choose-line-spec =
     tie.close
     (tie.spec
-    fits-requires
     choose-here-requires
     same-length
     returns

@@ -16,10 +16,10 @@ use Rattle.walk.proofs.gather_line.Statement.{statement}
 use Rattle.walk.proofs.gather_line.Tie as tie
 
 abbrev Inv-loop : tie.InvT-loop
-Inv-loop work₀ plan program want i lo tail marks t₀ j₀ work t j = (lo ≤ j) × (j ≤ tail) × Under (plan .marks) (plan .size) (gather (fromState (settingIn program plan (front plan work₀)) (stretch (plan .base) (plan .size) work₀)) want i lo) tail work₀ (turns (gatherTurn (fromState (settingIn program plan (front plan work₀)) (stretch (plan .base) (plan .size) work₀)) want i) j (tail - j)) t work
+Inv-loop work₀ plan program want i lo tail t₀ j₀ work t j = (lo ≤ j) × (j ≤ tail) × Under (plan .marks) (plan .size) (gather (fromState (settingIn program plan (front plan work₀)) (stretch (plan .base) (plan .size) work₀)) want i lo) tail work₀ (turns (gatherTurn (fromState (settingIn program plan (front plan work₀)) (stretch (plan .base) (plan .size) work₀)) want i) j (tail - j)) t work
 
 abbrev μ-loop : tie.MeasureT-loop
-μ-loop work₀ plan program want i lo tail marks t₀ j₀ work t j = tail - j
+μ-loop work₀ plan program want i lo tail t₀ j₀ work t j = tail - j
 
 abbrev prog : tie.Start Inv-loop μ-loop → List ℕ
 prog c = c .args .program .now
@@ -27,30 +27,27 @@ prog c = c .args .program .now
 fit : (c : tie.Start Inv-loop μ-loop) → Fit (c .args .plan) (prog c) (c .args .work .now)
 fit c = c .pre .1 .0
 
-add-marks : tie.Need-add-marks Inv-loop μ-loop
-add-marks c = omega (arith, c .before .before .pre .0 .room)
-
 loop-holds : tie.Need-loop-holds Inv-loop μ-loop
-loop-holds c = let a = c .before .before in (omega arith, omega (arith, a .pre .1 .1 .2), under-as _ _ (a .pre .0) (gather-turns _ _ _ _ _ _ (ready-long (a .pre .0))))
+loop-holds c = let a = c .before in (omega arith, omega (arith, a .pre .1 .1 .2), under-as _ _ (a .pre .0) (gather-turns _ _ _ _ _ _ (ready-long (a .pre .0))))
 
 waiting-requires : tie.Need-waiting-requires Inv-loop μ-loop
 waiting-requires c κs = let u = c .before .before .loop .inv .2 in (u .ready, omega (arith, c .before .loop-test .taken, u .grows))
 
 from-state-requires : tie.Need-from-state-requires Inv-loop μ-loop
 from-state-requires c κs =
-    let a = c .before .before .before .before .before .before .before in
+    let a = c .before .before .before .before .before .before in
     let u = c .before .before .before .before .loop .inv .2 in
     (u .ready, (fit-same (u .long) (under-front u (a .args .plan .base) (omega arith)) (fit a), (a .pre .1 .1 .1, c .before .waiting .ensures .1)))
 
 add-j : tie.Need-add-j Inv-loop μ-loop
-add-j c = omega (arith, c .before .before .before .before .before .before .loop-test .taken, c .before .before .before .before .before .before .before .before .before .before .pre .0 .fits, c .before .before .before .before .before .before .before .before .before .before .pre .0 .small)
+add-j c = omega (arith, c .before .before .before .before .before .before .loop-test .taken, c .before .before .before .before .before .before .before .before .before .pre .0 .fits, c .before .before .before .before .before .before .before .before .before .pre .0 .small)
 
 loop-less : tie.Need-loop-less Inv-loop μ-loop
 loop-less c = omega (arith, c .before .before .before .before .before .before .loop-test .taken)
 
 loop-again : tie.Need-loop-again Inv-loop μ-loop
 loop-again c =
-    let a = c .before .before .before .before .before .before .before .before .before .before in
+    let a = c .before .before .before .before .before .before .before .before .before in
     let p = a .args .plan in
     let u = c .before .before .before .before .before .before .before .loop .inv .2 in
     let less = c .before .before .before .before .before .before .loop-test .taken in
@@ -70,7 +67,6 @@ gather-line-spec =
     (tie.spec
     Inv-loop
     μ-loop
-    add-marks
     loop-holds
     waiting-requires
     from-state-requires
