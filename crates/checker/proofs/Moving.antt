@@ -63,9 +63,9 @@ module _ {plan : Plan} {w : List ℕ} (room : marks plan + plan .size + plan .si
         let b = marks plan + plan .size in
         sym (getD-drop b v i 0) ∙ (ap (λ l. getD l i 0) (a .kept) ∙ getD-drop b w i 0)
 
-    pub aside-turn : frontierAt plan w i < plan .size → Aside plan (i + 1) w (asideOf plan i v)
+    pub aside-turn : plan .marks ≡ plan .base + plan .size → frontierAt plan w i < plan .size → Aside plan (i + 1) w (asideOf plan i v)
     unfolding asideOf
-    aside-turn low =
+    aside-turn at low =
         let s = frontierAt plan v i in
         let u = set v (plan .base + i) s in
         let m = marks plan in
@@ -117,9 +117,9 @@ module _ {plan : Plan} {t : ℕ} {w v : List ℕ} (alive : Alive plan t w) (a : 
 -- ---- the next frontier
 
 -- a step in the pair leaves the words before it
-pub step-front : (plan : Plan) {f : Search → Search} {t : ℕ} {w : List ℕ} {u : ℕ} {v : List ℕ} → Step (marks plan) (plan .size) f t w u v → take (plan .base) v ≡ take (plan .base) w
+pub step-front : (plan : Plan) → plan .marks ≡ plan .base + plan .size → {f : Search → Search} {t : ℕ} {w : List ℕ} {u : ℕ} {v : List ℕ} → Step (marks plan) (plan .size) f t w u v → take (plan .base) v ≡ take (plan .base) w
 unfolding outside
-step-front plan {w = w} {v = v} s =
+step-front plan at {w = w} {v = v} s =
     sym (take-take (plan .base) (marks plan) v (omega arith)) ∙ (ap (λ (o : Outside). take (plan .base) (o .front)) (s .same) ∙ take-take (plan .base) (marks plan) w (omega arith))
 
 -- a loop in the pair leaves the words before it
@@ -162,7 +162,7 @@ module _ {plan : Plan} {program : List ℕ} {w : List ℕ} (fit : Fit plan progr
       s .now-found ∙ (ap (turns (listTurn (settingIn program plan (front plan v)) plan v i) 0 t) (aside-blank alive a) ∙ gathered) in
       record {
         now-found = now;
-        front = step-front plan s ∙ a .front;
+        front = step-front plan (fit .laid .marks-at) s ∙ a .front;
         long = s .long ∙ a .long;
         alive = record {
           ready = s .ready;
@@ -233,7 +233,7 @@ module _ (plan : Plan) (program : List ℕ) (w : List ℕ) (fit : Fit plan progr
 
   -- the pair of marks and frontier stands in the area
   pub pair : marks plan + plan .size + plan .size ≤ length w
-  pair = omega (arith, fit .laid .room)
+  pair = omega (arith, fit .laid .room, fit .laid .marks-at)
 
   -- in a pair that was cleared, the positions of the mask are the first set
   pub begun : (D prog : List ℕ) {r : ℕ} {v : List ℕ} → Step (marks plan) (plan .size) (turns (nextTurn plan prog begin (visit D 0) a 0) 0 (plan .done + 1)) 0 (cleared (marks plan) (plan .size) w pair) r v
@@ -243,7 +243,7 @@ module _ (plan : Plan) (program : List ℕ) (w : List ℕ) (fit : Fit plan progr
       let now : found (marks plan) (plan .size) r v ≡ seeded (plan .size) starts = s .now-found ∙ begin-seeded plan program w fit begin a ha within D prog in
       record {
         now-found = now;
-        front = step-front plan s;
+        front = step-front plan (fit .laid .marks-at) s;
         long = s .long;
         alive = record { ready = s .ready; states = starts; low = begins-low plan program w fit begin a ha within; holds = now };
       }

@@ -34,23 +34,20 @@ answer c =
     let S = settingIn (prog c) (c .args .plan) (front (c .args .plan) (c .args .work .now)) in
     memb (goal S (c .args .to)) (moved (succs S) (starting S (c .args .from) (members (c .args .begin))) (c .args .chain .now))
 
-add-clear-stretch : tie.Need-add-clear-stretch
-add-clear-stretch c = omega (arith, c .before .before .before .before .pre .0 .laid .room)
-
 clear-stretch-requires : tie.Need-clear-stretch-requires
-clear-stretch-requires c κs = omega (arith, c .before .before .before .before .pre .0 .laid .room)
+clear-stretch-requires c κs = let l = c .before .before .before .pre .0 .laid in omega (arith, l .room, l .marks-at)
 
 over-next-requires : tie.Need-over-next-requires
 over-next-requires c κs =
-    let a = c .before .before .before .before .before .before .before .before in
+    let a = c .before .before .before .before .before .before .before in
     let p = a .args .plan in
-    let u = cleared-under (marks p) (p .size) (a .args .work .now) (omega (arith, a .pre .0 .laid .room)) (omega (arith, a .pre .0 .laid .small)) in
+    let u = cleared-under (marks p) (p .size) (a .args .work .now) (omega (arith, a .pre .0 .laid .room, a .pre .0 .laid .marks-at)) (omega (arith, a .pre .0 .laid .small)) in
     rw (c .before .before .before .clear-stretch .ensures) (u .ready, (subst (Laid p) (sym (u .long)) (a .pre .0 .laid), (omega (arith, a .pre .1 .1 .0, a .pre .1 .1 .1), a .pre .0 .depths-low)))
 
 -- ---- the first set
 
 abbrev top : tie.After-over-next → tie.Start
-top c = c .before .before .before .before .before .before .before .before .before
+top c = c .before .before .before .before .before .before .before .before
 
 first-set : (c : tie.After-over-next) → let x = top c .args in Advanced (x .plan) (λ _. seeded (x .plan .size) (firstStates (x .plan) (x .begin) (x .from))) 0 (x .work .now) (c .over-next .result) (c .over-next .last .0)
 first-set c =
@@ -66,31 +63,26 @@ run-chain-requires c κs =
 
 state-at-requires : tie.Need-state-at-requires
 state-at-requires c κs =
-    let a = c .before .before .before .before .before .before .before .before .before .before .before .before .before .before .before in
+    let a = c .before .before .before .before .before .before .before .before .before .before .before .before .before .before in
     let l = a .pre .0 .laid in
     ((l .size-is, l .small, l .few-commands), (omega (arith, a .pre .1 .1 .0, a .pre .1 .1 .1), omega arith, stacks-pos l))
 
-add-dist-at : tie.Need-add-dist-at
-add-dist-at c =
-    let a = c .before .before .before .before .before .before .before .before .before .before .before .before .before .before .before .before .before .before in
-    omega (arith, a .pre .0 .laid .room)
-
 dist-at-requires : tie.Need-dist-at-requires
-dist-at-requires c κs = (c .before .before .before .before .before .run-chain .ensures .alive .ready, c .before .before .state-at .ensures .1)
+dist-at-requires c κs = (c .before .before .before .before .run-chain .ensures .alive .ready, c .before .state-at .ensures .1)
 
 -- ---- the reply
 
 -- what the end's word says
 abbrev start : tie.After-dist-at → tie.Start
-start c = c .before .before .before .before .before .before .before .before .before .before .before .before .before .before .before .before .before .before .before
+start c = c .before .before .before .before .before .before .before .before .before .before .before .before .before .before .before .before .before
 
 said : (c : tie.After-dist-at) → (c .dist-at .result ≡ 0 → false ≡ answer (start c)) × ((c .dist-at .result ≡ 0 → ⊥) → true ≡ answer (start c))
 said c =
     let a = start c in
     let p = a .args .plan in
-    let b = first-set (c .before .before .before .before .before .before .before .before .before .before) in
-    let r = rw (b .front) at (c .before .before .before .before .before .before .run-chain .ensures) in
-    let end = c .before .before .before .state-at .ensures .0 ∙ goal-in (prog a) p (length (a .args .work .now)) (a .pre .0 .laid) (front p (a .args .work .now)) (a .args .to) in
+    let b = first-set (c .before .before .before .before .before .before .before .before .before) in
+    let r = rw (b .front) at (c .before .before .before .before .before .run-chain .ensures) in
+    let end = c .before .before .state-at .ensures .0 ∙ goal-in (prog a) p (length (a .args .work .now)) (a .pre .0 .laid) (front p (a .args .work .now)) (a .args .to) in
     let v = verdict p (prog a) (a .args .work .now) (a .pre .0) (a .args .begin) (a .args .from) (a .pre .1 .1 .0) (a .pre .1 .0) (a .args .chain .now) (a .pre .1 .1 .2) (a .args .to) (a .pre .1 .1 .1) _ (r .now-found ∙ ap (walked _ (p .size) (a .args .chain .now)) (b .now-found)) in
     let word = rw end at (c .dist-at .ensures .0) in
     (λ z. sym (v .0 (sym word ∙ z)), λ n. sym (v .1 (λ z. n (word ∙ z))))
@@ -111,12 +103,10 @@ pub leads-spec : {M : Type 1} → statement M
 leads-spec =
     tie.close
     (tie.spec
-    add-clear-stretch
     clear-stretch-requires
     over-next-requires
     run-chain-requires
     state-at-requires
-    add-dist-at
     dist-at-requires
     same-length
     returns

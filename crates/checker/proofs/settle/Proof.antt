@@ -39,7 +39,7 @@ loop-again c =
     let d = c .before .before .before .before .before .loop .inv .1 in
     let r = a .pre .1 in
     let t = c .before .before .before .before .loop-test .taken in
-    (omega arith, rw (c .before .before .set-aside .ensures) (aside-turn (r .room) d (omega (arith, t, r .fits)) (ready-state r _ t)))
+    (omega arith, rw (c .before .before .set-aside .ensures) (aside-turn (r .room) d (omega (arith, t, r .fits)) (a .pre .0 .marks-at) (ready-state r _ t)))
 
 same-length : tie.Need-same-length Inv-loop μ-loop
 same-length c = search needs
