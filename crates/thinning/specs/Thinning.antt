@@ -32,7 +32,7 @@ FromPlaces plan w = (i : ℕ) → i < plan .lines → packIn Order.Kind plan (fr
 abbrev pub thinEnd : Plan → ℕ → ℕ
 thinEnd plan at = sortedEnd Order.Kind plan at + plan .places + plan .places
 
--- the words of key k stand from the word that word at + k says up to the word that the next one says
+-- word at + k holds the index of the first word of key k, whose words end where those of key k + 1 begin
 pub record ThinRun (plan : Plan) (of at : ℕ) (w : List ℕ) (k : ℕ) : Type 0 where
   pub low : linesFrom Order.Kind plan at ≤ getD w (at + k) 0
   pub rising : getD w (at + k) 0 ≤ getD w (at + suc k) 0
