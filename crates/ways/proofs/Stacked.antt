@@ -59,12 +59,15 @@ module _ (plan : Plan) (w : List ℕ) (laid : Laid plan (length w)) (told : Told
     pub full-enough : lo ≡ getD w (kindsAt plan + key) 0 → hi ≡ getD w (kindsAt plan + suc key) 0 → Enough plan s t w lo hi
     full-enough el eh =
         record {
-          behind = omega (arith, el, run .low);
-          rising = rising;
-          inside = inside;
-          starts = λ p from less.
-              let (i, li, is) = run-word Order.Kind plan (kindsAt plan) w key run (omega (arith, filed .room)) p (omega (arith, el, from)) (omega (arith, eh, less)) in
-              subst (λ e. e / 8192 < plan .places) is (pack-low i li);
+          words =
+              record {
+                behind = omega (arith, el, run .low);
+                rising = rising;
+                inside = inside;
+                starts = λ p from less.
+                    let (i, li, is) = run-word Order.Kind plan (kindsAt plan) w key run (omega (arith, filed .room)) p (omega (arith, el, from)) (omega (arith, eh, less)) in
+                    subst (λ e. e / 8192 < plan .places) is (pack-low i li);
+              };
           same = λ d c count some low fits st long.
               by-key d c count st
               ∙ (turns-run Order.Kind plan (kindsAt plan) w key run (omega (arith, filed .room)) _ (stackedTurn plan s t d c count) (λ i less b. run-turn _ _ _ _ _ i b) st
@@ -74,11 +77,14 @@ module _ (plan : Plan) (w : List ℕ) (laid : Laid plan (length w)) (told : Told
     pub thin-enough : Thinnable s → lo ≡ getD w (thinAt plan + key) 0 → hi ≡ getD w (thinAt plan + suc key) 0 → Enough plan s t w lo hi
     thin-enough few el eh =
         record {
-          behind = omega (arith, el, thin .low);
-          rising = rising;
-          inside = inside;
-          starts = λ p from less.
-              place-of (getD w p 0) (thin-word plan (kindsAt plan) (thinAt plan) w key run thin (omega (arith, filed .room)) p (omega (arith, el, from)) (omega (arith, eh, less)));
+          words =
+              record {
+                behind = omega (arith, el, thin .low);
+                rising = rising;
+                inside = inside;
+                starts = λ p from less.
+                    place-of (getD w p 0) (thin-word plan (kindsAt plan) (thinAt plan) w key run thin (omega (arith, filed .room)) p (omega (arith, el, from)) (omega (arith, eh, less)));
+              };
           same = λ d c count some low fits st long.
               by-key d c count st
               ∙ (thin-turns plan (kindsAt plan) (thinAt plan) w key run thin (omega (arith, filed .room)) (omega (arith, filed .room)) (stack-pushing plan s t c count few d some) st
