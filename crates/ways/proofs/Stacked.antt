@@ -1,5 +1,5 @@
--- Which words of the sorted lines are enough where the stacks are gone over one by one: the run of the kind (`full-enough`), and for a position
--- that neither pushes nor tests `same` its thin words (`thin-enough`).
+-- Which words of the sorted lines are enough where the stacks are gone over one by one: the run of the kind (`full-enough`), and its thin words
+-- where they are said to be (`thin-enough`).
 use mathlib.Core.Path.{_≡_, sym, _∙_, subst}
 use mathlib.Core.List.{List}
 use Prim.Native.Nat.{ℕ, suc, _+_, _*_, _-_, _/_, _≤_, _<_}
@@ -15,6 +15,7 @@ use Rattle.sorting.specs.Runs.{turns-run}
 use Rattle.sorting.specs.Sorting.{keys, packIn, Run}
 use Rattle.sorting.specs.declared.Order.the-variants as Order
 use Rattle.states.specs.Area.{stretch}
+use Rattle.states.specs.Served.{Thinnable}
 use Rattle.states.specs.Spots.{front, lineTurn}
 use Rattle.states.specs.declared.Spot.{Spot}
 use Rattle.states.specs.declared.Target.{Target}
@@ -58,29 +59,35 @@ module _ (plan : Plan) (w : List ℕ) (laid : Laid plan (length w)) (told : Told
     pub full-enough : lo ≡ getD w (kindsAt plan + key) 0 → hi ≡ getD w (kindsAt plan + suc key) 0 → Enough plan s t w lo hi
     full-enough el eh =
         record {
-          behind = omega (arith, el, run .low);
-          rising = rising;
-          inside = inside;
-          starts = λ p from less.
-              let (i, li, is) = run-word Order.Kind plan (kindsAt plan) w key run (omega (arith, filed .room)) p (omega (arith, el, from)) (omega (arith, eh, less)) in
-              subst (λ e. e / 8192 < plan .places) is (pack-low i li);
+          words =
+              record {
+                behind = omega (arith, el, run .low);
+                rising = rising;
+                inside = inside;
+                starts = λ p from less.
+                    let (i, li, is) = run-word Order.Kind plan (kindsAt plan) w key run (omega (arith, filed .room)) p (omega (arith, el, from)) (omega (arith, eh, less)) in
+                    subst (λ e. e / 8192 < plan .places) is (pack-low i li);
+              };
           same = λ d c count some low fits st long.
               by-key d c count st
               ∙ (turns-run Order.Kind plan (kindsAt plan) w key run (omega (arith, filed .room)) _ (stackedTurn plan s t d c count) (λ i less b. run-turn _ _ _ _ _ i b) st
               ∙ (λ n. turns (λ p. stackedTurn plan s t d c count (getD w p 0)) (sym el n) (sym eh n - sym el n) st));
         }
 
-    pub thin-enough : (s .push ≡ 1 → ⊥) → (s .test ≡ 2 → ⊥) → lo ≡ getD w (thinAt plan + key) 0 → hi ≡ getD w (thinAt plan + suc key) 0 → Enough plan s t w lo hi
-    thin-enough plain free el eh =
+    pub thin-enough : Thinnable s → lo ≡ getD w (thinAt plan + key) 0 → hi ≡ getD w (thinAt plan + suc key) 0 → Enough plan s t w lo hi
+    thin-enough few el eh =
         record {
-          behind = omega (arith, el, thin .low);
-          rising = rising;
-          inside = inside;
-          starts = λ p from less.
-              place-of (getD w p 0) (thin-word plan (kindsAt plan) (thinAt plan) w key run thin (omega (arith, filed .room)) p (omega (arith, el, from)) (omega (arith, eh, less)));
+          words =
+              record {
+                behind = omega (arith, el, thin .low);
+                rising = rising;
+                inside = inside;
+                starts = λ p from less.
+                    place-of (getD w p 0) (thin-word plan (kindsAt plan) (thinAt plan) w key run thin (omega (arith, filed .room)) p (omega (arith, el, from)) (omega (arith, eh, less)));
+              };
           same = λ d c count some low fits st long.
               by-key d c count st
-              ∙ (thin-turns plan (kindsAt plan) (thinAt plan) w key run thin (omega (arith, filed .room)) (omega (arith, filed .room)) (stack-pushing plan s t c count plain free d some) st
+              ∙ (thin-turns plan (kindsAt plan) (thinAt plan) w key run thin (omega (arith, filed .room)) (omega (arith, filed .room)) (stack-pushing plan s t c count few d some) st
               (λ y m u gets.
               let (n, less, goes, there) = gets in
               let small = state-low (plan .places) (plan .done + 1) (plan .stacks) (plan .size) (y / 8192) c (n * t .weight + t .stack) (laid .size-is) (place-of y m) (omega (arith, low)) (fits n less) in

@@ -2,6 +2,7 @@
 use native.Mathlib.Omega.{arith}
 use Rattle.ways.specs.Filed.{kindsAt}
 use Rattle.ways.proofs.Stacked.{key-low, full-enough, thin-enough}
+use borrow.Author.Needs.{needs}
 use Rattle.ways.proofs.lines_for.Statement.{statement}
 use Rattle.ways.proofs.lines_for.Tie as tie
 
@@ -11,24 +12,27 @@ mul-k c = let a = c .before .before in omega (arith, a .pre .1 .1 .1, a .pre .0 
 add-k : tie.Need-add-k
 add-k c = let a = c .before .before .before in omega (arith, a .pre .1 .1 .0, a .pre .1 .1 .1, a .pre .0 .0 .few-places)
 
+thinnable-requires : tie.Need-thinnable-requires
+thinnable-requires c κs = search needs
+
 -- ---- the thin words
 
 thin-at-requires : tie.Need-thin-at-requires
-thin-at-requires c κs = let l = c .before .before .before .before .before .before .before .pre .0 .0 in (l .few-words, l .small, l .few-places, l .few-lines, l .few-boats)
+thin-at-requires c κs = let l = c .before .before .before .before .before .pre .0 .0 in (l .few-words, l .small, l .few-places, l .few-lines, l .few-boats)
 
 thin-of-requires : tie.Need-thin-of-requires
 thin-of-requires c κs =
-    let a = c .before .before .before .before .before .before .before .before in
+    let a = c .before .before .before .before .before .before in
     let x = a .args in
     let f = a .pre .1 .0 in
     rw (c .thin-at .ensures .0) ((kindsAt (x .plan), f .thin), (key-low (x .plan) (x .target .place) (x .spot .kind) (a .pre .1 .1 .1) (a .pre .1 .1 .0), omega (arith, f .room)))
 
 returns : tie.Need-returns
 returns c =
-    let a = c .before .before .before .before .before .before .before .before .before in
+    let a = c .before .before .before .before .before .before .before in
     let x = a .args in
     let (lo, hi, rising, inside) = rw (c .before .thin-at .ensures .0) at (c .thin-of .ensures) in
-    thin-enough (x .plan) _ (a .pre .0 .0) (a .pre .0 .1) (a .pre .1 .0) (x .spot) (x .target) (a .pre .1 .1 .0) (a .pre .1 .1 .1) _ _ rising inside (c .before .before .before .before .if1 .taken) (c .before .before .if2 .taken) lo hi
+    thin-enough (x .plan) _ (a .pre .0 .0) (a .pre .0 .1) (a .pre .1 .0) (x .spot) (x .target) (a .pre .1 .1 .0) (a .pre .1 .1 .1) _ _ rising inside (c .before .before .before .thinnable .ensures (c .before .before .if1 .taken)) lo hi
 
 -- ---- all words of the run
 
@@ -55,6 +59,7 @@ lines-for-spec =
     (tie.spec
     mul-k
     add-k
+    thinnable-requires
     thin-at-requires
     thin-of-requires
     returns

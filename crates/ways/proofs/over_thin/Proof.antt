@@ -9,7 +9,7 @@ use Rattle.states.specs.Area.{found}
 use Rattle.states.proofs.Changes.{step-as}
 use Rattle.ways.specs.Ways.{laneState, laneTurn}
 use Rattle.ways.proofs.Lanes.{found-long}
-use Rattle.ways.proofs.Thin.{lane-pushing, thin-word, thin-turns, run-gives}
+use Rattle.ways.proofs.Thin.{flat-state, lane-pushing, thin-word, thin-turns, run-gives}
 use borrow.Author.Needs.{needs}
 use Rattle.ways.proofs.over_thin.Statement.{statement}
 use Rattle.ways.proofs.over_thin.Tie as tie
@@ -24,7 +24,7 @@ over-words-requires c κs =
     let w = x .work .now in
     let (s, room, low) = a .pre .1 .0 in
     let (thin, end) = a .pre .1 .1 .0 in
-    let (narrow, gives, flat, other) = a .pre .1 .1 .1 .0 in
+    let (narrow, gives, enough) = a .pre .1 .1 .1 .0 in
     let (some, near, behind) = a .pre .1 .1 .1 .1 in
     let (lo, hi, rising, inside) = c .before .thin-of .ensures in
     let t = thin (x .k) low in
@@ -41,7 +41,7 @@ returns c =
     let w = x .work .now in
     let (s, room, low) = a .pre .1 .0 in
     let (thin, end) = a .pre .1 .1 .0 in
-    let (narrow, gives, flat, other) = a .pre .1 .1 .1 .0 in
+    let (narrow, gives, enough) = a .pre .1 .1 .1 .0 in
     let (lo, hi, rising, inside) = c .before .before .before .before .thin-of .ensures in
     let t = thin (x .k) low in
     let run = s (x .k) low in
@@ -50,8 +50,8 @@ returns c =
     let long = found-long (x .plan .base) (x .plan .size) (x .tail) w (a .pre .0) in
     let at = getD w (x .at + x .k) 0 in
     let few = getD w (x .at + suc (x .k)) 0 - at in
-    let all = thin-turns (x .plan) (x .of) (x .at) w (x .k) run t end room (lane-pushing (x .lane) flat other (x .d) (a .pre .1 .1 .1 .1 .0)) st
-    (λ y m s gets. subst (_< length (st .dist)) (sym (gets .3)) (subst (laneState (x .lane) y <_) (sym long) (run-gives (x .plan) (x .of) w (x .k) run (x .lane) gives y m))) in
+    let all = thin-turns (x .plan) (x .of) (x .at) w (x .k) run t end room (lane-pushing (x .lane) enough (x .d) (a .pre .1 .1 .1 .1 .0)) st
+    (λ y m s gets. subst (_< length (st .dist)) (sym (gets .3 ∙ sym (flat-state (x .lane) enough y))) (subst (laneState (x .lane) y <_) (sym long) (run-gives (x .plan) (x .of) w (x .k) run (x .lane) gives y m))) in
     let bounds : turns (λ p. turn (getD w p 0)) (c .before .before .before .before .thin-of .result .lo) (c .before .before .before .before .thin-of .result .hi - c .before .before .before .before .thin-of .result .lo) st ≡ turns (λ p. turn (getD w p 0)) at few st = λ i. turns (λ p. turn (getD w p 0)) (lo i) (hi i - lo i) st in
     step-as _ (c .before .before .over-words .ensures) (all ∙ sym bounds)
 
