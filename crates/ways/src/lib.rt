@@ -2,16 +2,15 @@
 ghost use mathlib.Core.Path.{_≡_};
 ghost use Prim.Native.Nat.{ℕ, suc, _+_, _*_, _-_, _^_, _/_, _%_, _≤_, _<_};
 ghost use lib.ListN.{length, getD};
-ghost use Rattle.request.specs.Layout.{Laid};
+ghost use Rattle.request.specs.Layout.{Laid, filedEnd};
 ghost use Rattle.search.specs.Loops.{turns};
 ghost use Rattle.states.specs.Area.{Ready, Step};
 ghost use Rattle.ways.specs.Ways.{laneState, takenBy, laneTurn, LaneTo, Narrow, ThinLane, Within, runTurn, Told, Gives, Single, Right, Before};
 ghost use mathlib.Core.Bool.{true, not};
 ghost use lib.Dec.{eqb};
-ghost use Rattle.sorting.specs.Sorting.{keys, sortedEnd, Sorted, Kept};
+ghost use Rattle.sorting.specs.Sorting.{keys, tableAt, tableEnd, Sorted, Kept};
 ghost use Rattle.ways.specs.Stacked.{Enough};
-ghost use Rattle.ways.specs.Filed.{kindsAt, boatsAt, thinAt, filedEnd, Filed};
-ghost use Rattle.thinning.specs.Thinning.{Thinned};
+ghost use Rattle.ways.specs.Filed.{Filed};
 ghost use Rattle.sorting.specs.declared.Order.the-variants as Orders;
 ghost use Rattle.states.specs.Spots.{front};
 use request::Plan;
@@ -221,24 +220,23 @@ pub fn way_of(plan: Plan, spot: Spot, target: Target, leaves: usize, c: usize) -
 
 // ---- a run
 
-// The lines of the key `k`, of a table that stands after the pair of stretches.
+// The lines of the key `k`, of a sorted table.
 pub fn over_run(
     work: &mut [u32],
     plan: Plan,
     order: Order,
-    at: usize,
     k: usize,
     lane: Lane,
     d: u32,
     tail: usize,
 ) -> usize
     requires { ⌜ Ready (plan .base) (plan .size) tail (now work) ⌝ }
-    requires { ⌜ Sorted order plan at (now work) × (sortedEnd order plan at ≤ length (now work)) × (k < keys order plan) ⌝ }
-    requires { ⌜ Narrow lane × Gives order plan (front plan (now work)) k lane ⌝ }
-    requires { ⌜ (0 < d) × (d ≤ suc tail) × (plan .base + plan .size + plan .size ≤ at) ⌝ }
+    requires { ⌜ Laid plan (length (now work)) × (k < keys order plan) ⌝ }
+    requires { ⌜ Sorted order plan (tableAt order plan) (now work) × (tableEnd order plan ≤ length (now work)) ⌝ }
+    requires { ⌜ Narrow lane × Gives order plan (front plan (now work)) k lane × (0 < d) × (d ≤ suc tail) ⌝ }
     ensures { λ r. ⌜ Step (plan .base) (plan .size) (turns (runTurn order plan (front plan (now (work .entry))) k (laneTurn d lane)) 0 (plan .lines)) tail (now (work .entry)) r (now (work .exit)) ⌝ }
 {
-    let run = sorting::run_of(work, plan, order, at, k);
+    let run = sorting::run_of(work, plan, order, k);
     over_words(work, plan.base, plan.size, lane, d, run.lo, run.hi, tail)
 }
 
@@ -252,61 +250,18 @@ pub fn thin_lane(lane: Lane) -> bool
     lane.weight == 0
 }
 
-// The lines of the kind that the key `k` says, by the thin table at `at` of the sorted one at `of`: for a lane for which they are enough.
-pub fn over_thin(
-    work: &mut [u32],
-    plan: Plan,
-    of: usize,
-    at: usize,
-    k: usize,
-    lane: Lane,
-    d: u32,
-    tail: usize,
-) -> usize
+// The lines of the kind that the key `k` says, by the thin ones: for a lane for which they are enough.
+pub fn over_thin(work: &mut [u32], plan: Plan, k: usize, lane: Lane, d: u32, tail: usize) -> usize
     requires { ⌜ Ready (plan .base) (plan .size) tail (now work) ⌝ }
-    requires { ⌜ Sorted Orders.Kind plan of (now work) × (sortedEnd Orders.Kind plan of ≤ length (now work)) × (k < keys Orders.Kind plan) ⌝ }
-    requires { ⌜ Thinned plan of at (now work) × (sortedEnd Orders.Kind plan at ≤ length (now work)) ⌝ }
-    requires { ⌜ Narrow lane × Gives Orders.Kind plan (front plan (now work)) k lane × ThinLane lane ⌝ }
-    requires { ⌜ (0 < d) × (d ≤ suc tail) × (plan .base + plan .size + plan .size ≤ at) ⌝ }
+    requires { ⌜ Laid plan (length (now work)) × Filed plan (now work) × (k < keys Orders.Kind plan) ⌝ }
+    requires { ⌜ Narrow lane × Gives Orders.Kind plan (front plan (now work)) k lane × ThinLane lane × (0 < d) × (d ≤ suc tail) ⌝ }
     ensures { λ r. ⌜ Step (plan .base) (plan .size) (turns (runTurn Orders.Kind plan (front plan (now (work .entry))) k (laneTurn d lane)) 0 (plan .lines)) tail (now (work .entry)) r (now (work .exit)) ⌝ }
 {
-    let run = thinning::thin_of(work, plan, at, k);
+    let run = thinning::thin_of(work, plan, k);
     over_words(work, plan.base, plan.size, lane, d, run.lo, run.hi, tail)
 }
 
 // ---- the tables
-
-// Where the lines by kind stand.
-pub fn kinds_at(plan: Plan) -> usize
-    requires { ⌜ (plan .base ≤ 16384) × (plan .size ≤ 1048576) ⌝ }
-    ensures { λ r. ⌜ r ≡ kindsAt plan ⌝ }
-{
-    plan.base + plan.size + plan.size
-}
-
-// Where the lines by boat stand.
-pub fn boats_at(plan: Plan) -> usize
-    requires { ⌜ (plan .base ≤ 16384) × (plan .size ≤ 1048576) × (plan .places ≤ 1024) × (plan .lines ≤ 4096) ⌝ }
-    ensures { λ r. ⌜ r ≡ boatsAt plan ⌝ }
-{
-    kinds_at(plan) + (plan.places * 16 + 1) + plan.lines
-}
-
-// Where the thin lines by kind stand.
-pub fn thin_at(plan: Plan) -> usize
-    requires { ⌜ (plan .base ≤ 16384) × (plan .size ≤ 1048576) × (plan .places ≤ 1024) × (plan .lines ≤ 4096) × (plan .radix ≤ 4097) ⌝ }
-    ensures { λ r. ⌜ (r ≡ thinAt plan) × (r ≤ 8388608) ⌝ }
-{
-    boats_at(plan) + (plan.places * plan.radix + 1) + plan.lines
-}
-
-// The first word after all of them.
-fn filed_end(plan: Plan) -> usize
-    requires { ⌜ (plan .base ≤ 16384) × (plan .size ≤ 1048576) × (plan .places ≤ 1024) × (plan .lines ≤ 4096) × (plan .radix ≤ 4097) ⌝ }
-    ensures { λ r. ⌜ (r ≡ filedEnd plan) × (r < 4294967296) ⌝ }
-{
-    thin_at(plan) + (plan.places * 16 + 1) + plan.lines + plan.places + plan.places
-}
 
 // The words that are enough for a position whose stacks are gone over one by one: the lines of its kind, and of them the thin ones where
 // they do.
@@ -318,23 +273,22 @@ pub fn lines_for(work: &[u32], plan: Plan, spot: Spot, target: Target) -> Bounds
 {
     let k = target.place * 16 + spot.kind;
     if states::thinnable(spot) {
-        return thinning::thin_of(work, plan, thin_at(plan), k);
+        return thinning::thin_of(work, plan, k);
     }
-    sorting::run_of(work, plan, Order::Kind, kinds_at(plan), k)
+    sorting::run_of(work, plan, Order::Kind, k)
 }
 
-// The lines are sorted by kind and by boat, and thinned, where there is room. Returns whether they are.
-pub fn file_lines(work: &mut [u32], plan: Plan) -> bool
+// The lines are sorted by kind and by boat, and thinned, where there is room.
+pub fn file_lines(work: &mut [u32], plan: Plan)
     requires { ⌜ Laid plan (length (now work)) ⌝ }
     requires { ⌜ Told plan (front plan (now work)) ⌝ }
-    ensures { λ r. ⌜ (r ≡ true → Filed plan (now (work .exit))) × Kept (kindsAt plan) (filedEnd plan) (now (work .entry)) (now (work .exit)) ⌝ }
+    ensures { λ _. ⌜ (plan .filed ≡ true → Filed plan (now (work .exit))) ⌝ }
+    ensures { λ _. ⌜ Kept (plan .bykind) (filedEnd plan) (now (work .entry)) (now (work .exit)) ⌝ }
 {
-    if work.len() < filed_end(plan) {
-        return false;
+    if !plan.filed {
+        return;
     }
-    let kinds = kinds_at(plan);
-    sorting::sort_lines(work, plan, Order::Kind, kinds);
-    sorting::sort_lines(work, plan, Order::Boat, boats_at(plan));
-    thinning::thin_lines(work, plan, kinds, thin_at(plan));
-    true
+    sorting::sort_lines(work, plan, Order::Kind);
+    sorting::sort_lines(work, plan, Order::Boat);
+    thinning::thin_lines(work, plan);
 }
