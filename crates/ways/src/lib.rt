@@ -16,6 +16,7 @@ ghost use Rattle.states.specs.Spots.{front};
 use request::Plan;
 use sorting::Bounds;
 use sorting::Order;
+use sorting::PACK;
 use states::Spot;
 use states::Takes;
 use states::Target;
@@ -31,7 +32,7 @@ pub struct Lane {
 }
 
 // A number that no word has.
-const NONE: usize = 8192;
+const NONE: usize = PACK as usize;
 
 // ---- the loop
 
@@ -47,11 +48,13 @@ fn taken(lane: Lane, y: usize) -> bool
 }
 
 // The state before, by a word written of a line.
-fn lane_state(lane: Lane, e: usize) -> usize
-    requires { ⌜ Narrow lane × (e < 4294967296) ⌝ }
+fn lane_state(lane: Lane, e: u32) -> usize
+    requires { ⌜ Narrow lane ⌝ }
     ensures { λ r. ⌜ r ≡ laneState lane e ⌝ }
 {
-    e / 8192 * lane.block + (lane.home + e % 8192 * lane.weight)
+    let place = (e / PACK) as usize;
+    let number = (e % PACK) as usize;
+    place * lane.block + (lane.home + number * lane.weight)
 }
 
 // Word `p`: the state that it gives is pushed, if it is taken.
@@ -69,8 +72,8 @@ fn one_word(
     requires { ⌜ (0 < d) × (d ≤ suc tail) × (p < length (now work)) × (laneState lane (getD (now work) p 0) < size) ⌝ }
     ensures { λ r. ⌜ Step base size (laneTurn d lane (getD (now (work .entry)) p 0)) tail (now (work .entry)) r (now (work .exit)) ⌝ }
 {
-    let e = states::word(work, p) as usize;
-    if taken(lane, e % 8192) {
+    let e = states::word(work, p);
+    if taken(lane, (e % PACK) as usize) {
         return states::push_if_new(work, base, size, d, lane_state(lane, e), tail);
     }
     tail
