@@ -32,11 +32,11 @@ whole = 4398046511104
 abbrev pub tableWords : ℕ → ℕ → ℕ
 tableWords keys lines = suc keys + lines
 
--- the first word after the thin lines and the two words for each place by which they are made
+-- the first word after phase one's sorted lines and the two words for each place
 abbrev pub filedEnd : Plan → ℕ
-filedEnd plan = plan .thin + tableWords (plan .places * 16) (plan .lines) + 2 * plan .places
+filedEnd plan = plan .stamps + 2 * plan .places
 
--- the first word after the lines by the place that they come from
+-- the first word after phase two's sorted lines
 abbrev pub orderedEnd : Plan → ℕ
 orderedEnd plan = plan .bystart + tableWords (plan .places) (plan .lines)
 
@@ -66,6 +66,7 @@ pub record Laid (plan : Plan) (area : ℕ) : Type 0 where
   pub kinds-at : plan .bykind ≡ plan .base + 2 * plan .size
   pub boats-at : plan .byboat ≡ plan .bykind + tableWords (plan .places * 16) (plan .lines)
   pub thin-at : plan .thin ≡ plan .byboat + tableWords (plan .places * plan .radix) (plan .lines)
+  pub stamps-at : plan .stamps ≡ plan .thin + tableWords (plan .places * 16) (plan .lines)
   pub filed-is : plan .filed ≡ leb (filedEnd plan) area
   -- phase two's sorted lines, after the frontiers
   pub starts-at : plan .bystart ≡ plan .base + 3 * plan .size

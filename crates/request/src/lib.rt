@@ -46,10 +46,11 @@ pub struct Plan {
     pub base: usize,
     pub marks: usize,
     // Phase one's sorted lines, after its pair: by place and kind, by place and boat, and those by kind that are enough where only the
-    // place that a line comes from matters. `filed` says that there is room for all three.
+    // place that a line comes from matters; and two words for each place, by which these are made. `filed` says that there is room.
     pub bykind: usize,
     pub byboat: usize,
     pub thin: usize,
+    pub stamps: usize,
     pub filed: bool,
     // Phase two's sorted lines, after its pair: by the place that they come from. `ordered` says that there is room.
     pub bystart: usize,
@@ -203,12 +204,15 @@ fn planned(
     ensures numbers { λ r. ⌜ (r .places ≡ places) × (r .lines ≡ lines) × (r .done ≡ done) × (r .keeps ≡ keeps) × (r .radix ≡ radix) × (r .boats ≡ at) ⌝ }
 {
     let stacks = size / (places * (done + 1));
+    let inverse = WHOLE / stacks + 1;
     let words = at + lines;
     let base = words + lines;
+    let marks = base + size;
     let bykind = base + 2 * size;
     let byboat = bykind + table_words(places * 16, lines);
     let thin = byboat + table_words(places * radix, lines);
-    let filed_end = thin + table_words(places * 16, lines) + 2 * places;
+    let stamps = thin + table_words(places * 16, lines);
+    let filed_end = stamps + 2 * places;
     let bystart = bykind + size;
     let ordered_end = bystart + table_words(places, lines);
     Plan {
@@ -218,16 +222,17 @@ fn planned(
         keeps,
         radix,
         stacks,
-        inverse: WHOLE / stacks + 1,
+        inverse,
         size,
         boats: at,
         codes: at,
         words,
         base,
-        marks: base + size,
+        marks,
         bykind,
         byboat,
         thin,
+        stamps,
         filed: filed_end <= area,
         bystart,
         ordered: ordered_end <= area,

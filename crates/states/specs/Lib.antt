@@ -1,3 +1,4 @@
 pub mod Area
 pub mod Spots
+pub mod Served
 pub mod Pairs

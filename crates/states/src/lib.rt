@@ -9,6 +9,7 @@ ghost use Rattle.automaton.specs.Program.{rowAt, depthAt};
 ghost use Rattle.boats.specs.Codes.{telling};
 ghost use Rattle.search.specs.Table.{push};
 ghost use Rattle.states.specs.Area.{stretch, patch, found, Ready, Step};
+ghost use Rattle.states.specs.Served.{Thinnable};
 ghost use Rattle.states.specs.Spots.{toldShown, sameShown, metBy, spotIn, off, on, okay, TakenBy, OnlyKept, Lowest, targetIn};
 use automaton::Rule;
 use request::Plan;
@@ -311,6 +312,22 @@ pub fn wants_kept(spot: Spot) -> bool
         return true;
     }
     false
+}
+
+// Are a few lines from each place enough for the position, the thin ones? It must not push, and, whatever the stack, take a set that is served.
+pub fn thinnable(spot: Spot) -> bool
+    ensures { λ r. ⌜ (r ≡ true → Thinnable spot) ⌝ }
+{
+    if spot.push {
+        return false;
+    }
+    let rule = spot.rule;
+    match rule {
+        Rule::Never => true,
+        Rule::Always => true,
+        Rule::Same => false,
+        Rule::Other => true,
+    }
 }
 
 // The state at a place and a position with a stack.

@@ -1,16 +1,19 @@
 -- One word of a run read: a word that is left out is covered (`covered`), and the marks are right again (`going-read`).
 use mathlib.Core.Path.{_≡_, refl, sym, ap, _∙_, subst}
-use mathlib.Core.Logic.{_⊎_, inl, inr}
+use mathlib.Core.Bool.{Bool, true, not, false≢true}
+use mathlib.Core.Logic.{_⊎_, inl, inr, ⊎-elim}
 use mathlib.Core.List.{List, [], _∷_, _++_, List·Memᴰ·head, Memᴰ·append-left, Memᴰ·append-right}
 use Prim.Native.Nat.{ℕ, suc, _+_, _*_, _-_, _/_, _%_, _≤_, _<_}
 use native.Mathlib.Decide.{ℕ-discrete}
 use native.Mathlib.Omega.{arith}
 use lib.ListN.{length, getD, set, take, drop, length-set, length-drop}
+use borrow.Author.Tests.{ne-eqb}
 use lib.Seq.{take-suc, getD-drop, getD-set-same, getD-set-other}
 use Rattle.automaton.specs.Listed.{_∈_}
 use Rattle.sorting.specs.Sorting.{Kept}
 use Rattle.sorting.proofs.Turns.{kept-none, kept-then, kept-set, kept-get}
 use Rattle.states.specs.Area.{stretch}
+use Rattle.states.specs.Served.{Served, everybody, all-but, nobody}
 use Rattle.states.proofs.Stretches.{stretch-none, stretch-above, stretch-push}
 use Rattle.thinning.specs.Thinning.{Covered, empty, kept, left}
 use Rattle.thinning.specs.Marks.{first, other, Stale, Marked, Read, new, more, spare, Ahead, Going}
@@ -25,18 +28,30 @@ stretch-more b p w h l =
     ∙ (take-suc (drop b w) (p - b) 0 (omega (arith, length-drop b w))
     ∙ ap (λ x. take (p - b) (drop b w) ++ (x ∷ [])) (getD-drop b w (p - b) 0 ∙ ap (λ x. getD w x 0) sum))
 
+-- where somebody passes, one of two different boats does
+one-of-two : {T : ℕ → Bool} → Served T → (x : ℕ) → T x ≡ true → (y z : ℕ) → (y ≡ z → ⊥) → (T y ≡ true) ⊎ (T z ≡ true)
+one-of-two (everybody h) x passes y z differs = inl (h y)
+one-of-two (all-but n h) x passes y z differs = elim (ℕ-discrete y n) [
+  | yes e ↦ inr (h z ∙ ap not (ne-eqb z n (λ q. differs (e ∙ sym q))))
+  | no d ↦ inl (h y ∙ ap not (ne-eqb y n d))
+]
+one-of-two (nobody h) x passes y z differs = absurd (false≢true (sym (h x) ∙ passes))
+
 module _ (s n : ℕ) where
   -- ---- a word left out
 
   pub covered : (t x : ℕ) (vs w : List ℕ)
       → Marked s n t vs w → x / 8192 < n → first s n (x / 8192) w / 8192 ≡ t → (first s n (x / 8192) w % 8192 ≡ x % 8192) ⊎ (other s n (x / 8192) w ≡ t) → Covered vs x
-  covered t x vs w m low h (inl e) k d =
-      let a = m .has-first (x / 8192) low h in
-      (a .0, a .1, a .2, λ z. d (sym (a .3 ∙ e) ∙ z))
-  covered t x vs w m low h (inr e) k d =
-      let a = m .has-first (x / 8192) low h in
-      let b = m .has-other (x / 8192) low e .1 in
-      elim (ℕ-discrete (first s n (x / 8192) w % 8192) k) [ yes q ↦ (b .0, b .1, b .2, λ z. b .3 (z ∙ sym q)) | no q ↦ (a .0, a .1, a .2, λ z. q (sym (a .3) ∙ z)) ]
+  covered t x vs w m low h (inl e) T served passes =
+      let (y, has, from, is) = m .has-first (x / 8192) low h in
+      (y, has, record { from = from; passes = ap T (is ∙ e) ∙ passes })
+  covered t x vs w m low h (inr e) T served passes =
+      let (y, has, from, is) = m .has-first (x / 8192) low h in
+      let (z, has′, from′, differs) = m .has-other (x / 8192) low e .1 in
+      ⊎-elim
+      (λ p. (y, has, record { from = from; passes = p }))
+      (λ p. (z, has′, record { from = from′; passes = p }))
+      (one-of-two served (x % 8192) passes (y % 8192) (z % 8192) (λ q. differs (sym q ∙ is)))
 
   -- ---- a word kept
 

@@ -12,7 +12,7 @@ use Rattle.request.specs.Layout.{Laid}
 use Rattle.request.specs.declared.Plan.{Plan}
 use Rattle.search.specs.Plain.{count}
 use Rattle.search.specs.Sets.{filt-in, count-in}
-use Rattle.sorting.specs.Sorting.{keys, keyIn, packIn, having, linesFrom, sortedEnd, Run, Kept}
+use Rattle.sorting.specs.Sorting.{packBy, keys, keyIn, packIn, having, linesFrom, sortedEnd, Run, Kept}
 use Rattle.sorting.specs.declared.Order.the-variants as Order
 use Rattle.sorting.proofs.Turns.{kept-then, kept-set, kept-take, kept-wider, kept-get}
 use Rattle.states.specs.Area.{stretch, patch}
@@ -40,7 +40,7 @@ ground-kept {plan} {of} {at} {w} {v} d c =
     record {
       laid = subst (Laid plan) (sym (c .long)) (d .laid);
       sorted = sorted-kept Order.Kind plan of at (thinEnd plan at) w v (d .sorted) c past (d .apart) (omega (arith, d .room));
-      places = λ i h. subst (λ g. packIn Order.Kind plan g i / 8192 < plan .places) (sym (kept-take c (plan .base) past)) (d .places i h);
+      places = λ i h. subst (λ g. packIn Order.Kind plan g i / packBy < plan .places) (sym (kept-take c (plan .base) past)) (d .places i h);
       past = d .past;
       apart = d .apart;
       room = omega (arith, d .room, c .long);
@@ -49,7 +49,7 @@ ground-kept {plan} {of} {at} {w} {v} d c =
 
 -- a word of a sorted run is what is written of a line
 run-places : (plan : Plan) (of : ℕ) (w : List ℕ) (k : ℕ)
-    → FromPlaces plan w → Run Order.Kind plan of w k → sortedEnd Order.Kind plan of ≤ length w → (p : ℕ) → getD w (of + k) 0 ≤ p → p < getD w (of + suc k) 0 → getD w p 0 / 8192 < plan .places
+    → FromPlaces plan w → Run Order.Kind plan of w k → sortedEnd Order.Kind plan of ≤ length w → (p : ℕ) → getD w (of + k) 0 ≤ p → p < getD w (of + suc k) 0 → getD w p 0 / packBy < plan .places
 run-places plan of w k places r room p l h =
     let lo = getD w (of + k) 0 in
     let n = getD w (of + suc k) 0 - lo in
@@ -62,7 +62,7 @@ run-places plan of w k places r room p l h =
     let line = Memᴰ·of-map (packIn Order.Kind plan g) (having Order.Kind plan g k) inside in
     let below = count-in 0 (plan .lines) (line .0) .0 (filt-in (λ i. eqb (keyIn Order.Kind plan g i) k) (count 0 (plan .lines)) (line .0) .0 (line .1) .0) .1 in
     let is : packIn Order.Kind plan g (line .0) ≡ getD w p 0 = line .2 ∙ (stretch-get lo n w (p - lo) less ∙ ap (λ x. getD w x 0) sum) in
-    subst (λ x. x / 8192 < plan .places) is (places (line .0) (omega (arith, below)))
+    subst (λ x. x / packBy < plan .places) is (places (line .0) (omega (arith, below)))
 
 module _ {plan : Plan} {of at : ℕ} where
   -- ---- the run of a key, by the numbers that the code has of it
@@ -163,7 +163,7 @@ module _ {plan : Plan} {of at : ℕ} where
           let same : (j : ℕ) → sortedEnd Order.Kind plan at ≤ j → getD v j 0 ≡ getD u j 0 = λ j h. getD-set-other u q j r 0 (λ e. omega (arith, e, eq, under, h)) in
           let one = same (sortedEnd Order.Kind plan at + f) (omega arith) in
           let two = same (sortedEnd Order.Kind plan at + plan .places + f) (omega arith) in
-          (subst (λ z. z / 8192 < suc (suc k)) (sym one) (run-stale f l .0), subst (λ z. z < suc (suc k)) (sym two) (run-stale f l .1))
+          (subst (λ z. z / packBy < suc (suc k)) (sym one) (run-stale f l .0), subst (λ z. z < suc (suc k)) (sym two) (run-stale f l .1))
 
       pub made-key : Made plan of at (suc k) v
       made-key = record {

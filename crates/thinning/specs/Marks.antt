@@ -8,7 +8,7 @@ use lib.ListN.{length, getD, set}
 use Rattle.automaton.specs.Listed.{_∈_}
 use Rattle.request.specs.Layout.{Laid}
 use Rattle.request.specs.declared.Plan.{Plan}
-use Rattle.sorting.specs.Sorting.{linesFrom, sortedEnd, Sorted, Kept}
+use Rattle.sorting.specs.Sorting.{packBy, linesFrom, sortedEnd, Sorted, Kept}
 use Rattle.sorting.specs.declared.Order.the-variants as Order
 use Rattle.states.specs.Area.{stretch}
 use Rattle.thinning.specs.Thinning.{Thin, thinEnd, ThinRun, FromPlaces}
@@ -16,7 +16,7 @@ use Rattle.thinning.specs.Thinning.{Thin, thinEnd, ThinRun, FromPlaces}
 -- ---- marks: n words from word s on, and n more; t is the stamp of the run at hand, and no other run has it
 
 module _ (s n : ℕ) where
-  -- the stamp times 8192 and the boat number of the first word of place f that is kept
+  -- the stamp times packBy and the boat number of the first word of place f that is kept
   abbrev pub first : ℕ → List ℕ → ℕ
   first f w = getD w (s + f) 0
 
@@ -26,20 +26,20 @@ module _ (s n : ℕ) where
 
   -- every stamp is below t
   abbrev pub Stale : ℕ → List ℕ → Type 0
-  Stale t w = (f : ℕ) → f < n → (first f w / 8192 < t) × (other f w < t)
+  Stale t w = (f : ℕ) → f < n → (first f w / packBy < t) × (other f w < t)
 
   -- vs are the words kept of the run: what the marks with its stamp say is so
   pub record Marked (t : ℕ) (vs w : List ℕ) : Type 0 where
-    pub has-first : (f : ℕ) → f < n → first f w / 8192 ≡ t → (y : ℕ) × (y ∈ vs) × (y / 8192 ≡ f) × (y % 8192 ≡ first f w % 8192)
+    pub has-first : (f : ℕ) → f < n → first f w / packBy ≡ t → (y : ℕ) × (y ∈ vs) × (y / packBy ≡ f) × (y % packBy ≡ first f w % packBy)
     pub has-other : (f : ℕ) → f < n → other f w ≡ t
-        → (first f w / 8192 ≡ t) × ((y : ℕ) × (y ∈ vs) × (y / 8192 ≡ f) × (y % 8192 ≡ first f w % 8192 → ⊥))
+        → (first f w / packBy ≡ t) × ((y : ℕ) × (y ∈ vs) × (y / packBy ≡ f) × (y % packBy ≡ first f w % packBy → ⊥))
     pub stale : Stale (suc t) w
 
   -- the word x is read, and the next word kept is to stand at word i; u is where the one after it is to stand then
   pub data Read (t x i : ℕ) (w : List ℕ) (u : ℕ) (v : List ℕ) : Type 0 where
-    new : (first (x / 8192) w / 8192 ≡ t → ⊥) → u ≡ i + 1 → v ≡ set (set w (s + x / 8192) (t * 8192 + x % 8192)) i x → Read t x i w u v
-    more : first (x / 8192) w / 8192 ≡ t → (first (x / 8192) w % 8192 ≡ x % 8192 → ⊥) → u ≡ i + 1 → v ≡ set (set w (s + n + x / 8192) t) i x → Read t x i w u v
-    spare : first (x / 8192) w / 8192 ≡ t → (first (x / 8192) w % 8192 ≡ x % 8192) ⊎ (other (x / 8192) w ≡ t) → u ≡ i → v ≡ w → Read t x i w u v
+    new : (first (x / packBy) w / packBy ≡ t → ⊥) → u ≡ i + 1 → v ≡ set (set w (s + x / packBy) (t * packBy + x % packBy)) i x → Read t x i w u v
+    more : first (x / packBy) w / packBy ≡ t → (first (x / packBy) w % packBy ≡ x % packBy → ⊥) → u ≡ i + 1 → v ≡ set (set w (s + n + x / packBy) t) i x → Read t x i w u v
+    spare : first (x / packBy) w / packBy ≡ t → (first (x / packBy) w % packBy ≡ x % packBy) ⊎ (other (x / packBy) w ≡ t) → u ≡ i → v ≡ w → Read t x i w u v
 
   -- the marks are words of the area
   abbrev pub MarksFit : List ℕ → Type 0
@@ -52,7 +52,7 @@ module _ (s n : ℕ) where
     pub rising : lo ≤ hi
     pub apart : hi ≤ b
     pub room : b + hi ≤ s + lo
-    pub low : (p : ℕ) → lo ≤ p → p < hi → getD w p 0 / 8192 < n
+    pub low : (p : ℕ) → lo ≤ p → p < hi → getD w p 0 / packBy < n
     pub stale : Stale t w
     pub stamp-low : t ≤ 16384
 

@@ -5,9 +5,10 @@ use mathlib.Core.List.{List, map}
 use Prim.Native.Nat.{ℕ, suc, _+_, _-_, _≤_, _<_}
 use native.Mathlib.Omega.{arith}
 use lib.ListN.{length, getD, drop}
+use Rattle.request.specs.Layout.{Laid, filedEnd}
 use Rattle.request.specs.declared.Plan.{Plan}
 use Rattle.search.specs.Loaded.{codeAt}
-use Rattle.sorting.specs.Sorting.{packIn, having, sortedEnd, Sorted, Kept}
+use Rattle.sorting.specs.Sorting.{packBy, keys, packIn, having, sortedEnd, Sorted, Kept}
 use Rattle.sorting.specs.Runs.{same-word, same-stretch}
 use Rattle.sorting.specs.declared.Order.{Order}
 use Rattle.sorting.specs.declared.Order.the-variants as Order
@@ -15,13 +16,24 @@ use Rattle.sorting.proofs.Turns.{kept-take, kept-get}
 use Rattle.states.specs.Area.{stretch}
 use Rattle.states.specs.Spots.{front, Starts}
 use Rattle.states.proofs.Stretches.{stretch-take}
-use Rattle.thinning.specs.Thinning.{Thin, FromPlaces, ThinRun, Thinned}
+use Rattle.thinning.specs.Thinning.{Thin, FromPlaces, thinEnd, ThinRun, Thinned}
 
 -- ---- places
 
-pub from-places : (plan : Plan) (w : List ℕ) → Starts plan (front plan w) → ((i : ℕ) → i < plan .lines → codeAt plan (front plan w) i < 8192) → FromPlaces plan w
+pub from-places : (plan : Plan) (w : List ℕ) → Starts plan (front plan w) → ((i : ℕ) → i < plan .lines → codeAt plan (front plan w) i < packBy) → FromPlaces plan w
 unfolding packIn
 from-places plan w starts codes i h = omega (arith, starts i h, codes i h)
+
+-- ---- where the plan has the table
+
+module _ {plan : Plan} {area : ℕ} (l : Laid plan area) where
+  -- the marks stand after it
+  pub stamps-are : plan .stamps ≡ sortedEnd Order.Kind plan (plan .thin)
+  unfolding keys
+  stamps-are = omega (arith, l .stamps-at)
+
+  pub filed-end : filedEnd plan ≡ thinEnd plan (plan .thin)
+  filed-end = omega (arith, stamps-are)
 
 -- ---- a run as it was
 

@@ -1,6 +1,7 @@
--- Of the lines of one kind into one place, as they are written in a sorted table, those that are needed where only the place that a line
--- comes from matters and one boat may be left out: of each place the first line, and the first with another boat than that one.
+-- Of the lines of one kind into one place, as they are written in a sorted table, those that are needed where of a line only the place that
+-- it comes from matters and whether its boat passes: where one passes that was left out, one that was kept stands for it (`Covered`).
 use mathlib.Core.Path.{_≡_}
+use mathlib.Core.Bool.{Bool, true}
 use mathlib.Core.List.{List, [], _∷_, _++_}
 use Prim.Native.Nat.{ℕ, suc, _+_, _-_, _/_, _%_, _≤_, _<_}
 use lib.ListN.{getD}
@@ -9,12 +10,18 @@ use Rattle.request.specs.declared.Plan.{Plan}
 use Rattle.sorting.specs.Sorting.{keys, packIn, linesFrom, sortedEnd}
 use Rattle.sorting.specs.declared.Order.the-variants as Order
 use Rattle.states.specs.Area.{stretch}
+use Rattle.states.specs.Served.{Served}
 use Rattle.states.specs.Spots.{front}
 
--- a word written of a line is the place that it comes from times 8192 and its boat's number: whichever number is left out, a word of ys that
--- is not left out comes from the same place as x
+-- a word written of a line is the place that it comes from times 8192 and its boat's number. Where the boats that pass are those of T, the
+-- word y stands for the word x: it comes from the same place, and passes
+pub record StandsFor (T : ℕ → Bool) (x y : ℕ) : Type 0 where
+  pub from : y / 8192 ≡ x / 8192
+  pub passes : T (y % 8192) ≡ true
+
+-- whichever set that is served has those that pass: where x passes, a word of ys stands for it
 abbrev pub Covered : List ℕ → ℕ → Type 0
-Covered ys x = (n : ℕ) → (x % 8192 ≡ n → ⊥) → (y : ℕ) × (y ∈ ys) × (y / 8192 ≡ x / 8192) × (y % 8192 ≡ n → ⊥)
+Covered ys x = (T : ℕ → Bool) → Served T → T (x % 8192) ≡ true → (y : ℕ) × (y ∈ ys) × StandsFor T x y
 
 -- ys are the words of xs, in their order, without some that those before them cover
 pub data Thin : List ℕ → List ℕ → Type 0 where
@@ -32,7 +39,7 @@ FromPlaces plan w = (i : ℕ) → i < plan .lines → packIn Order.Kind plan (fr
 abbrev pub thinEnd : Plan → ℕ → ℕ
 thinEnd plan at = sortedEnd Order.Kind plan at + plan .places + plan .places
 
--- the words of key k stand from the word that word at + k says up to the word that the next one says
+-- word at + k holds the index of the first word of key k, whose words end where those of key k + 1 begin
 pub record ThinRun (plan : Plan) (of at : ℕ) (w : List ℕ) (k : ℕ) : Type 0 where
   pub low : linesFrom Order.Kind plan at ≤ getD w (at + k) 0
   pub rising : getD w (at + k) 0 ≤ getD w (at + suc k) 0

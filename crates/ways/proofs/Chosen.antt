@@ -1,5 +1,5 @@
--- Each case in which a way by one run is chosen: it is right.
-use mathlib.Core.Path.{_≡_, sym, ap, _∙_}
+-- What the stacks of one line do where a way by one run is chosen, case by case: one push at most (`Single`).
+use mathlib.Core.Path.{_≡_, refl, sym, ap, _∙_}
 use mathlib.Core.Bool.{Bool, true, false, cond, not}
 use Prim.Native.Nat.{ℕ, suc, _+_, _*_, _^_, _/_, _%_, _<_, _≤_}
 use native.Mathlib.Nat.{mul-zero, mul-comm, mul-le-mul, pow-suc, mod-le}
@@ -10,16 +10,12 @@ use borrow.Author.Tests.{ne-eqb}
 use Rattle.request.specs.declared.Plan.{Plan}
 use Rattle.search.specs.Loops.{turns}
 use Rattle.search.specs.Table.{Search, push}
-use Rattle.sorting.specs.declared.Order.the-variants as Order
-use Rattle.states.specs.Spots.{stackTurn}
+use Rattle.states.specs.Spots.{okay, OnlyKept, stackTurn}
 use Rattle.states.specs.declared.Spot.{Spot}
 use Rattle.states.specs.declared.Target.{Target}
 use Rattle.states.proofs.Bounds.{power-fits, power-small}
-use Rattle.ways.specs.Ways.{LaneTo, Runs, Right, Open, Before}
-use Rattle.ways.specs.declared.Lane.{Lane}
-use Rattle.ways.specs.declared.Way.{Way}
-use Rattle.ways.specs.declared.Way.the-variants as Way
-use Rattle.ways.proofs.Right.{okay-any, okay-same, okay-other, stack-plain, stack-pushed, stack-forgotten, stack-left, stack-fits, kind-runs, boat-runs}
+use Rattle.ways.specs.Ways.{Single, Before}
+use Rattle.ways.proofs.Right.{stack-plain, stack-pushed, stack-forgotten, stack-left, stack-fits}
 
 -- keys of places and boats are small
 pub by-boat : (p R x : ℕ) → p < 1024 → R ≤ 4097 → x < R → (p * R ≤ 4195328) × (p * R + x < 4200000)
@@ -33,74 +29,71 @@ module _ (plan : Plan) (s : Spot) (t : Target) (c leaves : ℕ) (b : Before plan
   abbrev R : ℕ
   R = plan .radix
 
-  -- what the stacks of one line do
-  abbrev Law : ℕ → (ℕ → Bool) → (ℕ → ℕ) → Type 0
-  Law count p u = (d home x : ℕ) → x < R → (st : Search) → turns (stackTurn R s d home x (t .weight) (t .stack)) 0 count st ≡ cond (p x) (push d (home + u x) st) st
-
-  no-number : (x : ℕ) → x < R → not (eqb x 8192) ≡ true
+  -- no boat has the number 8192
+  pub no-number : (x : ℕ) → x < R → not (eqb x 8192) ≡ true
   no-number x low = ap not (ne-eqb x 8192 (λ e. omega (arith, e, low, b .laid .few-boats)))
 
-  plain-fits : (x : ℕ) → x < R → t .stack + x * 0 < plan .stacks
-  plain-fits x low = omega (arith, mul-zero x, stack-fits plan s t c leaves b)
+  -- ---- the same, said otherwise
 
-  -- ---- one boat's lines
+  single-as : {count : ℕ} {p : ℕ → Bool} {u : ℕ → ℕ} (q : ℕ → Bool) (v : ℕ → ℕ) → ((x : ℕ) → x < R → p x ≡ q x) → ((x : ℕ) → u x ≡ v x) → Single plan s t count p u → Single plan s t count q v
+  single-as q v same is one =
+      record {
+        fits = λ x low. omega (arith, one .fits x low, is x);
+        law = λ d home x low st. one .law d home x low st ∙ (λ i. cond (same x low i) (push d (home + is x i) st) st);
+      }
 
-  module _ (k : ℕ) (lane : Lane) where
-    pub push-right : s .push ≡ 1 → s .test ≡ 1 → (x₀ : ℕ) → x₀ ≡ t .stack / s .weight → x₀ < R → LaneTo plan c (t .stack % s .weight) 0 (s .kind) true lane → k ≡ t .place * R + x₀
-        → Runs Order.Boat plan s t c 1 k lane
-    push-right e f x₀ top low is key =
-        let some = b .sane .some-weight in
-        let fits : t .stack % s .weight < plan .stacks = omega (arith, mod-le (t .stack) (s .weight), stack-fits plan s t c leaves b) in
-        boat-runs plan s t c leaves b 1 k lane (t .stack % s .weight) x₀ is key low fits
-        (λ d home x less st. stack-pushed R s d home x (t .weight) (t .stack) st e f some ∙ ap (λ z. cond (eqb x z) (push d (home + t .stack % s .weight) st) st) (sym top))
+  -- with the line's number at the weight 0
+  flat : {count : ℕ} {p : ℕ → Bool} → Single plan s t count p (λ x. t .stack) → Single plan s t count p (λ x. t .stack + x * 0)
+  flat {p = p} one = single-as p (λ x. t .stack + x * 0) (λ x low. refl) (λ x. omega (arith, mul-zero x)) one
 
-    pub same-right : (s .push ≡ 1 → ⊥) → s .test ≡ 2 → (x₀ : ℕ) → x₀ ≡ t .stack / s .level % R → x₀ < R → LaneTo plan c (t .stack) 0 (s .kind) true lane → k ≡ t .place * R + x₀
-        → Runs Order.Boat plan s t c 1 k lane
-    same-right n f x₀ there low is key =
-        boat-runs plan s t c leaves b 1 k lane (t .stack) x₀ is key low (stack-fits plan s t c leaves b)
-        (λ d home x less st. stack-plain R s d home x (t .weight) (t .stack) st n ∙ ap (λ z. cond z (push d (home + t .stack) st) st) (okay-same R s x (t .stack) f ∙ ap (eqb x) (sym there)))
+  -- ---- the stack after the position is the state's
 
-    -- ---- all lines of the kind
+  plain : s .push ≡ false → (p : ℕ → Bool) → ((x : ℕ) → x < R → okay R s x (t .stack) ≡ p x) → Single plan s t 1 p (λ x. t .stack)
+  plain e p is =
+      record {
+        fits = λ x low. stack-fits plan s t c leaves b;
+        law = λ d home x low st. stack-plain R s d home x (t .weight) (t .stack) st e ∙ ap (λ z. cond z (push d (home + t .stack) st) st) (is x low);
+      }
 
-    pub other-right : (s .push ≡ 1 → ⊥) → s .test ≡ 3 → (x₀ : ℕ) → x₀ ≡ t .stack / s .level % R → LaneTo plan c (t .stack) 0 x₀ false lane → k ≡ t .place * 16 + s .kind
-        → Runs Order.Kind plan s t c 1 k lane
-    other-right n f x₀ there is key =
-        kind-runs plan s t c leaves b 1 k lane 0 x₀ is key (omega arith) plain-fits
-        (λ d home x less st.
-        let sum : home + t .stack ≡ home + (t .stack + x * 0) = omega (arith, mul-zero x) in
-        stack-plain R s d home x (t .weight) (t .stack) st n
-        ∙ (λ i. cond ((okay-other R s x (t .stack) f ∙ ap (λ z. not (eqb x z)) (sym there)) i) (push d (sum i) st) st))
+  pub any-single : s .push ≡ false → ((x : ℕ) → okay R s x (t .stack) ≡ true) → Single plan s t 1 (λ x. not (eqb x 8192)) (λ x. t .stack + x * 0)
+  any-single e any = flat (plain e (λ x. not (eqb x 8192)) (λ x low. any x ∙ sym (no-number x low)))
 
-  -- each line is taken, with the stack u of its number
-  all-law : (count : ℕ) (u : ℕ → ℕ) → ((d home x : ℕ) → x < R → (st : Search) → turns (stackTurn R s d home x (t .weight) (t .stack)) 0 count st ≡ push d (home + u x) st) → Law count (λ x. not (eqb x 8192)) u
-  all-law count u h d home x less st = h d home x less st ∙ ap (λ z. cond z (push d (home + u x) st) st) (sym (no-number x less))
+  pub only-single : s .push ≡ false → (y : ℕ) → ((x : ℕ) → okay R s x (t .stack) ≡ eqb x y) → Single plan s t 1 (λ x. eqb x y) (λ x. t .stack)
+  only-single e y is = plain e (λ x. eqb x y) (λ x low. is x)
 
-  plain-law : (count : ℕ) → ((d home x : ℕ) → x < R → (st : Search) → turns (stackTurn R s d home x (t .weight) (t .stack)) 0 count st ≡ push d (home + t .stack) st) → Law count (λ x. not (eqb x 8192)) (λ x. t .stack + x * 0)
-  plain-law count h = all-law count (λ x. t .stack + x * 0) (λ d home x less st. h d home x less st ∙ ap (λ z. push d z st) (omega (arith, mul-zero x)))
+  pub but-single : s .push ≡ false → (y : ℕ) → ((x : ℕ) → okay R s x (t .stack) ≡ not (eqb x y)) → Single plan s t 1 (λ x. not (eqb x y)) (λ x. t .stack + x * 0)
+  but-single e y is = flat (plain e (λ x. not (eqb x y)) (λ x low. is x))
 
-  pub any-right : (s .push ≡ 1 → ⊥) → s .test ≡ 1 → (r : Way) → Open plan s t c 0 r → Right plan s t c 1 r
-  any-right n f (Way.ByBoat k lane) o = absurd o
-  any-right n f (Way.ByKind k lane) (key, is) =
-      kind-runs plan s t c leaves b 1 k lane 0 8192 is key (omega arith) plain-fits
-      (plain-law 1 (λ d home x less st. stack-plain R s d home x (t .weight) (t .stack) st n ∙ ap (λ z. cond z (push d (home + t .stack) st) st) (okay-any R s x (t .stack) f)))
-  any-right n f Way.ByStack o = absurd o
+  pub before-fits : t .stack % s .weight < plan .stacks
+  before-fits = omega (arith, mod-le (t .stack) (s .weight), stack-fits plan s t c leaves b)
 
-  pub forgotten-right : s .push ≡ 1 → s .test ≡ 1 → s .weight ≡ t .weight → (r : Way) → Open plan s t c 0 r → Right plan s t c R r
-  forgotten-right e f same (Way.ByBoat k lane) o = absurd o
-  forgotten-right e f same (Way.ByKind k lane) (key, is) =
-      kind-runs plan s t c leaves b R k lane 0 8192 is key (omega arith) plain-fits
-      (plain-law R (λ d home x less st. stack-forgotten R s d home x (t .weight) (t .stack) st e f same (b .aimed .stack-low) less))
-  forgotten-right e f same Way.ByStack o = absurd o
+  pub push-single : s .push ≡ true → ((x : ℕ) → okay R s x (t .stack % s .weight) ≡ true) → Single plan s t 1 (λ x. eqb x (t .stack / s .weight)) (λ x. t .stack % s .weight)
+  push-single e any =
+      record {
+        fits = λ x low. before-fits;
+        law = λ d home x low st. stack-pushed R s d home x (t .weight) (t .stack) st e (b .sane .some-weight) (any x);
+      }
 
-  pub left-right : (s .push ≡ 1 → ⊥) → s .test ≡ 2 → s .level ≡ t .weight → leaves ≡ suc (t .depth) → (r : Way) → Open plan s t c (t .weight) r → Right plan s t c R r
-  left-right n f same deep (Way.ByBoat k lane) o = absurd o
-  left-right n f same deep (Way.ByKind k lane) (key, is) =
-      kind-runs plan s t c leaves b R k lane (t .weight) 8192 is key (omega (arith, b .aimed .weight-is, power-small (b .laid) (t .depth) (b .aimed .depth-low))) fits
-      (all-law R (λ x. t .stack + x * t .weight) (λ d home x less st. stack-left R s d home x (t .weight) (t .stack) st n f same (b .aimed .stack-low) less ∙ ap (λ z. push d z st) (omega arith)))
+  -- ---- it has one boat more, which is forgotten
+
+  -- each line is taken
+  each : {u : ℕ → ℕ} → ((x : ℕ) → x < R → u x < plan .stacks)
+      → ((d home x : ℕ) → x < R → (st : Search) → turns (stackTurn R s d home x (t .weight) (t .stack)) 0 R st ≡ push d (home + u x) st) → Single plan s t R (λ x. not (eqb x 8192)) u
+  each {u} fits h = single-as (λ x. not (eqb x 8192)) u (λ x low. sym (no-number x low)) (λ x. refl) (record { fits = fits; law = h })
+
+  pub drop-single : s .push ≡ true → s .weight ≡ t .weight → ((x : ℕ) → okay R s x (t .stack) ≡ true) → Single plan s t R (λ x. not (eqb x 8192)) (λ x. t .stack + x * 0)
+  drop-single e same any =
+      flat (each (λ x low. stack-fits plan s t c leaves b) (λ d home x low st. stack-forgotten R s d home x (t .weight) (t .stack) st e same (any x) (b .aimed .stack-low) low))
+
+  pub weight-small : t .weight ≤ 1048576
+  weight-small = omega (arith, b .aimed .weight-is, power-small (b .laid) (t .depth) (b .aimed .depth-low))
+
+  pub left-single : s .push ≡ false → OnlyKept s → s .level ≡ t .weight → leaves ≡ suc (t .depth) → Single plan s t R (λ x. not (eqb x 8192)) (λ x. t .stack + x * t .weight)
+  left-single e only same deep =
+      each fits (λ d home x low st. stack-left R s d home x (t .weight) (t .stack) st e only same (b .aimed .stack-low) low ∙ ap (λ z. push d z st) (omega arith))
     where
       fits : (x : ℕ) → x < R → t .stack + x * t .weight < plan .stacks
       fits x low =
           let in-one : x * t .weight + t .stack < R * t .weight = digits-lt low (b .aimed .stack-low) in
           let whole : R ^ suc (t .depth) ≡ R * t .weight = pow-suc R (t .depth) ∙ (mul-comm (R ^ t .depth) R ∙ ap (R *_) (sym (b .aimed .weight-is))) in
           omega (arith, in-one, whole, power-fits (b .laid) (suc (t .depth)) (omega (arith, deep, b .leaves-low)))
-  left-right n f same deep Way.ByStack o = absurd o

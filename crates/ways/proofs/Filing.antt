@@ -1,16 +1,26 @@
--- Lines have keys, and what is written of them is a word.
+-- Lines have keys, and what is written of them is a word (`keyed-kind`, `keyed-boat`); each of the sorted tables has room; and
+-- what making them one after the other leaves (`filed-all`, `filed-kept`).
+use mathlib.Core.Path.{_≡_, sym, _∙_, subst}
+use mathlib.Core.Bool.{true}
 use mathlib.Core.List.{List}
-use Prim.Native.Nat.{ℕ, _-_}
+use Prim.Native.Nat.{ℕ, _+_, _≤_}
 use native.Mathlib.Nat.{mod-lt}
 use native.Mathlib.Omega.{arith}
 use lib.Arith.{digits-lt}
-use Rattle.request.specs.Layout.{Laid}
+use lib.ListN.{length}
+use borrow.Author.Tests.{leb-true}
+use Rattle.request.specs.Layout.{Laid, filedEnd}
 use Rattle.request.specs.declared.Plan.{Plan}
 use Rattle.search.specs.Loaded.{wordAt}
-use Rattle.sorting.specs.Sorting.{keys, keyIn, packIn, Keyed}
+use Rattle.sorting.specs.Sorting.{keys, keyIn, packIn, sortedEnd, tableEnd, Sorted, Keyed, Kept}
+use Rattle.sorting.specs.Runs.{table-behind, kinds-end, boats-end}
 use Rattle.sorting.specs.declared.Order.{Order}
 use Rattle.sorting.specs.declared.Order.the-variants as Order
 use Rattle.states.specs.Spots.{front}
+use Rattle.sorting.proofs.Turns.{kept-then, kept-take, kept-wider}
+use Rattle.thinning.specs.Runs.{stamps-are, from-places, sorted-kept}
+use Rattle.thinning.specs.Thinning.{FromPlaces, Thinned}
+use Rattle.ways.specs.Filed.{Filed}
 use Rattle.ways.specs.Ways.{Told}
 
 module _ (plan : Plan) (w : List ℕ) {area : ℕ} (l : Laid plan area) (t : Told plan (front plan w)) where
@@ -21,3 +31,74 @@ module _ (plan : Plan) (w : List ℕ) {area : ℕ} (l : Laid plan area) (t : Tol
   pub keyed-boat : Keyed Order.Boat plan w
   unfolding keys keyIn packIn
   keyed-boat i h = (digits-lt (t .ends i h) (t .codes-low i h), omega (arith, t .starts i h, mod-lt (wordAt plan (front plan w) i) {m = 16} (omega arith), l .few-places))
+
+-- ---- where the tables stand
+
+-- the thin lines stand after the pair of stretches
+pub thin-behind : {plan : Plan} {area : ℕ} → Laid plan area → plan .base + plan .size + plan .size ≤ plan .thin
+thin-behind l = omega (arith, l .kinds-at, l .boats-at, l .thin-at)
+
+module _ {plan : Plan} {w : List ℕ} (l : Laid plan (length w)) (f : Filed plan w) where
+  pub kinds-fit : tableEnd Order.Kind plan ≤ length w
+  kinds-fit = omega (arith, kinds-end l, l .thin-at, l .stamps-at, f .room)
+
+  pub boats-fit : tableEnd Order.Boat plan ≤ length w
+  boats-fit = omega (arith, boats-end l, l .stamps-at, f .room)
+
+  pub thin-fit : sortedEnd Order.Kind plan (plan .thin) ≤ length w
+  thin-fit = omega (arith, stamps-are l, f .room)
+
+-- ---- the tables made one after the other: what each step asks for, and what stands there after the last
+
+module _ (plan : Plan) (w : List ℕ) (l : Laid plan (length w)) (told : Told plan (front plan w)) (yes : plan .filed ≡ true) where
+  whole-room : filedEnd plan ≤ length w
+  whole-room = leb-true (filedEnd plan) (length w) (sym (l .filed-is) ∙ yes)
+
+  -- by kind
+  pub kinds-asked : Laid plan (length w) × (Keyed Order.Kind plan w × (tableEnd Order.Kind plan ≤ length w))
+  kinds-asked = (l, (keyed-kind plan w l told, omega (arith, kinds-end l, l .thin-at, l .stamps-at, whole-room)))
+
+  module _ (u : List ℕ) (kinds : Sorted Order.Kind plan (plan .bykind) u) (one : Kept (plan .bykind) (tableEnd Order.Kind plan) w u) where
+    -- by boat
+    pub boats-asked : Laid plan (length u) × (Keyed Order.Boat plan u × (tableEnd Order.Boat plan ≤ length u))
+    boats-asked =
+        let laid = subst (Laid plan) (sym (one .long)) l in
+        let same = kept-take one (plan .base) (omega (arith, table-behind l Order.Kind)) in
+        (laid, (keyed-boat plan u laid (subst (Told plan) (sym same) told), omega (arith, boats-end l, l .stamps-at, whole-room, one .long)))
+
+    module _ (v : List ℕ) (boats : Sorted Order.Boat plan (plan .byboat) v) (two : Kept (plan .byboat) (tableEnd Order.Boat plan) u v) where
+      past : plan .base ≤ plan .byboat
+      past = omega (arith, table-behind l Order.Boat)
+
+      long : length v ≡ length w
+      long = two .long ∙ one .long
+
+      kinds-stay : Sorted Order.Kind plan (plan .bykind) v
+      kinds-stay =
+          sorted-kept Order.Kind plan (plan .bykind) (plan .byboat) (tableEnd Order.Boat plan) u v kinds two past (omega (arith, kinds-end l)) (omega (arith, l .thin-at, l .stamps-at, whole-room, one .long))
+
+      -- by kind, thin
+      pub thin-asked : Laid plan (length v) × (Sorted Order.Kind plan (plan .bykind) v × FromPlaces plan v × (filedEnd plan ≤ length v))
+      thin-asked =
+          let same = kept-take two (plan .base) past ∙ kept-take one (plan .base) (omega (arith, table-behind l Order.Kind)) in
+          let now-told = subst (Told plan) (sym same) told in
+          (subst (Laid plan) (sym long) l, (kinds-stay, from-places plan v (now-told .starts) (λ i h. omega (arith, now-told .codes-low i h, l .few-boats)), omega (arith, long, whole-room)))
+
+      module _ (x : List ℕ) (thin : Thinned plan (plan .bykind) (plan .thin) x) (three : Kept (plan .thin) (filedEnd plan) v x) where
+        pub filed-all : Filed plan x
+        filed-all =
+            let there : plan .thin ≤ length v = omega (arith, l .stamps-at, whole-room, long) in
+            let behind : plan .base ≤ plan .thin = omega (arith, thin-behind l) in
+            record {
+              room = omega (arith, whole-room, long, three .long);
+              kinds = sorted-kept Order.Kind plan (plan .bykind) (plan .thin) (filedEnd plan) v x kinds-stay three behind (omega (arith, kinds-end l, l .thin-at)) there;
+              boats = sorted-kept Order.Boat plan (plan .byboat) (plan .thin) (filedEnd plan) v x boats three behind (omega (arith, boats-end l)) there;
+              thin = thin;
+            }
+
+        pub filed-kept : Kept (plan .bykind) (filedEnd plan) w x
+        filed-kept =
+            let from = plan .bykind in
+            let to = filedEnd plan in
+            kept-then (kept-wider from to (omega arith) (omega (arith, kinds-end l, l .thin-at, l .stamps-at)) one)
+            (kept-then (kept-wider from to (omega (arith, l .boats-at)) (omega (arith, boats-end l, l .stamps-at)) two) (kept-wider from to (omega (arith, l .boats-at, l .thin-at)) (omega arith) three))

@@ -10,8 +10,6 @@ use native.Mathlib.Omega.{arith}
 use lib.Arith.{digits-lt, digits-div, digits-mod}
 use lib.Dec.{eqb}
 use borrow.Author.Tests.{eq-eqb, ne-eqb}
-use Rattle.meaning.specs.Language.{meets, same-boat, other-boat}
-use Rattle.meaning.specs.Pattern.{same, other}
 use Rattle.request.specs.Layout.{Laid, fromIn, toIn, kindIn}
 use Rattle.request.specs.declared.Plan.{Plan}
 use Rattle.search.specs.Front.{stateIn}
@@ -21,11 +19,11 @@ use Rattle.search.specs.Table.{Search, push}
 use Rattle.sorting.specs.Runs.{turns-within}
 use Rattle.sorting.specs.Sorting.{keys, keyIn, packIn}
 use Rattle.sorting.specs.declared.Order.the-variants as Order
-use Rattle.states.specs.Spots.{metBy, off, on, okay, stackAt, stackTurn, lineTurn}
+use Rattle.states.specs.Spots.{off, offBy, on, onBy, okay, OnlyKept, stackAt, stackTurn, lineTurn}
 use Rattle.states.specs.declared.Spot.{Spot}
 use Rattle.states.specs.declared.Target.{Target}
 use Rattle.states.proofs.Bounds.{state-low, block-small, power-fits}
-use Rattle.ways.specs.Ways.{laneState, takenBy, laneTurn, LaneTo, Narrow, runTurn, Told, Runs, Before}
+use Rattle.ways.specs.Ways.{laneState, takenBy, laneTurn, LaneTo, Narrow, runTurn, Told, Runs, Single, Before}
 use Rattle.ways.specs.Stacked.{stackedTurn}
 use Rattle.ways.specs.declared.Lane.{Lane}
 
@@ -64,32 +62,24 @@ module _ (x : ℕ) (f : ℕ → Search → Search) where
 pub turns-alike : (f g : ℕ → Search → Search) (i n m : ℕ) → i + n ≤ m → ((x : ℕ) → x < m → (b : Search) → f x b ≡ g x b) → (a : Search) → turns f i n a ≡ turns g i n a
 turns-alike f g i n m l h a = turns-within f g i n (λ x low high. h x (omega (arith, l, high))) a
 
--- ---- a test by its number
+-- ---- a stack undone, of a position that pushes or not
 
-module _ (R : ℕ) (s : Spot) (x v : ℕ) where
-  pub okay-any : s .test ≡ 1 → okay R s x v ≡ true
-  unfolding okay
-  okay-any e = rw (eq-eqb _ _ e)
+both : (b : Bool) → (b && true) ≡ b
+both true = refl
+both false = refl
 
-  pub okay-same : s .test ≡ 2 → okay R s x v ≡ eqb x (v / s .level % R)
-  unfolding okay metBy
-  okay-same e = rw e (go (eqb x (v / s .level % R)))
-    where
-      go : (b : Bool) → meets same (cond b same-boat other-boat) ≡ b
-      go true = refl
-      go false = refl
+module _ (R : ℕ) (s : Spot) (d home x v : ℕ) (st : Search) where
+  -- without a push the stack before is the one after
+  pub plain-at : s .push ≡ false → stackAt R s d home x v st ≡ cond (okay R s x v) (push d (home + v) st) st
+  unfolding stackAt on off
+  plain-at e = ap (λ b. cond (eqb (onBy b (s .weight) (offBy b (s .weight) v) x) v && okay R s x (offBy b (s .weight) v)) (push d (home + offBy b (s .weight) v) st) st) e ∙ rw (eq-eqb v v refl)
 
-  pub okay-none : (s .test ≡ 1 → ⊥) → (s .test ≡ 2 → ⊥) → (s .test ≡ 3 → ⊥) → okay R s x v ≡ false
-  unfolding okay metBy
-  okay-none a b c = rw (ne-eqb _ _ a, ne-eqb _ _ b, ne-eqb _ _ c)
-
-  pub okay-other : s .test ≡ 3 → okay R s x v ≡ not (eqb x (v / s .level % R))
-  unfolding okay metBy
-  okay-other e = rw e (go (eqb x (v / s .level % R)))
-    where
-      go : (b : Bool) → meets other (cond b same-boat other-boat) ≡ not b
-      go true = refl
-      go false = refl
+  -- with a push it is the one after without its top, where nothing is asked of the boat
+  pub pushed-at : s .push ≡ true → (u : ℕ) → v % s .weight ≡ u → okay R s x u ≡ true → stackAt R s d home x v st ≡ cond (eqb (x * s .weight + u) v) (push d (home + u) st) st
+  unfolding stackAt on off
+  pushed-at e u is any =
+      (λ i. cond (eqb (onBy (e i) (s .weight) (offBy (e i) (s .weight) v) x) v && okay R s x (offBy (e i) (s .weight) v)) (push d (home + offBy (e i) (s .weight) v) st) st)
+      ∙ rw (is, any) (ap (λ b. cond b (push d (home + u) st) st) (both (eqb (x * s .weight + u) v)))
 
 -- ---- the stacks of one line, with the boat number x
 
@@ -102,61 +92,44 @@ module _ (R : ℕ) (s : Spot) (d home x W w : ℕ) (st : Search) where
   first-is = ap (λ n. stackAt R s d home x n st) (ap (_+ w) (zero-mul W) ∙ zero-add w)
 
   -- the stack after the position is w: without a push it is the one before
-  pub stack-plain : (s .push ≡ 1 → ⊥) → turns turn 0 1 st ≡ cond (okay R s x w) (push d (home + w) st) st
-  stack-plain n = first-is ∙ unfold stackAt on off in rw (ne-eqb _ _ n, eq-eqb w w refl)
-
-  pushed-stands : s .push ≡ 1 → s .test ≡ 1 → stackAt R s d home x w st ≡ cond (eqb (x * s .weight + w % s .weight) w && true) (push d (home + w % s .weight) st) st
-  unfolding stackAt on off
-  pushed-stands e f = rw (eq-eqb _ _ e, okay-any R s x (w % s .weight) f)
+  pub stack-plain : s .push ≡ false → turns turn 0 1 st ≡ cond (okay R s x w) (push d (home + w) st) st
+  stack-plain e = first-is ∙ plain-at R s d home x w st e
 
   -- with a push its top is the line's boat
-  pub stack-pushed : s .push ≡ 1 → s .test ≡ 1 → 0 < s .weight → turns turn 0 1 st ≡ cond (eqb x (w / s .weight)) (push d (home + w % s .weight) st) st
-  stack-pushed e f some =
+  pub stack-pushed : s .push ≡ true → 0 < s .weight → okay R s x (w % s .weight) ≡ true → turns turn 0 1 st ≡ cond (eqb x (w / s .weight)) (push d (home + w % s .weight) st) st
+  stack-pushed e some any =
       let D = s .weight in
       let again : eqb (x * D + w % D) w ≡ (eqb x (w / D) && eqb (w % D) (w % D)) = ap (eqb (x * D + w % D)) (sym (div-add-mod' w D)) ∙ pair-eqb D x (w % D) (w / D) (w % D) (mod-lt w some) (mod-lt w some) in
-      let whole = again ∙ ap (eqb x (w / D) &&_) (eq-eqb (w % D) (w % D) refl) in
-      first-is ∙ (pushed-stands e f ∙ ap (λ b. cond b (push d (home + w % D) st) st) (ap (_&& true) whole ∙ both (eqb x (w / D))))
-    where
-      both : (b : Bool) → (b && true && true) ≡ b
-      both true = refl
-      both false = refl
-
-  forgotten-stands : (n : ℕ) (b : Search) → s .push ≡ 1 → s .test ≡ 1
-      → turn n b ≡ cond (eqb (x * s .weight + (n * W + w) % s .weight) (n * W + w) && true) (push d (home + (n * W + w) % s .weight) b) b
-  unfolding stackTurn stackAt on off
-  forgotten-stands n b e f = rw (eq-eqb _ _ e, okay-any R s x ((n * W + w) % s .weight) f)
+      let whole = again ∙ (ap (eqb x (w / D) &&_) (eq-eqb (w % D) (w % D) refl) ∙ both (eqb x (w / D))) in
+      first-is ∙ (pushed-at R s d home x w st e (w % D) refl any ∙ ap (λ b. cond b (push d (home + w % D) st) st) whole)
 
   -- where the boat on top is forgotten after a push: once, for the line's own
-  pub stack-forgotten : s .push ≡ 1 → s .test ≡ 1 → s .weight ≡ W → w < W → x < R → turns turn 0 R st ≡ push d (home + w) st
-  stack-forgotten e f equal low below =
-      turns-alike turn (at-x x (λ n. push d (home + w))) 0 R R (omega arith) (λ n less b. pushed-turn e f equal low n b) st ∙ turns-one x (λ n. push d (home + w)) 0 R st (omega arith) (omega arith)
+  pub stack-forgotten : s .push ≡ true → s .weight ≡ W → okay R s x w ≡ true → w < W → x < R → turns turn 0 R st ≡ push d (home + w) st
+  unfolding stackTurn
+  stack-forgotten e equal any low below =
+      turns-alike turn (at-x x (λ n. push d (home + w))) 0 R R (omega arith) (λ n less b. pushed-turn n b) st ∙ turns-one x (λ n. push d (home + w)) 0 R st (omega arith) (omega arith)
     where
-      keep : (b : Bool) → (b && true && true) ≡ b
-      keep true = refl
-      keep false = refl
-
-      pushed-turn : s .push ≡ 1 → s .test ≡ 1 → s .weight ≡ W → w < W → (n : ℕ) (b : Search) → turn n b ≡ at-x x (λ n. push d (home + w)) n b
-      pushed-turn e f equal low n b =
+      pushed-turn : (n : ℕ) (b : Search) → turn n b ≡ at-x x (λ n. push d (home + w)) n b
+      pushed-turn n b =
           let v = n * W + w in
           let top : v % s .weight ≡ w = ap (v %_) equal ∙ digits-mod n low in
           let again : eqb (x * s .weight + w) v ≡ (eqb x n && eqb w w) = ap (λ D. eqb (x * D + w) v) equal ∙ pair-eqb W x w n w low low in
-          let one = ap (λ u. cond (eqb (x * s .weight + u) v && true) (push d (home + u) b) b) top in
-          forgotten-stands n b e f ∙ (one ∙ ap (λ c. cond c (push d (home + w) b) b) (ap (_&& true) (again ∙ ap (eqb x n &&_) (eq-eqb w w refl)) ∙ keep (eqb x n)))
+          pushed-at R s d home x v b e w top any ∙ ap (λ c. cond c (push d (home + w) b) b) (again ∙ (ap (eqb x n &&_) (eq-eqb w w refl) ∙ both (eqb x n)))
 
-  pub tested-stands : (n : ℕ) (b : Search) → (s .push ≡ 1 → ⊥) → turn n b ≡ cond (okay R s x (n * W + w)) (push d (home + (n * W + w)) b) b
-  unfolding stackTurn stackAt on off
-  tested-stands n b ne = rw (ne-eqb _ _ ne, eq-eqb (n * W + w) (n * W + w) refl)
+  pub tested-stands : (n : ℕ) (b : Search) → s .push ≡ false → turn n b ≡ cond (okay R s x (n * W + w)) (push d (home + (n * W + w)) b) b
+  unfolding stackTurn
+  tested-stands n b e = plain-at R s d home x (n * W + w) b e
 
   -- where the boat on top is forgotten after it was the line's
-  pub stack-left : (s .push ≡ 1 → ⊥) → s .test ≡ 2 → s .level ≡ W → w < W → x < R → turns turn 0 R st ≡ push d (home + (x * W + w)) st
-  stack-left ne f equal low below =
+  pub stack-left : s .push ≡ false → OnlyKept s → s .level ≡ W → w < W → x < R → turns turn 0 R st ≡ push d (home + (x * W + w)) st
+  stack-left e only equal low below =
       turns-alike turn (at-x x (λ n. push d (home + (n * W + w)))) 0 R R (omega arith) tested-turn st ∙ turns-one x (λ n. push d (home + (n * W + w))) 0 R st (omega arith) (omega arith)
     where
       tested-turn : (n : ℕ) → n < R → (b : Search) → turn n b ≡ at-x x (λ n. push d (home + (n * W + w))) n b
       tested-turn n less b =
           let v = n * W + w in
           let there : v / s .level % R ≡ n = ap (λ z. v / z % R) equal ∙ (ap (_% R) (digits-div n low) ∙ mod-eq-of-lt less) in
-          tested-stands n b ne ∙ ap (λ z. cond z (push d (home + v) b) b) (okay-same R s x v f ∙ ap (eqb x) there)
+          tested-stands n b e ∙ ap (λ z. cond z (push d (home + v) b) b) (only .kept R x v ∙ ap (eqb x) there)
 
 -- ---- a line by its key and its written word
 
@@ -255,29 +228,26 @@ module _ (plan : Plan) (s : Spot) (t : Target) (c leaves : ℕ) (b : Before plan
 
   module _ (count k : ℕ) (lane : Lane) where
     pub kind-runs : (weight number : ℕ) → LaneTo plan c (t .stack) weight number false lane → k ≡ t .place * 16 + s .kind → weight ≤ 1048576
-        → ((x : ℕ) → x < plan .radix → t .stack + x * weight < plan .stacks)
-        → ((d home x : ℕ) → x < plan .radix → (st : Search) → turns (stackTurn (plan .radix) s d home x (t .weight) (t .stack)) 0 count st ≡ cond (not (eqb x number)) (push d (home + (t .stack + x * weight)) st) st)
-        → Runs Order.Kind plan s t c count k lane
+        → Single plan s t count (λ x. not (eqb x number)) (λ x. t .stack + x * weight) → Runs Order.Kind plan s t c count k lane
     unfolding keys packIn
-    kind-runs weight number is key low fits law =
+    kind-runs weight number is key low single =
         record {
           key-low = let q< = b .aimed .place-low in let k< : t .place * 16 + s .kind < plan .places * 16 = digits-lt q< (omega (arith, b .kind-low)) in omega (arith, key, k<);
           narrow = lane-narrow plan (b .area) (b .laid) c (t .stack) weight number false lane is (b .position-low) stack-fits low;
-          gives = λ g told i h. lane-low plan (b .area) (b .laid) c (t .stack) weight number false lane is (b .position-low) stack-fits g told i h (codeAt plan g i) (omega (arith, told .codes-low i h, b .laid .few-boats)) (fits (codeAt plan g i) (told .codes-low i h));
+          gives = λ g told i h. lane-low plan (b .area) (b .laid) c (t .stack) weight number false lane is (b .position-low) stack-fits g told i h (codeAt plan g i) (omega (arith, told .codes-low i h, b .laid .few-boats)) (single .fits (codeAt plan g i) (told .codes-low i h));
           same = λ g told d i h st.
               let few = b .laid .few-boats in
               let x = codeAt plan g i in
               let small = code-small plan g told few i h in
               let by-lane = lane-turn plan g told few i h c (t .stack) weight number false lane is x small d st in
-              let way = kind-way plan g told few i h s t d c count st (laneTurn d lane) (b .kind-low) (law d (stateIn plan (fromIn (wordAt plan g i)) c 0) x (told .codes-low i h) st ∙ sym (by-lane ∙ unfold takenBy in refl)) in
+              let way = kind-way plan g told few i h s t d c count st (laneTurn d lane) (b .kind-low) (single .law d (stateIn plan (fromIn (wordAt plan g i)) c 0) x (told .codes-low i h) st ∙ sym (by-lane ∙ unfold takenBy in refl)) in
               way ∙ ap (λ z. runTurn Order.Kind plan g z (laneTurn d lane) i st) (sym key);
         }
 
     pub boat-runs : (u x₀ : ℕ) → LaneTo plan c u 0 (s .kind) true lane → k ≡ t .place * plan .radix + x₀ → x₀ < plan .radix → u < plan .stacks
-        → ((d home x : ℕ) → x < plan .radix → (st : Search) → turns (stackTurn (plan .radix) s d home x (t .weight) (t .stack)) 0 count st ≡ cond (eqb x x₀) (push d (home + u) st) st)
-        → Runs Order.Boat plan s t c count k lane
+        → Single plan s t count (λ x. eqb x x₀) (λ x. u) → Runs Order.Boat plan s t c count k lane
     unfolding keys packIn
-    boat-runs u x₀ is key low fits law =
+    boat-runs u x₀ is key low fits single =
         record {
           key-low = let k< : t .place * plan .radix + x₀ < plan .places * plan .radix = digits-lt (b .aimed .place-low) low in omega (arith, key, k<);
           narrow = lane-narrow plan (b .area) (b .laid) c u 0 (s .kind) true lane is (b .position-low) fits (omega arith);
@@ -288,6 +258,6 @@ module _ (plan : Plan) (s : Spot) (t : Target) (c leaves : ℕ) (b : Before plan
               let home = stateIn plan (fromIn (wordAt plan g i)) c 0 in
               let sum : home + (u + y * 0) ≡ home + u = omega (arith, mul-zero y) in
               let by-lane = lane-turn plan g told few i h c u 0 (s .kind) true lane is y (kind-small plan g told few i h) d st ∙ ap (λ z. cond (takenBy true y (s .kind)) (push d z st) st) sum in
-              let way = boat-way plan g told few i h s t d c count st lane x₀ low (push d (home + u) st) (law d home (codeAt plan g i) (told .codes-low i h) st) (by-lane ∙ unfold takenBy in refl) in
+              let way = boat-way plan g told few i h s t d c count st lane x₀ low (push d (home + u) st) (single .law d home (codeAt plan g i) (told .codes-low i h) st) (by-lane ∙ unfold takenBy in refl) in
               way ∙ ap (λ z. runTurn Order.Boat plan g z (laneTurn d lane) i st) (sym key);
         }

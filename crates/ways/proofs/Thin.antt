@@ -1,8 +1,8 @@
--- The thin words of a run do what all of its words do, where each word pushes states by the place that it says and at most one number is left
--- out: a word that was left out would push states that have their words already (`thin-loop`). So it is in a lane without weight
--- (`lane-pushing`), and for the stacks of a position that neither pushes nor tests `same` (`stack-pushing`).
+-- The thin words of a run do what all of its words do, where each word pushes states by the place that it says and the numbers that pass are
+-- a set that is served: a word that was left out would push states that have their words already (`thin-loop`), since one that was kept
+-- stands for it (`stands-for`). So it is in a lane without weight (`lane-pushing`), and for the stacks of a position (`stack-pushing`).
 use mathlib.Core.Path.{_≡_, refl, sym, ap, _∙_, subst}
-use mathlib.Core.Bool.{Bool, true, false, cond, not, false≢true}
+use mathlib.Core.Bool.{Bool, true, false, cond}
 use mathlib.Core.List.{List, [], _∷_, _++_, List·Memᴰ·head, List·Memᴰ·cases-cons, List·Memᴰ·append-cases, Memᴰ·append-left, Memᴰ·append-right}
 use mathlib.Core.Logic.{⊎-elim}
 use Prim.Native.Nat.{ℕ, zero, suc, _+_, _*_, _-_, _/_, _%_, _<_, _≤_}
@@ -12,7 +12,7 @@ use native.Mathlib.Omega.{arith}
 use lib.Dec.{eqb}
 use lib.ListN.{length, getD, set, length-set}
 use lib.Seq.{getD-set-same, getD-set-other}
-use borrow.Author.Tests.{eqb-true, eqb-false, eq-eqb, ne-eqb}
+use borrow.Author.Tests.{eqb-true, eqb-false, ne-eqb}
 use Rattle.automaton.specs.Listed.{_∈_, none-in}
 use Rattle.request.specs.declared.Plan.{Plan}
 use Rattle.search.specs.Front.{stateIn}
@@ -22,19 +22,16 @@ use Rattle.sorting.specs.Runs.{turns-run, loop-stretch}
 use Rattle.sorting.specs.Sorting.{sortedEnd, Run}
 use Rattle.sorting.specs.declared.Order.the-variants as Order
 use Rattle.states.specs.Area.{stretch}
+use Rattle.states.specs.Served.{Served, Thinnable}
 use Rattle.states.specs.Spots.{front, okay}
 use Rattle.states.specs.declared.Spot.{Spot}
 use Rattle.states.specs.declared.Target.{Target}
 use Rattle.thinning.specs.Thinning.{Covered, Thin, empty, kept, left, ThinRun}
 use Rattle.ways.specs.Stacked.{stackedTurn}
-use Rattle.ways.specs.Ways.{laneState, takenBy, laneTurn, runTurn, Gives}
+use Rattle.ways.specs.Ways.{laneState, takenBy, laneTurn, ThinLane, runTurn, Gives}
 use Rattle.ways.specs.declared.Lane.{Lane}
 use Rattle.ways.proofs.Lanes.{run-in, run-turn, stretch-word}
-use Rattle.ways.proofs.Right.{okay-any, okay-other, okay-none, tested-stands}
-
--- numbers that are not equal
-not-equal : (a b : ℕ) → not (eqb a b) ≡ true → a ≡ b → ⊥
-not-equal a b h e = false≢true (ap not (sym (eq-eqb a b e)) ∙ h)
+use Rattle.ways.proofs.Right.{tested-stands}
 
 -- ---- a state that has a word keeps one
 
@@ -167,89 +164,78 @@ module _ {f : ℕ → Search → Search} {Does : ℕ → ℕ → Type 0} (p : Pu
       ∙ (ap (f x) (thin-loop us ys h st (λ z m. low z (subst (z ∈_) (sym e) (Memᴰ·append-left (x ∷ []) m))))
       ∙ covered-nothing ys x st covered (low x (subst (x ∈_) (sym e) (Memᴰ·append-right us (List·Memᴰ·head refl))))))
 
--- ---- words that push, each, some of so many states
+-- ---- words that push states by the place that they say, where their number passes: `many` of them, each with the numbers that pass for it
 
-module _ (many : ℕ) (takes : ℕ → ℕ → Bool) (gives : ℕ → ℕ → ℕ) where
+module _ (many : ℕ) (passes : ℕ → ℕ → Bool) (gives : ℕ → ℕ → ℕ) where
   abbrev pub Gets : ℕ → ℕ → Type 0
-  Gets e s = (n : ℕ) × (n < many) × (takes e n ≡ true) × (s ≡ gives e n)
+  Gets e s = (n : ℕ) × (n < many) × (passes n (e % 8192) ≡ true) × (s ≡ gives n (e / 8192))
 
-  pub pushing : (d : ℕ) → 0 < d → (f : ℕ → Search → Search) → ((e : ℕ) (st : Search) → f e st ≡ turns (λ n b. cond (takes e n) (push d (gives e n) b) b) 0 many st)
-      → ((ys : List ℕ) (x s : ℕ) → Covered ys x → Gets x s → (y : ℕ) × (y ∈ ys) × Gets y s) → Pushing f Gets
-  pushing d some f is cover =
+  -- one of the words that cover another pushes what it pushes, where the numbers that pass are a set that is served
+  stands-for : ((n : ℕ) → Served (passes n)) → (ys : List ℕ) (x s : ℕ) → Covered ys x → Gets x s → (y : ℕ) × (y ∈ ys) × Gets y s
+  stands-for served ys x s covered (n, less, goes, there) =
+      let (y, m, stands) = covered (passes n) (served n) goes in
+      (y, m, (n, less, stands .passes, there ∙ ap (gives n) (sym (stands .from))))
+
+  abbrev pushes : ℕ → ℕ → ℕ → Search → Search
+  pushes d e n b = cond (passes n (e % 8192)) (push d (gives n (e / 8192)) b) b
+
+  pub pushing : ((n : ℕ) → Served (passes n)) → (d : ℕ) → 0 < d → (f : ℕ → Search → Search) → ((e : ℕ) (st : Search) → f e st ≡ turns (pushes d e) 0 many st) → Pushing f Gets
+  pushing served d some f is =
       record {
-        long = λ e st. ap (λ u. length (u .dist)) (is e st) ∙ all-long d some (takes e) (gives e) 0 many st;
-        keeps = λ e s st h. subst (λ u. 0 < wordOf s u) (sym (is e st)) (all-keeps d some (takes e) (gives e) 0 many s st h);
+        long = λ e st. ap (λ u. length (u .dist)) (is e st) ∙ all-long d some (takes e) (state e) 0 many st;
+        keeps = λ e s st h. subst (λ u. 0 < wordOf s u) (sym (is e st)) (all-keeps d some (takes e) (state e) 0 many s st h);
         has = λ e s st gets low.
             let (n, less, goes, there) = gets in
-            let word = all-has d some (takes e) (gives e) 0 many n st (omega arith) (omega (arith, less)) goes (subst (_< length (st .dist)) there low) in
-            subst (λ u. 0 < wordOf s u) (sym (is e st)) (subst (λ z. 0 < wordOf z (turns (λ n b. cond (takes e n) (push d (gives e n) b) b) 0 many st)) (sym there) word);
+            let word = all-has d some (takes e) (state e) 0 many n st (omega arith) (omega (arith, less)) goes (subst (_< length (st .dist)) there low) in
+            subst (λ u. 0 < wordOf s u) (sym (is e st)) (subst (λ z. 0 < wordOf z (turns (pushes d e) 0 many st)) (sym there) word);
         idle = λ e st h.
-            is e st ∙ turns-idle (λ n b. cond (takes e n) (push d (gives e n) b) b) 0 many st (λ n from less. if-nothing d some (takes e) (gives e) n st (λ goes. h (gives e n) (n, omega (arith, less), goes, refl)));
-        cover = cover;
+            is e st ∙ turns-idle (pushes d e) 0 many st (λ n from less. if-nothing d some (takes e) (state e) n st (λ goes. h (state e n) (n, omega (arith, less), goes, refl)));
+        cover = stands-for served;
       }
+    where
+      takes : ℕ → ℕ → Bool
+      takes e n = passes n (e % 8192)
+
+      state : ℕ → ℕ → ℕ
+      state e n = gives n (e / 8192)
 
 -- ---- the words of a lane without weight: one state each
 
-module _ (lane : Lane) where
+module _ (lane : Lane) (thin : ThinLane lane) where
+  -- only the place matters
+  pub flat-state : (e : ℕ) → laneState lane e ≡ e / 8192 * lane .block + lane .home
+  unfolding laneState
+  flat-state e = let none : e % 8192 * lane .weight ≡ 0 = ap (e % 8192 *_) (thin .flat) ∙ mul-zero (e % 8192) in omega (arith, none)
+
   abbrev pub LaneGets : ℕ → ℕ → Type 0
-  LaneGets = Gets 1 (λ e n. takenBy (lane .only) (e % 8192) (lane .number)) (λ e n. laneState lane e)
+  LaneGets = Gets 1 (λ n y. takenBy (lane .only) y (lane .number)) (λ n q. q * lane .block + lane .home)
 
-  module _ (flat : lane .weight ≡ 0) (other : lane .only ≡ false) where
-    -- without weight only the place matters
-    same-state : (x y : ℕ) → y / 8192 ≡ x / 8192 → laneState lane y ≡ laneState lane x
-    unfolding laneState
-    same-state x y e = λ t. e t * lane .block + (lane .home + (none y ∙ sym (none x)) t)
-      where
-        none : (z : ℕ) → z % 8192 * lane .weight ≡ 0
-        none z = ap (z % 8192 *_) flat ∙ mul-zero (z % 8192)
+  pub lane-pushing : (d : ℕ) → 0 < d → Pushing (laneTurn d lane) LaneGets
+  lane-pushing d some =
+      pushing 1 (λ n y. takenBy (lane .only) y (lane .number)) (λ n q. q * lane .block + lane .home) (λ n. thin .served) d some (laneTurn d lane)
+      (λ e st. unfold laneTurn turns in ap (λ z. cond (takenBy (lane .only) (e % 8192) (lane .number)) (push d z st) st) (flat-state e))
 
-    taken-is : (y : ℕ) → takenBy (lane .only) (y % 8192) (lane .number) ≡ not (eqb (y % 8192) (lane .number))
-    unfolding takenBy
-    taken-is y = rw other
+-- ---- the words of a position that does not push: for each stack one state
 
-    lane-cover : (ys : List ℕ) (x s : ℕ) → Covered ys x → LaneGets x s → (y : ℕ) × (y ∈ ys) × LaneGets y s
-    lane-cover ys x s covered (n, less, goes, there) =
-        let (y, m, from, differs) = covered (lane .number) (not-equal _ _ (sym (taken-is x) ∙ goes)) in
-        (y, m, (n, less, taken-is y ∙ ap not (ne-eqb _ _ differs), there ∙ sym (same-state x y from)))
-
-    pub lane-pushing : (d : ℕ) → 0 < d → Pushing (laneTurn d lane) LaneGets
-    lane-pushing d some = pushing 1 (λ e n. takenBy (lane .only) (e % 8192) (lane .number)) (λ e n. laneState lane e) d some (laneTurn d lane) (λ e st. unfold laneTurn turns in refl) lane-cover
-
--- ---- the words of a position that neither pushes nor tests `same`: for each stack one state
-
-module _ (plan : Plan) (s : Spot) (t : Target) (c count : ℕ) where
+module _ (plan : Plan) (s : Spot) (t : Target) (c count : ℕ) (thin : Thinnable s) where
   abbrev stackOf : ℕ → ℕ
   stackOf n = n * t .weight + t .stack
 
+  abbrev passesAt : ℕ → ℕ → Bool
+  passesAt n y = okay (plan .radix) s y (stackOf n)
+
+  abbrev stateAt : ℕ → ℕ → ℕ
+  stateAt n q = stateIn plan q c 0 + stackOf n
+
   abbrev pub StackGets : ℕ → ℕ → Type 0
-  StackGets = Gets count (λ e n. okay (plan .radix) s (e % 8192) (stackOf n)) (λ e n. stateIn plan (e / 8192) c 0 + stackOf n)
+  StackGets = Gets count passesAt stateAt
 
-  module _ (plain : s .push ≡ 1 → ⊥) (free : s .test ≡ 2 → ⊥) where
-    -- whichever boat is compared, a word that is not left out covers
-    stack-cover : (ys : List ℕ) (x u : ℕ) → Covered ys x → StackGets x u → (y : ℕ) × (y ∈ ys) × StackGets y u
-    stack-cover ys x u covered (n, less, goes, there) = elim (ℕ-discrete (s .test) 1) [
-      | yes any ↦
-          (let (y, m, from, differs) = covered (suc (x % 8192)) (λ e. omega (arith, e)) in
-          (y, m, (n, less, okay-any (plan .radix) s (y % 8192) (stackOf n) any, moved y from)))
-      | no tests ↦ elim (ℕ-discrete (s .test) 3) [
-        | yes other ↦
-            (let (y, m, from, differs) = covered (stackOf n / s .level % plan .radix) (not-equal _ _ (sym (okay-other (plan .radix) s (x % 8192) (stackOf n) other) ∙ goes)) in
-            (y, m, (n, less, okay-other (plan .radix) s (y % 8192) (stackOf n) other ∙ ap not (ne-eqb _ _ differs), moved y from)))
-        | no nothing ↦ absurd (false≢true (sym (okay-none (plan .radix) s (x % 8192) (stackOf n) tests free nothing) ∙ goes))
-      ]
-    ]
-      where
-        moved : (y : ℕ) → y / 8192 ≡ x / 8192 → u ≡ stateIn plan (y / 8192) c 0 + stackOf n
-        moved y from = there ∙ ap (λ q. stateIn plan q c 0 + stackOf n) (sym from)
+  stack-is : (d e : ℕ) (st : Search) → stackedTurn plan s t d c count e st ≡ turns (pushes count passesAt stateAt d e) 0 count st
+  unfolding stackedTurn
+  stack-is d e st = turns-same _ _ (λ n b. tested-stands (plan .radix) s d (stateIn plan (e / 8192) c 0) (e % 8192) (t .weight) (t .stack) st n b (thin .plain)) 0 count st
 
-    stack-is : (d e : ℕ) (st : Search)
-        → stackedTurn plan s t d c count e st ≡ turns (λ n b. cond (okay (plan .radix) s (e % 8192) (stackOf n)) (push d (stateIn plan (e / 8192) c 0 + stackOf n) b) b) 0 count st
-    unfolding stackedTurn
-    stack-is d e st = turns-same _ _ (λ n b. tested-stands (plan .radix) s d (stateIn plan (e / 8192) c 0) (e % 8192) (t .weight) (t .stack) st n b plain) 0 count st
-
-    pub stack-pushing : (d : ℕ) → 0 < d → Pushing (stackedTurn plan s t d c count) StackGets
-    stack-pushing d some =
-        pushing count (λ e n. okay (plan .radix) s (e % 8192) (stackOf n)) (λ e n. stateIn plan (e / 8192) c 0 + stackOf n) d some (stackedTurn plan s t d c count) (stack-is d) stack-cover
+  pub stack-pushing : (d : ℕ) → 0 < d → Pushing (stackedTurn plan s t d c count) StackGets
+  stack-pushing d some = pushing count passesAt stateAt (λ n. thin .served (plan .radix) (stackOf n)) d some (stackedTurn plan s t d c count) (stack-is d)
 
 -- ---- a thin run in the area
 

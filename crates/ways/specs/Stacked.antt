@@ -11,16 +11,20 @@ use Rattle.states.specs.Spots.{front, stackTurn, lineTurn, Stacks}
 use Rattle.states.specs.declared.Spot.{Spot}
 use Rattle.states.specs.declared.Target.{Target}
 
+-- the words from lo up to hi stand after the pair of stretches, and say places
+pub record Words (plan : Plan) (w : List ℕ) (lo hi : ℕ) : Type 0 where
+  pub behind : plan .base + plan .size + plan .size ≤ lo
+  pub rising : lo ≤ hi
+  pub inside : hi ≤ length w
+  pub starts : (p : ℕ) → lo ≤ p → p < hi → getD w p 0 / 8192 < plan .places
+
 module _ (plan : Plan) (s : Spot) (t : Target) where
   -- the word e, the place that a line comes from times 8192 and its boat's number: gone back over to the position c, for `count` stacks
   unfoldable pub stackedTurn : ℕ → ℕ → ℕ → ℕ → Search → Search
   stackedTurn d c count e = turns (stackTurn (plan .radix) s d (stateIn plan (e / 8192) c 0) (e % 8192) (t .weight) (t .stack)) 0 count
 
-  -- the words from lo up to hi stand after the pair of stretches, say places, and do what all lines do, for all positions and stacks
+  -- the words from lo up to hi do what all lines do, for all positions and stacks
   pub record Enough (w : List ℕ) (lo hi : ℕ) : Type 0 where
-    pub behind : plan .base + plan .size + plan .size ≤ lo
-    pub rising : lo ≤ hi
-    pub inside : hi ≤ length w
-    pub starts : (p : ℕ) → lo ≤ p → p < hi → getD w p 0 / 8192 < plan .places
+    pub words : Words plan w lo hi
     pub same : (d c count : ℕ) → 0 < d → c ≤ plan .done → Stacks count (t .weight) (t .stack) (plan .stacks) → (st : Search) → length (st .dist) ≡ plan .size
         → turns (lineTurn plan (front plan w) s t d c count) 0 (plan .lines) st ≡ turns (λ p. stackedTurn d c count (getD w p 0)) lo (hi - lo) st

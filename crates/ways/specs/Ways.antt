@@ -2,7 +2,7 @@
 -- the word written of it, which gives one state before. A lane says which of the run's words are taken and what state each gives.
 -- `proofs/Right` shows that the way chosen does what going over all lines and all stacks does.
 use mathlib.Core.Path.{_≡_}
-use mathlib.Core.Bool.{Bool, false, cond, not}
+use mathlib.Core.Bool.{Bool, cond, not}
 use mathlib.Core.List.{List}
 use Prim.Native.Nat.{ℕ, _+_, _*_, _-_, _/_, _%_, _≤_, _<_}
 use lib.Dec.{eqb}
@@ -10,11 +10,13 @@ use lib.ListN.{getD}
 use Rattle.request.specs.Layout.{Laid, fromIn, toIn}
 use Rattle.request.specs.declared.Plan.{Plan}
 use Rattle.search.specs.Loaded.{codeAt, wordAt}
+use Rattle.search.specs.Loops.{turns}
 use Rattle.search.specs.Table.{Search, push}
 use Rattle.sorting.specs.Sorting.{keys, keyIn, packIn}
 use Rattle.sorting.specs.declared.Order.{Order}
 use Rattle.sorting.specs.declared.Order.the-variants as Order
-use Rattle.states.specs.Spots.{lineTurn, Aimed, Sane}
+use Rattle.states.specs.Served.{Served}
+use Rattle.states.specs.Spots.{stackTurn, lineTurn, Aimed, Sane}
 use Rattle.states.specs.declared.Spot.{Spot}
 use Rattle.states.specs.declared.Target.{Target}
 use Rattle.ways.specs.declared.Lane.{Lane}
@@ -47,6 +49,11 @@ pub record Narrow (lane : Lane) : Type 0 where
   pub block-low : lane .block ≤ 1048576
   pub home-low : lane .home ≤ 1048576
   pub weight-low : lane .weight ≤ 1048576
+
+-- the thin words do for it: only the place that a word says and whether its number is taken matter, and the numbers taken are a set that is served
+pub record ThinLane (lane : Lane) : Type 0 where
+  pub flat : lane .weight ≡ 0
+  pub served : Served (λ y. takenBy (lane .only) y (lane .number))
 
 -- each of the words from lo up to hi gives one of so many states
 abbrev pub Within : Lane → ℕ → ℕ → ℕ → List ℕ → Type 0
@@ -83,11 +90,10 @@ Right plan s t c count (Way.ByBoat k lane) = Runs Order.Boat plan s t c count k 
 Right plan s t c count (Way.ByKind k lane) = Runs Order.Kind plan s t c count k lane
 Right plan s t c count Way.ByStack = Unit {0}
 
--- a way over all lines of the position's kind, with their boats' numbers at a weight in the stack
-abbrev pub Open : Plan → Spot → Target → ℕ → ℕ → Way → Type 0
-Open plan s t c weight (Way.ByBoat k lane) = ⊥
-Open plan s t c weight (Way.ByKind k lane) = (k ≡ t .place * 16 + s .kind) × LaneTo plan c (t .stack) weight 8192 false lane
-Open plan s t c weight Way.ByStack = ⊥
+-- what `count` stacks of a line do, whatever line: if p has its boat's number x, the state with the stack u x is pushed, else nothing is done
+pub record Single (plan : Plan) (s : Spot) (t : Target) (count : ℕ) (p : ℕ → Bool) (u : ℕ → ℕ) : Type 0 where
+  pub fits : (x : ℕ) → x < plan .radix → u x < plan .stacks
+  pub law : (d home x : ℕ) → x < plan .radix → (st : Search) → turns (stackTurn (plan .radix) s d home x (t .weight) (t .stack)) 0 count st ≡ cond (p x) (push d (home + u x) st) st
 
 -- what a way is chosen from: a state and a position before it, by their numbers
 pub record Before (plan : Plan) (s : Spot) (t : Target) (c leaves : ℕ) : Type 0 where

@@ -1,22 +1,24 @@
 // The ways back over lines: which of the sorted lines lead to a state by a position, what state each gives, and the loop over them.
 ghost use mathlib.Core.Path.{_≡_};
-ghost use Prim.Native.Nat.{suc, _+_, _*_, _-_, _^_, _/_, _%_, _≤_, _<_};
+ghost use Prim.Native.Nat.{ℕ, suc, _+_, _*_, _-_, _^_, _/_, _%_, _≤_, _<_};
 ghost use lib.ListN.{length, getD};
-ghost use Rattle.request.specs.Layout.{Laid};
+ghost use Rattle.request.specs.Layout.{Laid, filedEnd};
 ghost use Rattle.search.specs.Loops.{turns};
 ghost use Rattle.states.specs.Area.{Ready, Step};
-ghost use Rattle.ways.specs.Ways.{laneState, takenBy, laneTurn, LaneTo, Narrow, Within, runTurn, Told, Gives, Right, Open, Before};
-ghost use mathlib.Core.Bool.{true, false};
-ghost use Rattle.sorting.specs.Sorting.{keys, sortedEnd, Sorted, Kept};
+ghost use Rattle.ways.specs.Ways.{laneState, takenBy, laneTurn, LaneTo, Narrow, ThinLane, Within, runTurn, Told, Gives, Single, Right, Before};
+ghost use mathlib.Core.Bool.{true, not};
+ghost use lib.Dec.{eqb};
+ghost use Rattle.sorting.specs.Sorting.{keys, tableAt, tableEnd, Sorted, Kept};
 ghost use Rattle.ways.specs.Stacked.{Enough};
-ghost use Rattle.ways.specs.Filed.{kindsAt, boatsAt, thinAt, filedEnd, Filed};
-ghost use Rattle.thinning.specs.Thinning.{Thinned};
+ghost use Rattle.ways.specs.Filed.{Filed};
 ghost use Rattle.sorting.specs.declared.Order.the-variants as Orders;
 ghost use Rattle.states.specs.Spots.{front};
 use request::Plan;
 use sorting::Bounds;
 use sorting::Order;
+use sorting::PACK;
 use states::Spot;
+use states::Takes;
 use states::Target;
 
 // What the words written of lines give: `from` times `block`, `home`, and the word's number times `weight` is the state before. Only words
@@ -30,7 +32,7 @@ pub struct Lane {
 }
 
 // A number that no word has.
-const NONE: usize = 8192;
+const NONE: usize = PACK as usize;
 
 // ---- the loop
 
@@ -46,11 +48,13 @@ fn taken(lane: Lane, y: usize) -> bool
 }
 
 // The state before, by a word written of a line.
-fn lane_state(lane: Lane, e: usize) -> usize
-    requires { ⌜ Narrow lane × (e < 4294967296) ⌝ }
+fn lane_state(lane: Lane, e: u32) -> usize
+    requires { ⌜ Narrow lane ⌝ }
     ensures { λ r. ⌜ r ≡ laneState lane e ⌝ }
 {
-    e / 8192 * lane.block + (lane.home + e % 8192 * lane.weight)
+    let place = (e / PACK) as usize;
+    let number = (e % PACK) as usize;
+    place * lane.block + (lane.home + number * lane.weight)
 }
 
 // Word `p`: the state that it gives is pushed, if it is taken.
@@ -68,8 +72,8 @@ fn one_word(
     requires { ⌜ (0 < d) × (d ≤ suc tail) × (p < length (now work)) × (laneState lane (getD (now work) p 0) < size) ⌝ }
     ensures { λ r. ⌜ Step base size (laneTurn d lane (getD (now (work .entry)) p 0)) tail (now (work .entry)) r (now (work .exit)) ⌝ }
 {
-    let e = states::word(work, p) as usize;
-    if taken(lane, e % 8192) {
+    let e = states::word(work, p);
+    if taken(lane, (e % PACK) as usize) {
         return states::push_if_new(work, base, size, d, lane_state(lane, e), tail);
     }
     tail
@@ -122,46 +126,38 @@ fn lane_at(plan: Plan, c: usize, u: usize, weight: usize, number: usize, only: b
     }
 }
 
+// The lines of the boat number `boat`: the stack before is `u`.
+fn boat_way(plan: Plan, spot: Spot, target: Target, c: usize, u: usize, boat: usize) -> Way
+    requires { ⌜ Before plan spot target c (target .depth) × (u < plan .stacks) × (boat < plan .radix) ⌝ }
+    ensures { λ r. ⌜ ((count : ℕ) → Single plan spot target count (λ x. eqb x boat) (λ x. u) → Right plan spot target c count r) ⌝ }
+{
+    let lane = lane_at(plan, c, u, 0, spot.kind, true);
+    Way::ByBoat(target.place * plan.radix + boat, lane)
+}
+
+// All lines of the position's kind but those of the boat number `boat`: the stack before is the state's, with the line's number at `weight`.
+fn kind_way(plan: Plan, spot: Spot, target: Target, c: usize, weight: usize, boat: usize) -> Way
+    requires { ⌜ Before plan spot target c (target .depth) × (weight ≤ 1048576) ⌝ }
+    ensures { λ r. ⌜ ((count : ℕ) → Single plan spot target count (λ x. not (eqb x boat)) (λ x. target .stack + x * weight) → Right plan spot target c count r) ⌝ }
+{
+    let lane = lane_at(plan, c, target.stack, weight, boat, false);
+    Way::ByKind(target.place * 16 + spot.kind, lane)
+}
+
 // Of a position that pushes, where the stack after it is the state's: the boat on top is the line's.
 fn pushing_way(plan: Plan, spot: Spot, target: Target, c: usize) -> Way
-    requires { ⌜ Before plan spot target c (target .depth) × (spot .push ≡ 1) ⌝ }
+    requires { ⌜ Before plan spot target c (target .depth) × (spot .push ≡ true) ⌝ }
     ensures { λ r. ⌜ Right plan spot target c 1 r ⌝ }
 {
-    if spot.test != 1 {
-        return Way::ByStack;
-    }
     let x = target.stack / spot.weight;
     if plan.radix <= x {
         return Way::ByStack;
     }
-    let lane = lane_at(plan, c, target.stack % spot.weight, 0, spot.kind, true);
-    Way::ByBoat(target.place * plan.radix + x, lane)
-}
-
-// Of a position that tests a boat that the state's stack has: the lines of that boat, or of all others.
-fn testing_way(plan: Plan, spot: Spot, target: Target, c: usize) -> Way
-    requires { ⌜ Before plan spot target c (target .depth) × (spot .push ≡ 1 → ⊥) ⌝ }
-    ensures { λ r. ⌜ Right plan spot target c 1 r ⌝ }
-{
-    let x = states::entry_at(target.stack, spot.level, plan.radix);
-    if spot.test == 2 {
-        let lane = lane_at(plan, c, target.stack, 0, spot.kind, true);
-        return Way::ByBoat(target.place * plan.radix + x, lane);
-    }
-    if spot.test == 3 {
-        let lane = lane_at(plan, c, target.stack, 0, x, false);
-        return Way::ByKind(target.place * 16 + spot.kind, lane);
+    let u = target.stack % spot.weight;
+    if let Takes::Any = states::taken_by(plan.radix, spot, u) {
+        return boat_way(plan, spot, target, c, u, x);
     }
     Way::ByStack
-}
-
-// All lines of the position's kind, with their numbers at `weight` in the stack.
-fn open_way(plan: Plan, spot: Spot, target: Target, c: usize, weight: usize) -> Way
-    requires { ⌜ Before plan spot target c (target .depth) ⌝ }
-    ensures { λ r. ⌜ Open plan spot target c weight r ⌝ }
-{
-    let lane = lane_at(plan, c, target.stack, weight, NONE, false);
-    Way::ByKind(target.place * 16 + spot.kind, lane)
 }
 
 // The stack after the position is the state's.
@@ -169,31 +165,43 @@ fn exact_way(plan: Plan, spot: Spot, target: Target, c: usize) -> Way
     requires { ⌜ Before plan spot target c (target .depth) ⌝ }
     ensures { λ r. ⌜ Right plan spot target c 1 r ⌝ }
 {
-    if spot.push == 1 {
+    if spot.push {
         return pushing_way(plan, spot, target, c);
     }
-    if spot.test == 1 {
-        return open_way(plan, spot, target, c, 0);
+    match states::taken_by(plan.radix, spot, target.stack) {
+        Takes::Any => kind_way(plan, spot, target, c, 0, NONE),
+        Takes::Only(x) => boat_way(plan, spot, target, c, target.stack, x),
+        Takes::AllBut(x) => kind_way(plan, spot, target, c, 0, x),
+        Takes::Nobody => Way::ByStack,
+        Takes::Ask => Way::ByStack,
     }
-    testing_way(plan, spot, target, c)
 }
 
-// The stack after the position has one boat more than the state's: any, or, where the position has just compared it, the line's.
+// Of a position that pushes, where the boat on top is forgotten after it.
+fn dropping_way(plan: Plan, spot: Spot, target: Target, c: usize) -> Way
+    requires { ⌜ Before plan spot target c (suc (target .depth)) × (spot .push ≡ true) ⌝ }
+    ensures { λ r. ⌜ Right plan spot target c (plan .radix) r ⌝ }
+{
+    if spot.weight != target.weight {
+        return Way::ByStack;
+    }
+    if let Takes::Any = states::taken_by(plan.radix, spot, target.stack) {
+        return kind_way(plan, spot, target, c, 0, NONE);
+    }
+    Way::ByStack
+}
+
+// The stack after the position has one boat more than the state's: any, or, where the position wants just that boat, the line's.
 fn forgetting_way(plan: Plan, spot: Spot, target: Target, c: usize) -> Way
     requires { ⌜ Before plan spot target c (suc (target .depth)) ⌝ }
     ensures { λ r. ⌜ Right plan spot target c (plan .radix) r ⌝ }
 {
-    if spot.push == 1 {
-        if spot.test == 1 {
-            if spot.weight == target.weight {
-                return open_way(plan, spot, target, c, 0);
-            }
-        }
-        return Way::ByStack;
+    if spot.push {
+        return dropping_way(plan, spot, target, c);
     }
-    if spot.test == 2 {
-        if spot.level == target.weight {
-            return open_way(plan, spot, target, c, target.weight);
+    if spot.level == target.weight {
+        if states::wants_kept(spot) {
+            return kind_way(plan, spot, target, c, target.weight, NONE);
         }
     }
     Way::ByStack
@@ -215,85 +223,51 @@ pub fn way_of(plan: Plan, spot: Spot, target: Target, leaves: usize, c: usize) -
 
 // ---- a run
 
-// The lines of the key `k`, of a table that stands after the pair of stretches.
+// The lines of the key `k`, of a sorted table.
 pub fn over_run(
     work: &mut [u32],
     plan: Plan,
     order: Order,
-    at: usize,
     k: usize,
     lane: Lane,
     d: u32,
     tail: usize,
 ) -> usize
     requires { ⌜ Ready (plan .base) (plan .size) tail (now work) ⌝ }
-    requires { ⌜ Sorted order plan at (now work) × (sortedEnd order plan at ≤ length (now work)) × (k < keys order plan) ⌝ }
-    requires { ⌜ Narrow lane × Gives order plan (front plan (now work)) k lane ⌝ }
-    requires { ⌜ (0 < d) × (d ≤ suc tail) × (plan .base + plan .size + plan .size ≤ at) ⌝ }
+    requires { ⌜ Laid plan (length (now work)) × (k < keys order plan) ⌝ }
+    requires { ⌜ Sorted order plan (tableAt order plan) (now work) × (tableEnd order plan ≤ length (now work)) ⌝ }
+    requires { ⌜ Narrow lane × Gives order plan (front plan (now work)) k lane × (0 < d) × (d ≤ suc tail) ⌝ }
     ensures { λ r. ⌜ Step (plan .base) (plan .size) (turns (runTurn order plan (front plan (now (work .entry))) k (laneTurn d lane)) 0 (plan .lines)) tail (now (work .entry)) r (now (work .exit)) ⌝ }
 {
-    let run = sorting::run_of(work, plan, order, at, k);
+    let run = sorting::run_of(work, plan, order, k);
     over_words(work, plan.base, plan.size, lane, d, run.lo, run.hi, tail)
 }
 
-// The lines of the kind that the key `k` says, by the thin table at `at` of the sorted one at `of`: for a lane in which a line's number has no weight.
-pub fn over_thin(
-    work: &mut [u32],
-    plan: Plan,
-    of: usize,
-    at: usize,
-    k: usize,
-    lane: Lane,
-    d: u32,
-    tail: usize,
-) -> usize
+// Are the thin lines enough for the lane? Their numbers must have no weight, and those that it takes be a set that is served.
+pub fn thin_lane(lane: Lane) -> bool
+    ensures { λ r. ⌜ (r ≡ true → ThinLane lane) ⌝ }
+{
+    if lane.only {
+        return false;
+    }
+    lane.weight == 0
+}
+
+// The lines of the kind that the key `k` says, by the thin ones: for a lane for which they are enough.
+pub fn over_thin(work: &mut [u32], plan: Plan, k: usize, lane: Lane, d: u32, tail: usize) -> usize
     requires { ⌜ Ready (plan .base) (plan .size) tail (now work) ⌝ }
-    requires { ⌜ Sorted Orders.Kind plan of (now work) × (sortedEnd Orders.Kind plan of ≤ length (now work)) × (k < keys Orders.Kind plan) ⌝ }
-    requires { ⌜ Thinned plan of at (now work) × (sortedEnd Orders.Kind plan at ≤ length (now work)) ⌝ }
-    requires { ⌜ Narrow lane × Gives Orders.Kind plan (front plan (now work)) k lane × (lane .weight ≡ 0) × (lane .only ≡ false) ⌝ }
-    requires { ⌜ (0 < d) × (d ≤ suc tail) × (plan .base + plan .size + plan .size ≤ at) ⌝ }
+    requires { ⌜ Laid plan (length (now work)) × Filed plan (now work) × (k < keys Orders.Kind plan) ⌝ }
+    requires { ⌜ Narrow lane × Gives Orders.Kind plan (front plan (now work)) k lane × ThinLane lane × (0 < d) × (d ≤ suc tail) ⌝ }
     ensures { λ r. ⌜ Step (plan .base) (plan .size) (turns (runTurn Orders.Kind plan (front plan (now (work .entry))) k (laneTurn d lane)) 0 (plan .lines)) tail (now (work .entry)) r (now (work .exit)) ⌝ }
 {
-    let run = thinning::thin_of(work, plan, at, k);
+    let run = thinning::thin_of(work, plan, k);
     over_words(work, plan.base, plan.size, lane, d, run.lo, run.hi, tail)
 }
 
 // ---- the tables
 
-// Where the lines by kind stand.
-pub fn kinds_at(plan: Plan) -> usize
-    requires { ⌜ (plan .base ≤ 16384) × (plan .size ≤ 1048576) ⌝ }
-    ensures { λ r. ⌜ r ≡ kindsAt plan ⌝ }
-{
-    plan.base + plan.size + plan.size
-}
-
-// Where the lines by boat stand.
-pub fn boats_at(plan: Plan) -> usize
-    requires { ⌜ (plan .base ≤ 16384) × (plan .size ≤ 1048576) × (plan .places ≤ 1024) × (plan .lines ≤ 4096) ⌝ }
-    ensures { λ r. ⌜ r ≡ boatsAt plan ⌝ }
-{
-    kinds_at(plan) + (plan.places * 16 + 1) + plan.lines
-}
-
-// Where the thin lines by kind stand.
-pub fn thin_at(plan: Plan) -> usize
-    requires { ⌜ (plan .base ≤ 16384) × (plan .size ≤ 1048576) × (plan .places ≤ 1024) × (plan .lines ≤ 4096) × (plan .radix ≤ 4097) ⌝ }
-    ensures { λ r. ⌜ (r ≡ thinAt plan) × (r ≤ 8388608) ⌝ }
-{
-    boats_at(plan) + (plan.places * plan.radix + 1) + plan.lines
-}
-
-// The first word after all of them.
-fn filed_end(plan: Plan) -> usize
-    requires { ⌜ (plan .base ≤ 16384) × (plan .size ≤ 1048576) × (plan .places ≤ 1024) × (plan .lines ≤ 4096) × (plan .radix ≤ 4097) ⌝ }
-    ensures { λ r. ⌜ (r ≡ filedEnd plan) × (r < 4294967296) ⌝ }
-{
-    thin_at(plan) + (plan.places * 16 + 1) + plan.lines + plan.places + plan.places
-}
-
 // The words that are enough for a position whose stacks are gone over one by one: the lines of its kind, and of them the thin ones where
-// it does not matter which boat a line has, or all boats but one are taken.
+// they do.
 pub fn lines_for(work: &[u32], plan: Plan, spot: Spot, target: Target) -> Bounds
     requires { ⌜ Laid plan (length (now work)) × Told plan (front plan (now work)) ⌝ }
     requires { ⌜ Filed plan (now work) ⌝ }
@@ -301,26 +275,23 @@ pub fn lines_for(work: &[u32], plan: Plan, spot: Spot, target: Target) -> Bounds
     ensures { λ r. ⌜ Enough plan spot target (now (work .entry)) (r .lo) (r .hi) ⌝ }
 {
     let k = target.place * 16 + spot.kind;
-    if spot.push != 1 {
-        if spot.test != 2 {
-            return thinning::thin_of(work, plan, thin_at(plan), k);
-        }
+    if states::thinnable(spot) {
+        return thinning::thin_of(work, plan, k);
     }
-    sorting::run_of(work, plan, Order::Kind, kinds_at(plan), k)
+    sorting::run_of(work, plan, Order::Kind, k)
 }
 
-// The lines are sorted by kind and by boat, and thinned, where there is room. Returns whether they are.
-pub fn file_lines(work: &mut [u32], plan: Plan) -> bool
+// The lines are sorted by kind and by boat, and thinned, where there is room.
+pub fn file_lines(work: &mut [u32], plan: Plan)
     requires { ⌜ Laid plan (length (now work)) ⌝ }
     requires { ⌜ Told plan (front plan (now work)) ⌝ }
-    ensures { λ r. ⌜ (r ≡ true → Filed plan (now (work .exit))) × Kept (kindsAt plan) (filedEnd plan) (now (work .entry)) (now (work .exit)) ⌝ }
+    ensures { λ _. ⌜ (plan .filed ≡ true → Filed plan (now (work .exit))) ⌝ }
+    ensures { λ _. ⌜ Kept (plan .bykind) (filedEnd plan) (now (work .entry)) (now (work .exit)) ⌝ }
 {
-    if work.len() < filed_end(plan) {
-        return false;
+    if !plan.filed {
+        return;
     }
-    let kinds = kinds_at(plan);
-    sorting::sort_lines(work, plan, Order::Kind, kinds);
-    sorting::sort_lines(work, plan, Order::Boat, boats_at(plan));
-    thinning::thin_lines(work, plan, kinds, thin_at(plan));
-    true
+    sorting::sort_lines(work, plan, Order::Kind);
+    sorting::sort_lines(work, plan, Order::Boat);
+    thinning::thin_lines(work, plan);
 }

@@ -4,8 +4,8 @@ use mathlib.Core.Path.{_≡_, refl, sym, ap, _∙_}
 use Prim.Native.Nat.{ℕ, _+_, _*_, _^_, _/_, _<_, _≤_}
 use native.Mathlib.Nat.{mul-le-mul, mul-div-cancel-left, one-le-pow, div-le-self}
 use native.Mathlib.Omega.{arith}
-use borrow.Author.Needs.{needs}
 use Rattle.request.specs.Layout.{whole}
+use borrow.Author.Needs.{needs}
 use Rattle.request.proofs.planned.Statement.{statement}
 use Rattle.request.proofs.planned.Tie as tie
 
@@ -30,11 +30,20 @@ mul-stacks c = omega (arith, few c)
 div-stacks : tie.Need-div-stacks
 div-stacks c = search needs
 
+div-inverse : tie.Need-div-inverse
+div-inverse c = omega (arith, one-le-pow (c .args .keeps) (c .args .radix) (c .pre .some-radix), stacks-are c)
+
+add-inverse : tie.Need-add-inverse
+add-inverse c = omega (arith, div-le-self whole (c .args .size / (c .args .places * (c .args .done + 1))))
+
 add-words : tie.Need-add-words
 add-words c = search needs
 
 add-base : tie.Need-add-base
 add-base c = search needs
+
+add-marks : tie.Need-add-marks
+add-marks c = search needs
 
 mul-bykind : tie.Need-mul-bykind
 mul-bykind c = search needs
@@ -66,14 +75,14 @@ mul-table-words-3 c = search needs
 table-words-requires-3 : tie.Need-table-words-requires-3
 table-words-requires-3 c κs = search needs
 
-add-filed-end : tie.Need-add-filed-end
-add-filed-end c = omega (arith, few-keys (c .before .before .before))
+add-stamps : tie.Need-add-stamps
+add-stamps c = omega (arith, few-keys (c .before .before .before))
 
 mul-filed-end : tie.Need-mul-filed-end
 mul-filed-end c = search needs
 
-add-filed-end-2 : tie.Need-add-filed-end-2
-add-filed-end-2 c = omega (arith, few-keys (c .before .before .before))
+add-filed-end : tie.Need-add-filed-end
+add-filed-end c = omega (arith, few-keys (c .before .before .before))
 
 add-bystart : tie.Need-add-bystart
 add-bystart c = search needs
@@ -83,19 +92,6 @@ table-words-requires-4 c κs = search needs
 
 add-ordered-end : tie.Need-add-ordered-end
 add-ordered-end c = search needs
-
-div-t21 : tie.Need-div-t21
-div-t21 c =
-    let s = c .before .before .before .before in
-    omega (arith, one-le-pow (s .args .keeps) (s .args .radix) (s .pre .some-radix), stacks-are s)
-
-add-t19 : tie.Need-add-t19
-add-t19 c =
-    let a = c .before .before .before .before .args in
-    omega (arith, div-le-self whole (a .size / (a .places * (a .done + 1))))
-
-add-t20 : tie.Need-add-t20
-add-t20 c = search needs
 
 returns : tie.Need-returns
 returns c =
@@ -126,7 +122,8 @@ returns c =
         kinds-at = refl;
         boats-at = cc;
         thin-at = cc;
-        filed-is = cc;
+        stamps-at = cc;
+        filed-is = refl;
         starts-at = omega arith;
         ordered-is = cc;
       },
@@ -140,8 +137,11 @@ planned-spec =
     add-stacks
     mul-stacks
     div-stacks
+    div-inverse
+    add-inverse
     add-words
     add-base
+    add-marks
     mul-bykind
     add-bykind
     mul-table-words
@@ -152,13 +152,10 @@ planned-spec =
     add-thin
     mul-table-words-3
     table-words-requires-3
-    add-filed-end
+    add-stamps
     mul-filed-end
-    add-filed-end-2
+    add-filed-end
     add-bystart
     table-words-requires-4
     add-ordered-end
-    div-t21
-    add-t19
-    add-t20
     returns)

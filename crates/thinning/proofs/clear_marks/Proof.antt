@@ -1,66 +1,70 @@
 -- `thinning::clear_marks` meets its contract: no key is done, no mark has a stamp, and the words begin after the keys' words. Assumes nothing.
 use mathlib.Core.Path.{_≡_, refl, sym, ap, _∙_, subst}
-use Prim.Native.Nat.{_+_}
+use Prim.Native.Nat.{_+_, _-_}
 use native.Mathlib.Omega.{arith}
-use lib.ListN.{set}
-use Rattle.sorting.specs.Sorting.{linesFrom, sortedEnd, Kept}
+use lib.ListN.{length, set, length-replicate}
+use Rattle.sorting.specs.Sorting.{linesFrom, Kept}
 use Rattle.sorting.specs.declared.Order.the-variants as Order
+use Rattle.states.proofs.Stretches.{patch-length}
 use Rattle.thinning.specs.Thinning.{thinEnd}
 use Rattle.thinning.specs.Marks.{Made}
+use Rattle.thinning.specs.Runs.{stamps-are}
 use Rattle.thinning.proofs.Running.{made-none, none-kept}
 use borrow.Author.Needs.{needs}
 use Rattle.thinning.proofs.clear_marks.Statement.{statement}
 use Rattle.thinning.proofs.clear_marks.Tie as tie
 
-add-from : tie.Need-add-from
-add-from c = search needs
-
-add-from-2 : tie.Need-add-from-2
-add-from-2 c = search needs
-
 add-clear-stretch : tie.Need-add-clear-stretch
 add-clear-stretch c = search needs
 
-add-clear-stretch-2 : tie.Need-add-clear-stretch-2
-add-clear-stretch-2 c = search needs
-
 clear-stretch-requires : tie.Need-clear-stretch-requires
-clear-stretch-requires c κs = search needs
+clear-stretch-requires c κs = let d = c .before .before .before .pre in omega (arith, stamps-are (d .laid), d .room)
 
-cast-put : tie.Need-cast-put
-cast-put c = search needs
+sub-from : tie.Need-sub-from
+sub-from c = search needs
 
-put-requires : tie.Need-put-requires
-put-requires c κs = search needs
+cleared-long : (c : tie.After-clear-stretch) → length (c .clear-stretch .last .0) ≡ length (c .before .before .before .before .args .work .now)
+cleared-long c =
+    let a = c .before .before .before .before in
+    let plan = a .args .plan in
+    ap length (c .clear-stretch .ensures) ∙ patch-length (plan .stamps) (plan .places + plan .places) _ (a .args .work .now) (length-replicate (plan .places + plan .places) 0) (omega (arith, stamps-are (a .pre .laid), a .pre .room))
+
+sub-write : tie.Need-sub-write
+sub-write c = omega (arith, stamps-are (c .before .before .before .before .before .before .before .before .before .pre .laid))
+
+cast-write : tie.Need-cast-write
+cast-write c = let d = c .before .before .before .before .before .before .before .before .before .pre in omega (arith, stamps-are (d .laid), d .small)
+
+write-requires : tie.Need-write-requires
+write-requires c κs =
+    let d = c .before .before .before .before .before .before .before .before .before .pre in
+    (omega (arith, stamps-are (d .laid), d .room, cleared-long (c .before .before .before .before .before)), omega (arith, stamps-are (d .laid)))
 
 same-length : tie.Need-same-length
 same-length c = search needs
 
 returns : tie.Need-returns
 returns c =
-    let a = c .before .before .before .before .before .before .before .before .before .before .before in
-    let x = a .args in
-    let plan = x .plan in
-    let w = x .work .now in
-    let u = x .at + (x .all + 1) in
-    let from = u + plan .lines in
-    let eb : from ≡ sortedEnd Order.Kind plan (x .at) = omega (arith, a .pre .1) in
-    let eu : u ≡ linesFrom Order.Kind plan (x .at) = omega (arith, a .pre .1) in
-    let back = sym (c .before .before .put .ensures ∙ ap (λ l. set l (x .at) u) (c .before .before .before .before .before .before .clear-stretch .ensures)) in (
-      subst (Made plan (x .of) (x .at) 0) back (made-none (a .pre .0) eb refl eu),
-      subst (Kept (x .at) (thinEnd plan (x .at)) w) back (none-kept (a .pre .0) eb refl eu),
+    let a = c .before .before .before .before .before .before .before .before .before .before .before .before in
+    let plan = a .args .plan in
+    let u = plan .stamps - plan .lines in
+    let eb = stamps-are (a .pre .laid) in
+    let eu : u ≡ linesFrom Order.Kind plan (plan .thin) = omega (arith, eb) in
+    let head : plan .thin + 0 ≡ plan .thin = omega arith in
+    let back = sym (c .before .before .write .ensures ∙ (λ t. set ((c .before .before .before .before .before .before .before .before .clear-stretch .ensures) t) (head t) u)) in (
+      subst (Made plan (plan .bykind) (plan .thin) 0) back (made-none (a .pre) eb refl eu),
+      subst (Kept (plan .thin) (thinEnd plan (plan .thin)) (a .args .work .now)) back (none-kept (a .pre) eb refl eu),
     )
 
 pub clear-marks-spec : {M : Type 1} → statement M
 clear-marks-spec =
     tie.close
     (tie.spec
-    add-from
-    add-from-2
     add-clear-stretch
-    add-clear-stretch-2
     clear-stretch-requires
-    cast-put
-    put-requires
+    sub-from
+    sub-write
+    cast-write
+    write-requires
     same-length
     returns)

@@ -1,24 +1,25 @@
 -- `thinning::thin_key` meets its contract: its run is thinned by marks that no key before it has stamped so, and ends where its next word says.
 -- Assumes nothing.
 use mathlib.Core.Path.{_≡_, sym, subst}
-use Prim.Native.Nat.{suc, _+_}
+use Prim.Native.Nat.{suc, _+_, _≤_}
 use native.Mathlib.Omega.{arith}
 use Rattle.sorting.specs.Sorting.{Kept}
 use Rattle.thinning.specs.Thinning.{thinEnd}
-use Rattle.thinning.specs.Marks.{Made}
+use Rattle.thinning.specs.Marks.{Ahead, Made}
+use Rattle.thinning.specs.Runs.{stamps-are}
 use Rattle.thinning.proofs.Running.{made-ahead, made-key, kept-key, end-low}
 use borrow.Author.Needs.{needs}
 use Rattle.thinning.proofs.thin_key.Statement.{statement}
 use Rattle.thinning.proofs.thin_key.Tie as tie
 
 run-of-requires : tie.Need-run-of-requires
-run-of-requires c κs = search needs
+run-of-requires c κs = let a = c .before .before in (a .pre .0 .sorted, (a .pre .1 .0, omega (arith, a .pre .0 .apart, a .pre .0 .room)))
 
 add-word : tie.Need-add-word
-add-word c = search needs
+add-word c = let a = c .before .before .before .before .before in omega (arith, a .pre .1 .0, a .pre .0 .small)
 
 word-requires : tie.Need-word-requires
-word-requires c κs = search needs
+word-requires c κs = let a = c .before .before .before .before .before in omega (arith, a .pre .1 .0, a .pre .0 .room)
 
 cast-start : tie.Need-cast-start
 cast-start c = search needs
@@ -29,50 +30,60 @@ add-stamp c = search needs
 cast-stamp : tie.Need-cast-stamp
 cast-stamp c = search needs
 
-thin-run-requires : tie.Need-thin-run-requires
-thin-run-requires c κs =
+-- what the run goes by
+ahead : (c : tie.After-word)
+    → let x = c .before .before .before .before .before .before .args in Ahead (x .plan .stamps) (x .plan .places) (x .k + 1) (c .before .before .before .run-of .result .lo) (c .before .before .before .run-of .result .hi) (c .word .result) (x .work .now)
+ahead c =
     let a = c .before .before .before .before .before .before in
-    let x = a .args in
     let run = c .before .before .before .run-of .ensures in
-    let stamp : x .k + 1 ≡ suc (x .k) = omega arith in
-    made-ahead (a .pre .0) (a .pre .1 .0) (a .pre .1 .2) (a .pre .1 .1) stamp (run .0) (run .1) (c .before .word .ensures)
+    let stamp : a .args .k + 1 ≡ suc (a .args .k) = omega arith in
+    made-ahead (a .pre .0) (a .pre .1 .0) (a .pre .1 .1) (stamps-are (a .pre .0 .laid)) stamp (run .0) (run .1) (c .word .ensures)
 
-add-put : tie.Need-add-put
-add-put c = search needs
+thin-run-requires : tie.Need-thin-run-requires
+thin-run-requires c κs = (ahead (c .before), omega (arith, c .before .word .ensures, c .before .before .before .before .before .before .before .pre .1 .1 .begins))
 
-add-put-2 : tie.Need-add-put-2
-add-put-2 c = search needs
+-- no more words are kept than there is room for
+end-few : (c : tie.After-thin-run) → c .thin-run .result ≤ c .before .before .before .before .before .before .before .before .args .plan .stamps
+end-few c =
+    let a = c .before .before .before .before .before .before .before .before in
+    let run = c .before .before .before .before .before .run-of .ensures in
+    let stamp : a .args .k + 1 ≡ suc (a .args .k) = omega arith in
+    let here : a .args .plan .thin + (a .args .k + 1) ≡ a .args .plan .thin + suc (a .args .k) = omega arith in
+    end-low (a .pre .0) (a .pre .1 .0) (a .pre .1 .1) (stamps-are (a .pre .0 .laid)) stamp (run .0) (run .1) (c .before .before .word .ensures) here (c .thin-run .ensures)
 
-cast-put : tie.Need-cast-put
-cast-put c =
-    let a = c .before .before .before .before .before .before .before .before .before .before in
-    let x = a .args in
-    let run = c .before .before .before .before .before .before .before .run-of .ensures in
-    let r = c .before .before .before .thin-run in
-    let stamp : x .k + 1 ≡ suc (x .k) = omega arith in
-    let here : x .at + x .k + 1 ≡ x .at + suc (x .k) = omega arith in
-    let low = end-low (a .pre .0) (a .pre .1 .0) (a .pre .1 .2) (a .pre .1 .1) stamp (run .0) (run .1) (c .before .before .before .before .before .word .ensures) here (r .ensures) in
-    omega (arith, low, a .pre .1 .1, a .pre .0 .small)
+sub-write : tie.Need-sub-write
+sub-write c = omega (arith, stamps-are (c .before .before .before .before .before .before .before .before .before .before .before .before .pre .0 .laid))
 
-put-requires : tie.Need-put-requires
-put-requires c κs = search needs
+add-write : tie.Need-add-write
+add-write c = search needs
+
+cast-write : tie.Need-cast-write
+cast-write c = let a = c .before .before .before .before .before .before .before .before .before .before .before .before in omega (arith, end-few (c .before .before .before .before), stamps-are (a .pre .0 .laid), a .pre .0 .small)
+
+write-requires : tie.Need-write-requires
+write-requires c κs =
+    let a = c .before .before .before .before .before .before .before .before .before .before .before .before in
+    let at = stamps-are (a .pre .0 .laid) in
+    (omega (arith, at, a .pre .0 .room, c .before .before .before .before .thin-run .ensures .kept .long), omega (arith, at, a .pre .1 .0))
 
 same-length : tie.Need-same-length
 same-length c = search needs
 
 returns : tie.Need-returns
 returns c =
-    let a = c .before .before .before .before .before .before .before .before .before .before .before .before .before in
+    let a = c .before .before .before .before .before .before .before .before .before .before .before .before .before .before .before in
+    let d = a .pre .0 in
     let x = a .args in
-    let run = c .before .before .before .before .before .before .before .before .before .before .run-of .ensures in
-    let r = c .before .before .before .before .before .before .thin-run in
+    let at = x .plan .thin in
+    let run = c .before .before .before .before .before .before .before .before .before .before .before .before .run-of .ensures in
+    let r = c .before .before .before .before .before .before .before .thin-run in
     let stamp : x .k + 1 ≡ suc (x .k) = omega arith in
-    let here : x .at + x .k + 1 ≡ x .at + suc (x .k) = omega arith in
-    let back = sym (c .before .before .put .ensures) in (
-      subst (Made (x .plan) (x .of) (x .at) (suc (x .k))) back
-          (made-key (a .pre .0) (a .pre .1 .0) (a .pre .1 .2) (a .pre .1 .1) stamp (run .0) (run .1) (c .before .before .before .before .before .before .before .before .word .ensures) here (r .ensures)),
-      subst (Kept (x .at) (thinEnd (x .plan) (x .at)) (x .work .now)) back
-          (kept-key (a .pre .0) (a .pre .1 .0) (a .pre .1 .2) (a .pre .1 .1) stamp (run .0) (run .1) (c .before .before .before .before .before .before .before .before .word .ensures) here (r .ensures)),
+    let here : at + (x .k + 1) ≡ at + suc (x .k) = omega arith in
+    let back = sym (c .before .before .write .ensures) in (
+      subst (Made (x .plan) (x .plan .bykind) at (suc (x .k))) back
+          (made-key d (a .pre .1 .0) (a .pre .1 .1) (stamps-are (d .laid)) stamp (run .0) (run .1) (c .before .before .before .before .before .before .before .before .before .word .ensures) here (r .ensures)),
+      subst (Kept at (thinEnd (x .plan) at) (x .work .now)) back
+          (kept-key d (a .pre .1 .0) (a .pre .1 .1) (stamps-are (d .laid)) stamp (run .0) (run .1) (c .before .before .before .before .before .before .before .before .before .word .ensures) here (r .ensures)),
     )
 
 pub thin-key-spec : {M : Type 1} → statement M
@@ -86,9 +97,9 @@ thin-key-spec =
     add-stamp
     cast-stamp
     thin-run-requires
-    add-put
-    add-put-2
-    cast-put
-    put-requires
+    sub-write
+    add-write
+    cast-write
+    write-requires
     same-length
     returns)

@@ -31,8 +31,9 @@ cast-hi c = search needs
 returns : tie.Need-returns
 returns c =
     let a = c .before .before .before in
-    let r = a .pre .0 .1 (a .args .k) (a .pre .1 .0) in
-    let next : a .args .at + a .args .k + 1 ≡ a .args .at + suc (a .args .k) = omega arith in
+    let at = a .args .plan .thin in
+    let r = a .pre .0 (a .args .k) (a .pre .1 .0) in
+    let next : at + a .args .k + 1 ≡ at + suc (a .args .k) = omega arith in
     let lo = c .before .word .ensures in
     let hi = c .word2 .ensures ∙ ap (λ x. getD (a .args .work .now) x 0) next in
     (lo, hi, omega (arith, lo, hi, r .rising), omega (arith, hi, r .high, a .pre .1 .1))

@@ -1,25 +1,89 @@
--- `ways::exact_way` meets its contract, by the three kinds of position. Assumes nothing.
-use Rattle.ways.proofs.Chosen.{any-right}
+-- `ways::exact_way` meets its contract, by which boats pass. Assumes nothing.
+use mathlib.Core.Path.{subst}
+use Rattle.states.specs.Spots.{TakenBy}
+use Rattle.ways.proofs.Right.{stack-fits}
+use Rattle.ways.proofs.Chosen.{any-single, only-single, but-single}
+use borrow.Author.Needs.{needs}
 use Rattle.ways.proofs.exact_way.Statement.{statement}
 use Rattle.ways.proofs.exact_way.Tie as tie
 
 pushing-way-requires : tie.Need-pushing-way-requires
-pushing-way-requires c κs = (c .before .before .pre, c .if1 .taken)
+pushing-way-requires c κs = search needs
 
 returns : tie.Need-returns
-returns c = c .pushing-way .ensures
+returns c = search needs
 
-open-way-requires : tie.Need-open-way-requires
-open-way-requires c κs = c .before .before .before .before .pre
+taken-by-requires : tie.Need-taken-by-requires
+taken-by-requires c κs = search needs
+
+enum-told : tie.Need-enum-told
+enum-told c = search needs
+
+kind-way-requires : tie.Need-kind-way-requires
+kind-way-requires c κs = search needs
+
+enum-known-x : tie.Need-enum-known-x
+enum-known-x c = search needs
+
+boat-way-requires : tie.Need-boat-way-requires
+boat-way-requires c κs =
+    let a = c .before .before .before .before .before in
+    let takes = subst (TakenBy _ _ _) (c .before .x .given .1) (c .before .before .before .taken-by .ensures) in
+    (a .pre, stack-fits _ _ _ _ _ (a .pre), takes .0)
+
+enum-known-x-2 : tie.Need-enum-known-x-2
+enum-known-x-2 c = search needs
+
+kind-way-requires-2 : tie.Need-kind-way-requires-2
+kind-way-requires-2 c κs = search needs
+
+enum-told-2 : tie.Need-enum-told-2
+enum-told-2 c = search needs
+
+enum-told-3 : tie.Need-enum-told-3
+enum-told-3 c = search needs
 
 returns-2 : tie.Need-returns-2
-returns-2 c = any-right _ _ _ _ _ (c .before .before .before .before .before .pre) (c .before .before .before .if1 .left) (c .before .if2 .taken) (c .open-way .result) (c .open-way .ensures)
-
-testing-way-requires : tie.Need-testing-way-requires
-testing-way-requires c κs = (c .before .before .before .before .pre, c .before .before .if1 .left)
+returns-2 c =
+    let a = c .before .before .before .before .before in
+    let any = subst (TakenBy _ _ _) (c .before .enum-told .given .1) (c .before .before .before .taken-by .ensures) in
+    c .kind-way .ensures 1 (any-single _ _ _ _ _ (a .pre) (c .before .before .before .before .if1 .left) any)
 
 returns-3 : tie.Need-returns-3
-returns-3 c = c .testing-way .ensures
+returns-3 c =
+    let a = c .before .before .before .before .before .before in
+    let takes = subst (TakenBy _ _ _) (c .before .before .x .given .1) (c .before .before .before .before .taken-by .ensures) in
+    c .boat-way .ensures 1 (only-single _ _ _ _ _ (a .pre) (c .before .before .before .before .before .if1 .left) _ (takes .1))
+
+returns-4 : tie.Need-returns-4
+returns-4 c =
+    let a = c .before .before .before .before .before .before in
+    let takes = subst (TakenBy _ _ _) (c .before .before .x2 .given .1) (c .before .before .before .before .taken-by .ensures) in
+    c .kind-way2 .ensures 1 (but-single _ _ _ _ _ (a .pre) (c .before .before .before .before .before .if1 .left) _ (takes .1))
+
+returns-5 : tie.Need-returns-5
+returns-5 c = search needs
+
+returns-6 : tie.Need-returns-6
+returns-6 c = search needs
 
 pub exact-way-spec : {M : Type 1} → statement M
-exact-way-spec = tie.close (tie.spec pushing-way-requires returns open-way-requires returns-2 testing-way-requires returns-3)
+exact-way-spec =
+    tie.close
+    (tie.spec
+    pushing-way-requires
+    returns
+    taken-by-requires
+    enum-told
+    kind-way-requires
+    enum-known-x
+    boat-way-requires
+    enum-known-x-2
+    kind-way-requires-2
+    enum-told-2
+    enum-told-3
+    returns-2
+    returns-3
+    returns-4
+    returns-5
+    returns-6)

@@ -12,14 +12,14 @@ use Rattle.ways.proofs.one_word.Tie as tie
 word-requires : tie.Need-word-requires
 word-requires c κs = c .before .before .pre .1 .1 .2
 
-cast-e : tie.Need-cast-e
-cast-e c = search needs
+cast-taken : tie.Need-cast-taken
+cast-taken c = search needs
 
 taken-requires : tie.Need-taken-requires
 taken-requires c κs = search needs
 
 lane-state-requires : tie.Need-lane-state-requires
-lane-state-requires c κs = (c .before .before .before .before .before .before .pre .1 .0, omega arith)
+lane-state-requires c κs = c .before .before .before .before .before .before .pre .1 .0
 
 push-if-new-requires : tie.Need-push-if-new-requires
 push-if-new-requires c κs =
@@ -52,7 +52,7 @@ one-word-spec =
     tie.close
     (tie.spec
     word-requires
-    cast-e
+    cast-taken
     taken-requires
     lane-state-requires
     push-if-new-requires

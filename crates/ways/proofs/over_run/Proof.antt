@@ -5,7 +5,8 @@ use native.Mathlib.Omega.{arith}
 use lib.ListN.{getD}
 use Rattle.search.specs.Loops.{turns}
 use Rattle.search.specs.Table.{Search}
-use Rattle.sorting.specs.Runs.{turns-run}
+use Rattle.sorting.specs.Runs.{turns-run, table-behind}
+use Rattle.sorting.specs.Sorting.{tableAt}
 use Rattle.states.specs.Area.{found}
 use Rattle.states.proofs.Changes.{step-as}
 use Rattle.ways.specs.Ways.{laneState, laneTurn}
@@ -15,17 +16,17 @@ use Rattle.ways.proofs.over_run.Statement.{statement}
 use Rattle.ways.proofs.over_run.Tie as tie
 
 run-of-requires : tie.Need-run-of-requires
-run-of-requires c κs = let (s, room, low) = c .before .before .pre .1 .0 in (s, (low, room))
+run-of-requires c κs = let a = c .before .before in (a .pre .1 .1 .0 .0, (a .pre .1 .0 .1, a .pre .1 .1 .0 .1))
 
 over-words-requires : tie.Need-over-words-requires
 over-words-requires c κs =
     let a = c .before .before .before .before in
-    let (s, room, low) = a .pre .1 .0 in
-    let (narrow, gives) = a .pre .1 .1 .0 in
-    let (some, near, behind) = a .pre .1 .1 .1 in
+    let (laid, low) = a .pre .1 .0 in
+    let (s, room) = a .pre .1 .1 .0 in
+    let (narrow, gives, some, near) = a .pre .1 .1 .1 in
     let (lo, hi, rising, inside) = c .before .run-of .ensures in
     let run = s (a .args .k) low in
-    let begins = subst (λ x. a .args .plan .base + a .args .plan .size + a .args .plan .size ≤ x) (sym lo) (omega (arith, behind, run .low)) in (
+    let begins = subst (λ x. a .args .plan .base + a .args .plan .size + a .args .plan .size ≤ x) (sym lo) (omega (arith, table-behind laid (a .args .order), run .low)) in (
       a .pre .0,
       (
         narrow,
@@ -44,13 +45,15 @@ same-length c = search needs
 returns : tie.Need-returns
 returns c =
     let a = c .before .before .before .before .before .before .before in
-    let (s, room, low) = a .pre .1 .0 in
+    let x = a .args in
+    let (s, room) = a .pre .1 .1 .0 in
     let (lo, hi, rising, inside) = c .before .before .before .before .run-of .ensures in
-    let w = a .args .work .now in
-    let st = found (a .args .plan .base) (a .args .plan .size) (a .args .tail) w in
-    let all = turns-run (a .args .order) (a .args .plan) (a .args .at) w (a .args .k) (s (a .args .k) low) room _ (laneTurn (a .args .d) (a .args .lane)) (λ i less b. run-turn _ _ _ _ _ i b) st in
-    let turn : ℕ → Search → Search = λ p. laneTurn (a .args .d) (a .args .lane) (getD w p 0) in
-    let bounds : turns turn (c .before .before .before .before .run-of .result .lo) (c .before .before .before .before .run-of .result .hi - c .before .before .before .before .run-of .result .lo) st ≡ turns turn (getD w (a .args .at + a .args .k) 0) (getD w (a .args .at + suc (a .args .k)) 0 - getD w (a .args .at + a .args .k) 0) st = λ t. turns turn (lo t) (hi t - lo t) st in
+    let w = x .work .now in
+    let at = tableAt (x .order) (x .plan) in
+    let st = found (x .plan .base) (x .plan .size) (x .tail) w in
+    let all = turns-run (x .order) (x .plan) at w (x .k) (s (x .k) (a .pre .1 .0 .1)) room _ (laneTurn (x .d) (x .lane)) (λ i less b. run-turn _ _ _ _ _ i b) st in
+    let turn : ℕ → Search → Search = λ p. laneTurn (x .d) (x .lane) (getD w p 0) in
+    let bounds : turns turn (c .before .before .before .before .run-of .result .lo) (c .before .before .before .before .run-of .result .hi - c .before .before .before .before .run-of .result .lo) st ≡ turns turn (getD w (at + x .k) 0) (getD w (at + suc (x .k)) 0 - getD w (at + x .k) 0) st = λ t. turns turn (lo t) (hi t - lo t) st in
     step-as _ (c .before .before .over-words .ensures) (all ∙ sym bounds)
 
 pub over-run-spec : {M : Type 1} → statement M

@@ -1,0 +1,52 @@
+-- `states::thinnable` meets its contract, rule by rule. Assumes nothing.
+use mathlib.Core.Path.{_≡_}
+use mathlib.Core.Bool.{false≢true}
+use Prim.Native.Nat.{_/_, _%_}
+use Rattle.states.specs.Served.{everybody, all-but, nobody}
+use Rattle.states.proofs.Comparing.{okay-any, okay-never, okay-other}
+use borrow.Author.Needs.{needs}
+use Rattle.states.proofs.thinnable.Statement.{statement}
+use Rattle.states.proofs.thinnable.Tie as tie
+
+returns : tie.Need-returns
+returns c = λ e. absurd (false≢true e)
+
+enum-told : tie.Need-enum-told
+enum-told c = search needs
+
+enum-told-2 : tie.Need-enum-told-2
+enum-told-2 c = search needs
+
+enum-told-3 : tie.Need-enum-told-3
+enum-told-3 c = search needs
+
+enum-told-4 : tie.Need-enum-told-4
+enum-told-4 c = search needs
+
+returns-2 : tie.Need-returns-2
+returns-2 c = λ _. record { plain = c .before .before .if1 .left; served = λ R v. nobody (λ x. okay-never R _ x v (c .enum-told .given .1)) }
+
+returns-3 : tie.Need-returns-3
+returns-3 c = λ _. record { plain = c .before .before .if1 .left; served = λ R v. everybody (λ x. okay-any R _ x v (c .enum-told2 .given .1)) }
+
+returns-4 : tie.Need-returns-4
+returns-4 c = λ e. absurd (false≢true e)
+
+returns-5 : tie.Need-returns-5
+returns-5 c = λ _.
+    let s = c .before .before .before .args .spot in
+    record { plain = c .before .before .if1 .left; served = λ R v. all-but (v / s .level % R) (λ x. okay-other R s x v (c .enum-told4 .given .1)) }
+
+pub thinnable-spec : {M : Type 1} → statement M
+thinnable-spec =
+    tie.close
+    (tie.spec
+    returns
+    enum-told
+    enum-told-2
+    enum-told-3
+    enum-told-4
+    returns-2
+    returns-3
+    returns-4
+    returns-5)
