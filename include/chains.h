@@ -17,6 +17,9 @@
  * chains_needed, chains_written, chains_yes, chains_no, chains_none, chains_found and chains_too_long take a reply apart so that a
  * refusal is not taken for an answer.
  *
+ * Stack. A call takes less than 64 KB of the thread's stack (CHAINS_STACK bytes), whatever it is given. The hungriest, chains_find
+ * with 62 repeats inside each other, takes 47 KB as the library is built.
+ *
  * No function fails in another way, whatever bytes and numbers it is given; none allocates, keeps a pointer or has a state, so
  * calls from several threads are safe as long as they do not share a buffer that is written to.
  */
@@ -76,6 +79,9 @@ enum chains_refusal {
 
 /* No record is longer, in bytes: a buffer of this size holds every day. */
 #define CHAINS_LONGEST_RECORD 40964
+
+/* Where so many bytes of the thread's stack are left, they are enough for every call. */
+#define CHAINS_STACK 65536
 
 /* Where chains_read puts the fields of a line. */
 enum chains_field {
