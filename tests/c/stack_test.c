@@ -74,8 +74,8 @@ static void write_patterns(void)
     put(p, 31, either_line, 3), put(p++, 1, line, 2);
     put(p, 31, then_line, 3), put(p++, 1, line, 2);
     put(p, 1, keep, 9), put(p, 29, then_same, 4), put(p++, 1, same, 3);
-    /* Then, repeat, either and repeat, nested ten times. */
-    put(p, 10, mixed, 6), put(p, 1, line, 2), put(p++, 10, line, 2);
+    /* Then, repeat, either and repeat, nested four times, with repeats in them. */
+    put(p, 4, mixed, 6), put(p, 36, repeat, 1), put(p, 1, line, 2), put(p++, 4, line, 2);
     /* One repeat too many: refused, at the deepest place that is read. */
     put(p, 63, repeat, 1), put(p++, 1, nothing, 1);
 }
