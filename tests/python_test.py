@@ -4,8 +4,10 @@
     make lib
     python3 tests/python_test.py
 """
+import re
 import subprocess
 import sys
+import tempfile
 import unittest
 from pathlib import Path
 
@@ -134,14 +136,36 @@ class Module(unittest.TestCase):
         header = (HOME / "include/chains.h").read_text()
         self.assertIn(f"#define CHAINS_VERSION {chains.version()}\n", header)
 
-    def test_example(self):
-        ran = subprocess.run([*EXAMPLE, HOME / "examples/day"], capture_output=True, text=True, env=FOUND)
-        self.assertEqual((ran.returncode, ran.stdout), (0, (HOME / "examples/day/worked_day.txt").read_text()))
+    def test_readme(self):
+        """README's program prints what its comments say."""
+        program = re.search(r"```python\n(.*?)```", (HOME / "README.md").read_text(), re.S)[1]
+        printed = [[chains.Line(0, 1, 2, 150, 1)], *map(eval, re.findall(r"# (\[0\]|True|\(1, 0\))", program))]
+        self.assertEqual(len(printed), 4)
+        ran = subprocess.run([sys.executable, "-c", program], capture_output=True, text=True, env=FOUND)
+        self.assertEqual((ran.stdout, ran.stderr), ("".join(f"{line}\n" for line in printed), ""))
 
-    def test_example_that_cannot_write(self):
+
+class Example(unittest.TestCase):
+    def run_on(self, *folders, **more):
+        ran = subprocess.run([*EXAMPLE, *folders], stderr=subprocess.PIPE, text=True, env=FOUND, **{"stdout": subprocess.PIPE, **more})
+        return ran.returncode, ran.stdout, ran.stderr
+
+    def test_answers(self):
+        self.assertEqual(self.run_on(HOME / "examples/day"), (0, (HOME / "examples/day/worked_day.txt").read_text(), ""))
+        self.assertEqual(self.run_on(HOME / "crates/chains_none/data"), (0, "none\n", ""))
+        refused = 0, "refused 3\n", f"worked_day.py: {chains.SENTENCES[2]}\n"
+        self.assertEqual(self.run_on(HOME / "crates/chains_damaged/data"), refused)
+
+    def test_files(self):
+        self.assertEqual(self.run_on()[0], 2)
+        with tempfile.TemporaryDirectory() as folder:
+            self.assertEqual(self.run_on(folder), (0, "no question\n", ""))
+            Path(folder, "day.rec").mkdir()
+            self.assertEqual(self.run_on(folder), (4, "", "worked_day.py: day.rec cannot be read: Is a directory\n"))
+
+    def test_an_answer_that_cannot_be_written(self):
         with open("/dev/full", "w") as full:
-            ran = subprocess.run([*EXAMPLE, HOME / "examples/day"], stdout=full, stderr=subprocess.PIPE, env=FOUND)
-        self.assertNotEqual(ran.returncode, 0)
+            self.assertEqual(self.run_on(HOME / "examples/day", stdout=full)[0], 5)
 
 
 if __name__ == "__main__":
