@@ -21,7 +21,7 @@ lib: target/libchains.a target/libchains.so
 # The library is proved before it is built: minutes where nothing is proved yet. What the prover notes stays in the log.
 $(archive): $(sources)
 	@mkdir -p target/log
-	@echo "rt staticlib exports (its notes: target/log/staticlib.out)"
+	@echo "rt staticlib exports: proves the library, for minutes where nothing is proved yet (its notes: target/log/staticlib.out)"
 	@rt staticlib exports >target/log/staticlib.out 2>&1 || { cat target/log/staticlib.out >&2; exit 1; }
 	@touch $@
 
