@@ -462,9 +462,10 @@ static uint64_t reply_of(uint64_t number, uint64_t value)
 /* A refusal is no answer of any sort, and leaves every length as it was. */
 static void test_refused_replies(void)
 {
+    const uint64_t values[6] = {0, 1, 2, 3, 5, CHAINS_NO_CHAIN};
     for (uint64_t number = 1; number <= 23; number++) {
-        for (uint64_t value = 0; value <= 3; value++) {
-            const uint64_t reply = reply_of(number, value);
+        for (size_t i = 0; i < 6; i++) {
+            const uint64_t value = values[i], reply = reply_of(number, value);
             size_t length = 77;
             expect("a refusal is refused", chains_refused(reply));
             expect("a refusal has no length", !chains_length(reply, &length));
