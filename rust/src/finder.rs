@@ -58,10 +58,7 @@ impl<'a> Question<'a> {
 /// let question = Question::about(&day, &[0x21, 1], 0, 1);
 /// let mut finder = Finder::new();
 /// assert_eq!(finder.find(&question)?, Some(&[0][..]));
-/// // A chain of one's own goes back to the same finder.
-/// if let Some(chain) = finder.find_owned(&question)? {
-///     assert!(finder.check(&question, &chain)?);
-/// }
+/// assert!(finder.check(&question, &[0])?);
 /// # Ok::<(), chains::Refusal>(())
 /// ```
 #[derive(Clone, Debug, Default)]
@@ -102,6 +99,18 @@ impl Finder {
 
     /// As [`Finder::find`], with a chain of the caller's own: it can go to [`Finder::check`] of
     /// the same finder, and be kept while other questions are asked.
+    ///
+    /// ```
+    /// use chains::{Finder, Line, Question, Record};
+    ///
+    /// let mut day = Record::begin(2)?;
+    /// day.add(Line { from: 0, kind: 1, class: 2, sail: 150, to: 1 })?;
+    /// let question = Question::about(&day, &[0x21, 1], 0, 1);
+    /// let mut finder = Finder::new();
+    /// let chain = finder.find_owned(&question)?.expect("line 0");
+    /// assert!(finder.check(&question, &chain)?);
+    /// # Ok::<(), chains::Refusal>(())
+    /// ```
     pub fn find_owned(&mut self, question: &Question) -> Result<Option<Vec<u16>>, Refusal> {
         Ok(self.find(question)?.map(<[u16]>::to_vec))
     }

@@ -4,6 +4,23 @@
 //! What becomes of each lent buffer is said with each function. [`Record`](crate::Record)
 //! and [`Finder`](crate::Finder) do the lending for you. A later version may add cases to a
 //! reply, so a `match` needs an arm for the rest.
+//!
+//! ```
+//! use chains::lent::{self, FindReply, PatternReply, WordsReply};
+//!
+//! let day = [1, 0, 2, 2, 0, 0, 1, 2, 0, 0, 150, 0, 1, 0]; // two places, one line
+//! let pattern = [0x21, 1];
+//! let PatternReply::Counts(counts) = lent::pattern(&pattern) else { panic!("refused") };
+//! assert_eq!((counts.commands, counts.keeps), (1, 0));
+//! let WordsReply::Words(words) = lent::words(&day, &pattern) else { panic!("refused") };
+//! let (mut work, mut out) = (vec![0; words], [0; 8]);
+//! match lent::find(&day, &pattern, 0, 1, &mut work, &mut out) {
+//!     FindReply::Found(length) => assert_eq!(out[..length], [0]),
+//!     FindReply::NoChain => println!("none"),
+//!     FindReply::Refused(refusal) => println!("refused {}: {refusal}", refusal.number()),
+//!     _ => println!("a reply of a later version"),
+//! }
+//! ```
 
 use crate::{linked, Counts, Line, Refusal};
 

@@ -200,12 +200,34 @@ impl Record {
     /// pattern accepts, as [`Finder::find`] does. Refusals: 8 to 16.
     ///
     /// For many questions keep a [`Finder`], and with it the work area.
+    ///
+    /// ```
+    /// use chains::{Line, Record};
+    ///
+    /// let mut day = Record::begin(2)?;
+    /// day.add(Line { from: 0, kind: 1, class: 2, sail: 150, to: 1 })?;
+    /// assert_eq!(day.find(&[0x21, 1], 0, 1)?, Some(vec![0]));
+    /// // No line of kind 2.
+    /// assert_eq!(day.find(&[0x21, 2], 0, 1)?, None);
+    /// # Ok::<(), chains::Refusal>(())
+    /// ```
     pub fn find(&self, pattern: &[u8], from: u16, to: u16) -> Result<Option<Vec<u16>>, Refusal> {
         Finder::new().find_owned(&Question::about(self, pattern, from, to))
     }
 
     /// Does the chain lead from the first place to the second, and does the pattern accept it?
     /// Refusals: 8 to 16, and 18.
+    ///
+    /// ```
+    /// use chains::{Line, Record, Refusal};
+    ///
+    /// let mut day = Record::begin(2)?;
+    /// day.add(Line { from: 0, kind: 1, class: 2, sail: 150, to: 1 })?;
+    /// assert!(day.check(&[0x21, 1], 0, 1, &[0])?);
+    /// // There is no line 1.
+    /// assert_eq!(day.check(&[0x21, 1], 0, 1, &[1]), Err(Refusal::LineNotThere));
+    /// # Ok::<(), Refusal>(())
+    /// ```
     pub fn check(
         &self,
         pattern: &[u8],
