@@ -92,5 +92,6 @@ def run():
     sys.exit(failed > 0)
 
 
-if sys.argv[1] == "write": write(sys.argv[2])
-else: run()
+if __name__ == "__main__":
+    if sys.argv[1] == "write": write(sys.argv[2])
+    else: run()
