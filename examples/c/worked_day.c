@@ -13,7 +13,7 @@
 #include <string.h>
 
 /* Exit statuses, as those of the program chains. */
-enum { CALLED_WRONGLY = 2, UNREADABLE = 4, UNWRITTEN = 5, NO_MEMORY = 7 };
+enum { CALLED_WRONGLY = 2, UNREADABLE = 4, UNWRITTEN = 5 };
 
 /* Entries of output that are lent first; a longer chain is asked for once more. */
 enum { FIRST_ENTRIES = 16 };
@@ -30,7 +30,7 @@ static void *room(size_t entries, size_t width)
     void *at = calloc(entries == 0 ? 1 : entries, width);
     if (at == NULL) {
         fputs("worked_day: no memory\n", stderr);
-        exit(NO_MEMORY);
+        exit(EXIT_FAILURE);
     }
     return at;
 }
