@@ -51,6 +51,11 @@ def read(path):
 def sentences(): return dict(line.split("\t") for line in read(ROOT + "/include/refusals.txt").splitlines())
 
 
+def setUpModule():
+    """The program is built, where it has to be, before the first test looks at what a call says."""
+    if "Example" not in names: subprocess.run([CHAINS, DAY], check=True, stdout=subprocess.DEVNULL)
+
+
 class Case(unittest.TestCase):
     """A folder of its own that every user can enter, and runs of a command in it."""
 
