@@ -53,7 +53,7 @@ def sentences(): return dict(line.split("\t") for line in read(ROOT + "/include/
 
 def setUpModule():
     """The program is built, where it has to be, before the first test looks at what a call says."""
-    if "Example" not in names: subprocess.run([CHAINS, DAY], check=True, stdout=subprocess.DEVNULL)
+    if Example.command is None: subprocess.run([CHAINS, DAY], check=True, stdout=subprocess.DEVNULL)
 
 
 class Case(unittest.TestCase):
@@ -62,7 +62,9 @@ class Case(unittest.TestCase):
     def setUp(self):
         self.folder = tempfile.mkdtemp()
         os.chmod(self.folder, 0o755)
+        # Last comes first: a folder that a test has shut is opened, and then all is removed.
         self.addCleanup(shutil.rmtree, self.folder)
+        self.addCleanup(subprocess.run, ["chmod", "-R", "u+rwX", self.folder])
 
     def day(self, name="day", question=None):
         """The worked day in a folder; with another question where it is given."""
@@ -187,7 +189,6 @@ class Answered(Case):
         day = self.day()
         os.chmod(day, 0)
         self.assertFails(self.run_in(tree.path + "/chains", day, **self.denied()), 3, "cannot be entered")
-        os.chmod(day, 0o755)
 
     def test_an_answer_that_cannot_be_written(self):
         with open("/dev/full", "w") as full:
@@ -336,7 +337,6 @@ class Built(Case):
         self.shut()
         self.assertFails(self.tree.run(**self.denied()), 6, "has to be built", "a tree/target cannot be written to")
         self.assertEqual([], self.tree.calls())
-        self.open()
 
     def test_a_target_that_cannot_be_written_to(self):
         os.makedirs(self.tree.path + "/target/log")
@@ -427,6 +427,7 @@ class Example(Case):
 
 
 if __name__ == "__main__":
-    names = ["Called", "Answered", "Built", "Changed"]
-    if sys.argv[1:2] == ["example"]: names, Example.command = ["Example"], os.path.abspath(sys.argv.pop(2))
-    unittest.main(argv=sys.argv[:1] + ([] if names == ["Example"] else sys.argv[1:]), defaultTest=names)
+    if sys.argv[1:2] == ["example"]:
+        Example.command = os.path.abspath(sys.argv[2])
+        unittest.main(argv=sys.argv[:1], defaultTest=["Example"])
+    unittest.main(defaultTest=["Called", "Answered", "Built", "Changed"])

@@ -19,7 +19,10 @@ const UNWRITTEN: u8 = 5;
 fn read(folder: &Path, name: &str) -> io::Result<Vec<u8>> {
     match fs::read(folder.join(name)) {
         Err(error) if error.kind() == ErrorKind::NotFound => Ok(Vec::new()),
-        Err(error) => Err(io::Error::new(error.kind(), format!("{name} cannot be read: {error}"))),
+        Err(error) => Err(io::Error::new(
+            error.kind(),
+            format!("{name} cannot be read: {error}"),
+        )),
         bytes => bytes,
     }
 }
@@ -77,6 +80,9 @@ fn main() -> ExitCode {
     };
     match print(&text) {
         Ok(()) => ExitCode::SUCCESS,
-        Err(error) => fail(UNWRITTEN, &format!("standard output cannot be written to: {error}")),
+        Err(error) => fail(
+            UNWRITTEN,
+            &format!("standard output cannot be written to: {error}"),
+        ),
     }
 }

@@ -161,58 +161,44 @@ struct Got {
     readable: bool,
 }
 
-// Does the file end where reading it stopped? A read that fails once more, or that gives a byte, says no.
-fn at_end(fd: i32) -> bool {
+// Did reading stop after n bytes because the buffer was full, or the file at its end? io::read_full stops at a failure too: one more
+// read then fails again or gives a byte, and at the end it gives nothing.
+fn ended(fd: i32, n: usize, most: usize) -> bool {
+    if n == most {
+        return true;
+    }
     let mut next = [0u8; 1];
     libc::read(fd, &mut next) == 0
 }
 
-// Puts the first bytes of an open file into a buffer, or says that it cannot be read. io::read_full stops alike at the end of the file
-// and at a read that fails.
-fn read_open(fd: i32, buf: &mut [u8], failure: &[u8]) -> Got
+// Puts the first bytes of a file into a buffer: none of a file that is missing. The descriptor is what os::open_read answered.
+fn first_bytes(fd: i32, buf: &mut [u8]) -> Got
     ensures { λ r. ⌜ Counts (r .«count») (now (buf .exit)) ⌝ }
 {
+    if fd < 0 {
+        return Got {
+            count: 0,
+            readable: os::errno() == libc::ENOENT,
+        };
+    }
     let n = io::read_full(fd, buf);
-    if n == buf.len() {
-        return Got {
-            count: n,
-            readable: true,
-        };
-    }
-    if at_end(fd) {
-        return Got {
-            count: n,
-            readable: true,
-        };
-    }
-    os::fail(failure);
     Got {
         count: n,
-        readable: false,
+        readable: ended(fd, n, buf.len()),
     }
 }
 
-// Puts the first bytes of a file into a buffer, none where there is no such file, or says that it cannot be read.
+// Puts the first bytes of a file into a buffer, or says that it cannot be read. Of a file that was not opened, nothing is closed.
 fn read_file(name: &[u8], buf: &mut [u8], failure: &[u8]) -> Got
     ensures { λ r. ⌜ Counts (r .«count») (now (buf .exit)) ⌝ }
 {
     let fd = os::open_read(name);
-    if fd >= 0 {
-        let got = read_open(fd, buf, failure);
-        libc::close(fd);
-        return got;
+    let got = first_bytes(fd, buf);
+    if !got.readable {
+        os::fail(failure);
     }
-    if os::errno() == libc::ENOENT {
-        return Got {
-            count: 0,
-            readable: true,
-        };
-    }
-    os::fail(failure);
-    Got {
-        count: 0,
-        readable: false,
-    }
+    libc::close(fd);
+    got
 }
 
 // Prints the line for a record and a question, or says that it cannot be written.
