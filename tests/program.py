@@ -6,6 +6,7 @@ python3 tests/program.py                    the program
 python3 tests/program.py example COMMAND    an example that answers as the program does, built before
 
 When to build is tested in a small tree with three crates and an `rt` that only notes how it is called."""
+import fcntl
 import os
 import re
 import shutil
@@ -25,7 +26,6 @@ NOBODY = 65534
 RT = """#!/bin/sh
 echo "$*" >>rt.calls
 echo "notes on $2"
-sleep "$(cat slow 2>/dev/null || echo 0)"
 [ "$(cat refuse 2>/dev/null)" != "$2" ] || exit 1
 [ "$2" = chains ] || exit 0
 mkdir -p target/bin
@@ -363,14 +363,20 @@ class Built(Case):
         self.assertIn("ended before it had answered", more)
 
     @unittest.skipUnless(shutil.which("flock"), "there is no flock")
-    def test_two_calls_build_once(self):
-        write(self.tree.path + "/slow", "0.2")
-        both = [subprocess.Popen([self.tree.path + "/chains", self.tree.path + "/day"], env=self.tree.env(), text=True,
-                                 stdout=subprocess.PIPE, stderr=subprocess.PIPE) for _ in range(2)]
-        said = [one.communicate() for one in both]
-        self.assertEqual(["none\n"] * 2, [out for out, _ in said])
-        self.assertEqual(sorted([PROGRESS, "waiting for another build\n"]), sorted(err for _, err in said))
-        self.assertEqual(self.ALL, self.tree.calls())
+    def test_two_builds_at_a_time(self):
+        # Another build has the lock, and has made the program when it gives it back.
+        self.tree.built()
+        stamp = read(self.tree.path + "/target/chains.stamp")
+        os.remove(self.tree.path + "/target/chains.stamp")
+        with open(self.tree.path + "/target/lock", "w") as lock:
+            fcntl.flock(lock, fcntl.LOCK_EX)
+            with subprocess.Popen([self.tree.path + "/chains", self.tree.path + "/day"], env=self.tree.env(), text=True,
+                                  stdout=subprocess.PIPE, stderr=subprocess.PIPE) as call:
+                self.assertEqual("waiting for another build\n", call.stderr.readline())
+                write(self.tree.path + "/target/chains.stamp", stamp)
+                fcntl.flock(lock, fcntl.LOCK_UN)
+                self.assertEqual(("none\n", ""), call.communicate())
+        self.assertEqual([], self.tree.calls())
 
 
 class Changed(Case):
