@@ -7,8 +7,13 @@
  */
 #include "chains.h"
 
+#include <errno.h>
 #include <stdio.h>
 #include <stdlib.h>
+#include <string.h>
+
+/* Exit statuses, as those of the program chains. */
+enum { CALLED_WRONGLY = 2, UNREADABLE = 4, UNWRITTEN = 5 };
 
 /* Entries of output that are lent first; a longer chain is asked for once more. */
 enum { FIRST_ENTRIES = 16 };
@@ -25,26 +30,48 @@ static void *room(size_t entries, size_t width)
     void *at = calloc(entries == 0 ? 1 : entries, width);
     if (at == NULL) {
         fputs("worked_day: no memory\n", stderr);
-        exit(2);
+        exit(EXIT_FAILURE);
     }
     return at;
 }
 
-/* The first `most` bytes of a file; a file that cannot be read counts as empty. */
+static void cannot_read(const char *name, int error)
+{
+    fprintf(stderr, "worked_day: %s cannot be read: %s\n", name, strerror(error));
+    exit(UNREADABLE);
+}
+
+/* The first `most` bytes of a file; a missing file counts as empty. */
 static struct bytes read_file(const char *folder, const char *name, size_t most)
 {
     struct bytes file = {room(most, 1), 0};
     char path[4096];
     int length = snprintf(path, sizeof path, "%s/%s", folder, name);
     if (length < 0 || (size_t)length >= sizeof path) {
-        return file;
+        cannot_read(name, ENAMETOOLONG);
     }
     FILE *opened = fopen(path, "rb");
     if (opened != NULL) {
         file.count = fread(file.at, 1, most, opened);
+        if (ferror(opened)) {
+            cannot_read(name, errno);
+        }
         fclose(opened);
+    } else if (errno != ENOENT) {
+        cannot_read(name, errno);
     }
     return file;
+}
+
+/* The exit status: what was printed counts only when all of it is written. */
+static int printed(void)
+{
+    int failed = ferror(stdout);
+    if (fclose(stdout) != 0 || failed) {
+        fputs("worked_day: standard output cannot be written to\n", stderr);
+        return UNWRITTEN;
+    }
+    return 0;
 }
 
 /* Two bytes as a number, the high one first. */
@@ -76,14 +103,14 @@ int main(int argc, char **argv)
 {
     if (argc != 2) {
         fputs("worked_day FOLDER, a folder with day.rec and ask.pat\n", stderr);
-        return 2;
+        return CALLED_WRONGLY;
     }
     /* One byte more than the longest record, so that a longer file is seen to be too long. */
     struct bytes day = read_file(argv[1], "day.rec", CHAINS_LONGEST_RECORD + 1);
     struct bytes ask = read_file(argv[1], "ask.pat", 4096);
     if (ask.count < 4) {
         puts("no question");
-        return 0;
+        return printed();
     }
     uint16_t from = number_at(ask.at);
     uint16_t to = number_at(ask.at + 2);
@@ -116,5 +143,5 @@ int main(int argc, char **argv)
     free(work);
     free(ask.at);
     free(day.at);
-    return 0;
+    return printed();
 }
