@@ -10,20 +10,17 @@ DESTDIR =
 PYTHONDIR = $(PREFIX)/lib/python
 CC = gcc
 
-version := $(shell sed -n 's/^.define CHAINS_VERSION_TEXT "\(.*\)"$$/\1/p' include/chains.h)
+version := $(shell cat VERSION)
 archive := target/staticlib/libexports.a
-sources := crates.txt $(shell find crates -type f \( -name '*.rt' -o -path '*/specs/*.antt' -o -path '*/proofs/*.antt' \))
 
-.PHONY: lib install test
+.PHONY: lib install test FORCE
 
 lib: target/libchains.a target/libchains.so
 
-# The library is proved before it is built: minutes where nothing is proved yet. What the prover notes stays in the log.
-$(archive): $(sources)
-	@mkdir -p target/log
-	@echo "rt staticlib exports: proves the library, for minutes where nothing is proved yet (its notes: target/log/staticlib.out)"
-	@rt staticlib exports >target/log/staticlib.out 2>&1 || { cat target/log/staticlib.out >&2; exit 1; }
-	@touch $@
+# Proved and built where a source file of the library has changed, which is told by hashes and not by times: minutes where nothing is
+# proved yet, with a line for each crate. target/exports.log has what the prover says.
+$(archive): FORCE
+	@tools/changed --run target/exports.stamp exports $@ tools/prove exports target/exports.log staticlib
 
 target/libchains.a: $(archive)
 	cp $(archive) $@

@@ -1,6 +1,5 @@
 /*
- * The chain finder for a sailing day's record: the functions of libchains.a and libchains.so. (target/staticlib/libexports.a is
- * the same archive as it is built.)
+ * The chain finder for a sailing day's record: the functions of libchains.a and libchains.so, which `make lib` builds.
  *
  * A record is a day's written lines; a line has a kind and a boat (class and sail number) and leads from a place to a place. A
  * pattern says which chains of lines are accepted. README.md explains the bytes of both.

@@ -1,13 +1,13 @@
 #!/usr/bin/env python3
-"""Documents for callers: the files and definitions that they name are in the repository, and they cite no document that is not.
+"""Documents: the files and definitions that they name are in the repository, and those for callers cite no document that is not.
 
 Run from the repository's root: python3 tests/documents.py"""
 import glob
 import re
 import sys
 
-NAMING = ["README.md", "docs/TRUST.md", "docs/CHANGES.md"]
-CITING = NAMING + [path for pattern in ("include/*", "rust/src/*", "rust/tests/**/*.rs", "rust/examples/*", "python/*.py", "examples/**/*.[cp]*")
+NAMING = ["README.md", *sorted(glob.glob("docs/*.md"))]
+CITING = [path for pattern in ("README.md", "docs/TRUST.md", "docs/CHANGES.md", "include/*", "rust/src/*", "rust/tests/**/*.rs", "rust/examples/*", "python/*.py", "examples/**/*.[cp]*")
                    for path in glob.glob(pattern, recursive=True)]
 
 

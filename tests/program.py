@@ -2,10 +2,11 @@
 """The program `chains` as its caller meets it: how it is called, what it says where something fails, and when it builds.
 
 Run from the repository's root, after `rt check chains`:
-python3 tests/program.py                    the program
-python3 tests/program.py example COMMAND    an example that answers as the program does, built before
+python3 tests/program.py                     the program
+python3 tests/program.py example COMMAND     an example worked_day, which answers as the program does, built before
+python3 tests/program.py one_boat COMMAND    the example one_boat, built before
 
-When to build is tested in a small tree with three crates and an `rt` that only notes how it is called."""
+When the program and the library are built is tested in a small tree of a few crates and an `rt` that only notes how it is called."""
 import fcntl
 import os
 import re
@@ -22,11 +23,12 @@ DAY = ROOT + "/examples/day"
 NOBODY = 65534
 
 # An rt that notes its calls, says much, refuses the crate that the file `refuse` names, and links a program: a copy of the file
-# `program`, or else one that prints what crates/base/src/lib.rt says.
+# `program`, or else one that prints what crates/base/src/lib.rt says. A library of it has what that file says.
 RT = """#!/bin/sh
 echo "$*" >>rt.calls
 echo "notes on $2"
 [ "$(cat refuse 2>/dev/null)" != "$2" ] || exit 1
+[ "$1" != staticlib ] || { mkdir -p target/staticlib && cp crates/base/src/lib.rt "target/staticlib/lib$2.a"; exit; }
 [ "$2" = chains ] || exit 0
 mkdir -p target/bin
 [ ! -e target/stamp/chains ] || exit 0
@@ -34,7 +36,7 @@ if [ -e program ]; then cp program target/bin/chains
 else { echo '#!/bin/sh'; cat crates/base/src/lib.rt; } >target/bin/chains; fi
 chmod 755 target/bin/chains
 """
-CRATES = "# three crates and another\nbase:\nmiddle: base io\nchains: middle\nother: base\n"
+CRATES = "# three crates and others\nbase:\nmiddle: base io\nchains: middle\nother: base\nexports: middle\n"
 PROGRESS = "proving 1 of 3: base\nproving 2 of 3: middle\nproving 3 of 3: chains\n"
 
 
@@ -53,11 +55,12 @@ def sentences(): return dict(line.split("\t") for line in read(ROOT + "/include/
 
 def setUpModule():
     """The program is built, where it has to be, before the first test looks at what a call says."""
-    if Example.command is None: subprocess.run([CHAINS, DAY], check=True, stdout=subprocess.DEVNULL)
+    if Case.command is None: subprocess.run([CHAINS, DAY], check=True, stdout=subprocess.DEVNULL)
 
 
 class Case(unittest.TestCase):
     """A folder of its own that every user can enter, and runs of a command in it."""
+    command = None  # the example that is tested
 
     def setUp(self):
         self.folder = tempfile.mkdtemp()
@@ -209,9 +212,9 @@ class Tree:
         tree.case, tree.path = case, case.folder + "/a tree"
         write(tree.path + "/bin/rt", RT, 0o755)
         write(tree.path + "/crates.txt", CRATES)
-        for name in ("base", "middle", "chains", "other"): tree.source(name, name)
+        for name in ("base", "middle", "chains", "other", "exports"): tree.source(name, name)
         tree.says("echo none")
-        for name in ("chains", "tools", "VERSION", "include"):
+        for name in ("chains", "tools", "VERSION", "include", "Makefile", "chains.map"):
             if os.path.isdir(ROOT + "/" + name): shutil.copytree(ROOT + "/" + name, tree.path + "/" + name)
             elif os.path.exists(ROOT + "/" + name): shutil.copy(ROOT + "/" + name, tree.path)
         case.day("a tree/day")
@@ -406,16 +409,78 @@ class Changed(Case):
 
     def test_the_crates_of_the_program(self):
         crates = self.run_in(ROOT + "/tools/changed", "--crates", "chains")[1].split()
-        self.assertEqual((17, "meaning", "chains"), (len(crates), crates[0], crates[-1]))
-        self.assertIn("%d crates" % len(crates), read(ROOT + "/README.md"))
+        self.assertEqual(("meaning", "chains"), (crates[0], crates[-1]))
+        self.assertIn("`proving 5 of %d: %s`" % (len(crates), crates[4]), read(ROOT + "/README.md"))
+
+
+class Library(Case):
+    """`make lib`: when the library is built. No compiler is asked."""
+    PROGRESS = PROGRESS.replace("chains", "exports")
+
+    def setUp(self):
+        super().setUp()
+        self.tree = Tree.of(self)
+
+    def make(self): return self.run_in("make", "-s", "-C", self.tree.path, "lib", "CC=true", env=self.tree.env())
+
+    def library(self): return read(self.tree.path + "/target/libchains.a")
+
+    def test_the_first_time(self):
+        self.assertEqual((0, "", self.PROGRESS), self.make())
+        self.assertEqual(["check base", "check middle", "staticlib exports"], self.tree.calls())
+        self.assertEqual("echo none\n", self.library())
+        self.assertEqual("notes on base\nnotes on middle\nnotes on exports\n", read(self.tree.path + "/target/exports.log"))
+
+    def test_nothing_changed(self):
+        self.make()
+        self.tree.calls()
+        # Times of files have no say.
+        os.utime(self.tree.path + "/crates/base/src/lib.rt")
+        os.utime(self.tree.path + "/crates.txt")
+        self.assertEqual((0, "", ""), self.make())
+        self.assertEqual([], self.tree.calls())
+
+    def test_a_change_of_the_sources(self):
+        self.make()
+        self.tree.says("echo found 1: 7")
+        os.utime(self.tree.path + "/crates/base/src/lib.rt", (0, 0))
+        self.assertEqual((0, "", self.PROGRESS), self.make())
+        self.assertEqual("echo found 1: 7\n", self.library())
+
+    def test_a_crate_that_is_not_proved(self):
+        write(self.tree.path + "/refuse", "exports")
+        status, said, more = self.make()
+        self.assertNotEqual(0, status)
+        self.assertIn(self.PROGRESS + "notes on exports\n", more)
+        self.assertFalse(os.path.exists(self.tree.path + "/target/libchains.a"))
+
+
+class Trust(unittest.TestCase):
+    """docs/TRUST.md names the C functions that the program's check assumes, and those alone."""
+
+    def test_the_assumed_functions(self):
+        report = read(ROOT + "/target/log/chains.say")
+        # The report names three of each library at most.
+        reported = {name.rpartition("::")[2] for row in re.findall(r"^axioms \w+: (.*) \(", report, re.M) for name in row.split(", ")}
+        part = re.search(r"\*\*For the program `chains`.*?\n\n", read(ROOT + "/docs/TRUST.md"), re.S)[0]
+        named = set(re.findall(r"`(read|write|close|\w+_\w+)`", part))
+        self.assertEqual(set(), reported - {"..."} - named)
+        self.assertEqual(["axioms=%d" % len(named)], re.findall(r"axioms=\d+", report))
+        self.assertIn("`axioms=%d`" % len(named), part)
+
+    def test_the_library_assumes_none(self):
+        self.assertEqual([], re.findall("axioms", read(ROOT + "/target/exports.log")))
 
 
 class Example(Case):
-    """An example for C or Rust: what it prints, and the same statuses as the program's."""
-    command = None
+    """An example for C, Rust or Python: what it prints, and the same statuses as the program's."""
 
-    def test_the_worked_day(self):
+    def test_answers(self):
         self.assertEqual((0, read(DAY + "/worked_day.txt"), ""), self.run_in(self.command, DAY))
+        self.assertEqual((0, "none\n", ""), self.run_in(self.command, ROOT + "/crates/chains_none/data"))
+        status, said, more = self.run_in(self.command, ROOT + "/crates/chains_damaged/data")
+        self.assertEqual((0, "refused 3\n"), (status, said))
+        self.assertRegex(more, r"\Aworked_day(\.py)?: %s\n\Z" % re.escape(sentences()["3"]))
 
     def test_an_answer_that_cannot_be_written(self):
         with open("/dev/full", "w") as full:
@@ -432,8 +497,23 @@ class Example(Case):
         self.assertFails(self.run_in(self.command), 2, "day.rec and ask.pat")
 
 
+class OneBoat(Case):
+    """The Rust example one_boat: what it prints, and that a failure is a line in words."""
+
+    def test_answers(self):
+        folder = ROOT + "/examples/one_boat"
+        self.assertEqual((0, read(folder + "/by_slip.txt"), ""), self.run_in(self.command, folder + "/day.rec"))
+
+    def test_failures(self):
+        self.assertFails(self.run_in(self.command, ROOT + "/crates/chains_damaged/data/day.rec"), 1, "one_boat: " + sentences()["3"])
+        self.assertFails(self.run_in(self.command, self.folder), 1, "one_boat: Is a directory")
+        self.assertFails(self.run_in(self.command), 1, "one_boat: name a file")
+        with open("/dev/full", "w") as full:
+            self.assertFails(self.run_in(self.command, ROOT + "/examples/one_boat/day.rec", stdout=full), 1, "one_boat: No space left")
+
+
 if __name__ == "__main__":
-    if sys.argv[1:2] == ["example"]:
-        Example.command = os.path.abspath(sys.argv[2])
-        unittest.main(argv=sys.argv[:1], defaultTest=["Example"])
-    unittest.main(defaultTest=["Called", "Answered", "Built", "Changed"])
+    if sys.argv[1:2] in (["example"], ["one_boat"]):
+        Case.command = os.path.abspath(sys.argv[2])
+        unittest.main(argv=sys.argv[:1], defaultTest="Example" if sys.argv[1] == "example" else "OneBoat")
+    unittest.main(defaultTest=["Called", "Answered", "Built", "Changed", "Library", "Trust"])

@@ -1,5 +1,5 @@
 #!/usr/bin/env python3
-"""python/chains.py over target/libchains.so: the worked rows, refusals and their sentences, and the example.
+"""python/chains.py over target/libchains.so: the worked rows, refusals and their sentences, and README's program.
 
     make lib
     python3 tests/python_test.py
@@ -7,7 +7,6 @@
 import re
 import subprocess
 import sys
-import tempfile
 import unittest
 from pathlib import Path
 
@@ -20,7 +19,6 @@ LINES = [(0, 1, 1, 150, 1), (0, 1, 2, 150, 1), (1, 2, 2, 150, 2), (1, 2, 1, 150,
 P = bytes.fromhex("270100 25 220200 25 26 220300 220400")
 S = bytes.fromhex("270100 25 270100 230100 220100")
 NOTHING = b"\x20"
-EXAMPLE = sys.executable, HOME / "examples/python/worked_day.py"
 FOUND = {"PYTHONPATH": str(HOME / "python")}
 
 
@@ -143,29 +141,6 @@ class Module(unittest.TestCase):
         self.assertEqual(len(printed), 4)
         ran = subprocess.run([sys.executable, "-c", program], capture_output=True, text=True, env=FOUND)
         self.assertEqual((ran.stdout, ran.stderr), ("".join(f"{line}\n" for line in printed), ""))
-
-
-class Example(unittest.TestCase):
-    def run_on(self, *folders, **more):
-        ran = subprocess.run([*EXAMPLE, *folders], stderr=subprocess.PIPE, text=True, env=FOUND, **{"stdout": subprocess.PIPE, **more})
-        return ran.returncode, ran.stdout, ran.stderr
-
-    def test_answers(self):
-        self.assertEqual(self.run_on(HOME / "examples/day"), (0, (HOME / "examples/day/worked_day.txt").read_text(), ""))
-        self.assertEqual(self.run_on(HOME / "crates/chains_none/data"), (0, "none\n", ""))
-        refused = 0, "refused 3\n", f"worked_day.py: {chains.SENTENCES[2]}\n"
-        self.assertEqual(self.run_on(HOME / "crates/chains_damaged/data"), refused)
-
-    def test_files(self):
-        self.assertEqual(self.run_on()[0], 2)
-        with tempfile.TemporaryDirectory() as folder:
-            self.assertEqual(self.run_on(folder), (0, "no question\n", ""))
-            Path(folder, "day.rec").mkdir()
-            self.assertEqual(self.run_on(folder), (4, "", "worked_day.py: day.rec cannot be read: Is a directory\n"))
-
-    def test_an_answer_that_cannot_be_written(self):
-        with open("/dev/full", "w") as full:
-            self.assertEqual(self.run_on(HOME / "examples/day", stdout=full)[0], 5)
 
 
 if __name__ == "__main__":

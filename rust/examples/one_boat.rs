@@ -4,10 +4,10 @@
 
 use chains::{Finder, Question, Record};
 use std::io::{stdout, Write};
-use std::{env, error::Error, fs};
+use std::{env, error::Error, fs, process::ExitCode};
 
-fn main() -> Result<(), Box<dyn Error>> {
-    let file = env::args_os().nth(1).ok_or("one_boat FILE, a record")?;
+fn ask() -> Result<(), Box<dyn Error>> {
+    let file = env::args_os().nth(1).ok_or("name a file with a record")?;
     let day = Record::from_bytes(fs::read(file)?)?;
     // A boat entered; then that boat started, rounded, finished.
     let pattern = [0x27, 1, 0, 0x25, 0x22, 2, 0, 0x25, 0x22, 3, 0, 0x22, 4, 0];
@@ -23,4 +23,14 @@ fn main() -> Result<(), Box<dyn Error>> {
         }
     }
     Ok(())
+}
+
+fn main() -> ExitCode {
+    match ask() {
+        Ok(()) => ExitCode::SUCCESS,
+        Err(error) => {
+            eprintln!("one_boat: {error}"); // of a refusal its sentence
+            ExitCode::FAILURE
+        }
+    }
 }

@@ -74,7 +74,7 @@ fn main() -> ExitCode {
     let text = match answer(day, &question) {
         Ok(text) => text,
         Err(refusal) => {
-            eprintln!("{refusal}");
+            eprintln!("worked_day: {refusal}");
             format!("refused {}\n", refusal.number())
         }
     };

@@ -9,7 +9,6 @@
 
 use crate::Line;
 
-#[link(name = "exports", kind = "static")]
 extern "C" {
     fn chains_begin(buf: *mut u8, buf_len: usize, places: u16) -> u64;
     fn chains_add(

@@ -3,7 +3,7 @@
  * helpers that take a reply apart; and chains_message, held to the list of sentences. Prints what fails; the status is 1 if
  * something did.
  *
- *     gcc -std=c11 -Wall -Wextra -Werror -pedantic -Iinclude tests/c/chains_test.c target/staticlib/libexports.a -o target/chains_test
+ *     gcc -std=c11 -Wall -Wextra -Werror -pedantic -Iinclude tests/c/chains_test.c target/libchains.a -o target/chains_test
  *     target/chains_test include/refusals.txt
  */
 #include "chains.h"

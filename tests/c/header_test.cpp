@@ -1,6 +1,6 @@
 // The header from C++: it compiles with every warning, and the functions are linked by their C names.
 //
-//     g++ -std=c++11 -Wall -Wextra -Werror -pedantic -Iinclude tests/c/header_test.cpp target/staticlib/libexports.a -o target/header_test
+//     g++ -std=c++11 -Wall -Wextra -Werror -pedantic -Iinclude tests/c/header_test.cpp target/libchains.a -o target/header_test
 //     target/header_test
 #include "chains.h"
 

@@ -3,7 +3,7 @@
  * stack is CHAINS_STACK bytes with a page below it that nothing may touch. The stack is painted before, so that the test can print
  * how much of it the hungriest call took. A call that needs more ends the program by a signal.
  *
- *     gcc -std=c11 -Wall -Wextra -Werror -pedantic -Iinclude tests/c/stack_test.c target/staticlib/libexports.a -lpthread -o target/stack_test
+ *     gcc -std=c11 -Wall -Wextra -Werror -pedantic -Iinclude tests/c/stack_test.c target/libchains.a -lpthread -o target/stack_test
  *     target/stack_test
  */
 #define _GNU_SOURCE /* MAP_ANONYMOUS */
