@@ -7,8 +7,8 @@ import re
 import sys
 
 NAMING = ["README.md", *sorted(glob.glob("docs/*.md"))]
-CITING = [path for pattern in ("README.md", "docs/TRUST.md", "docs/CHANGES.md", "include/*", "rust/src/*", "rust/tests/**/*.rs", "rust/examples/*", "python/*.py", "examples/**/*.[cp]*")
-                   for path in glob.glob(pattern, recursive=True)]
+CITING = [path for pattern in ("README.md", "docs/TRUST.md", "docs/CHANGES.md", "include/*", "rust/src/*", "rust/tests/**/*.rs", "rust/examples/*",
+                               "python/*.py", "examples/**/*.[cp]*") for path in glob.glob(pattern, recursive=True)]
 
 
 def text(path):
