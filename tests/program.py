@@ -1,7 +1,7 @@
 #!/usr/bin/env python3
 """The program `chains` as its caller meets it: how it is called, what it says where something fails, and when it builds.
 
-Run from the repository's root, after `rt check chains`:
+Run from the repository's root, after `rt check chains` and `make lib`:
 python3 tests/program.py                     the program
 python3 tests/program.py example COMMAND     an example worked_day, which answers as the program does, built before
 python3 tests/program.py one_boat COMMAND    the example one_boat, built before
