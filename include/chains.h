@@ -1,5 +1,5 @@
 /*
- * The chain finder for a sailing day's record: the functions of libexports.a.
+ * The chain finder for a sailing day's record: the functions of libchains.a and libchains.so, which `make lib` builds.
  *
  * A record is a day's written lines; a line has a kind and a boat (class and sail number) and leads from a place to a place. A
  * pattern says which chains of lines are accepted. README.md explains the bytes of both.
@@ -12,7 +12,12 @@
  *
  * Replies. Every function replies with one number of 64 bits: value + 2^32 * number. The number is 0, and the value is then what
  * the function says below; or a question about what was given was answered no, and the number is that question's (1 to 23,
- * enum chains_refusal). A refusal's value is 0, except with 19, where it is the length of the shortest chain.
+ * enum chains_refusal). A refusal's value is 0, except with 19, where it is the length of the shortest chain. chains_length,
+ * chains_needed, chains_written, chains_yes, chains_no, chains_none, chains_found and chains_too_long take a reply apart so that a
+ * refusal is not taken for an answer.
+ *
+ * Stack. A call takes less than 64 KB of the thread's stack (CHAINS_STACK bytes), whatever it is given. The hungriest, chains_find
+ * with 62 repeats inside each other, takes about 47,000 bytes as the library is built.
  *
  * No function fails in another way, whatever bytes and numbers it is given; none allocates, keeps a pointer or has a state, so
  * calls from several threads are safe as long as they do not share a buffer that is written to.
@@ -20,12 +25,17 @@
 #ifndef CHAINS_H
 #define CHAINS_H
 
+#include <stdbool.h>
 #include <stddef.h>
 #include <stdint.h>
 
 #ifdef __cplusplus
 extern "C" {
 #endif
+
+/* The version that this header describes, as chains_version gives it: major * 1,000,000 + minor * 1,000 + patch. */
+#define CHAINS_VERSION 1000000
+#define CHAINS_VERSION_TEXT "1.0.0"
 
 /* The question that was answered no. */
 enum chains_refusal {
@@ -69,6 +79,9 @@ enum chains_refusal {
 /* No record is longer, in bytes: a buffer of this size holds every day. */
 #define CHAINS_LONGEST_RECORD 40964
 
+/* Where so many bytes of the thread's stack are left, they are enough for every call. */
+#define CHAINS_STACK 65536
+
 /* Where chains_read puts the fields of a line. */
 enum chains_field {
     CHAINS_FIELD_FROM = 0,
@@ -78,6 +91,15 @@ enum chains_field {
     CHAINS_FIELD_TO = 4,
     CHAINS_FIELDS = 5 /* how many there are */
 };
+
+/* Where chains_pattern puts the counts of a pattern. */
+enum chains_count {
+    CHAINS_COUNT_COMMANDS = 0,
+    CHAINS_COUNT_KEEPS = 1,
+    CHAINS_COUNTS = 2 /* how many there are */
+};
+
+/* ---- A reply taken apart */
 
 /* The number of a reply: 0 (CHAINS_NOT_REFUSED), or that of the question that was answered no. */
 static inline uint32_t chains_number(uint64_t reply)
@@ -90,6 +112,108 @@ static inline uint32_t chains_value(uint64_t reply)
 {
     return (uint32_t)(reply & UINT32_C(4294967295));
 }
+
+/* Was a question answered no? Every reply of every function below can be asked this. */
+static inline bool chains_refused(uint64_t reply)
+{
+    return chains_number(reply) != CHAINS_NOT_REFUSED;
+}
+
+/* Of chains_begin and chains_add: true, and the record's new length; false, and *length as it was, where refused. */
+static inline bool chains_length(uint64_t reply, size_t *length)
+{
+    if (chains_refused(reply)) {
+        return false;
+    }
+    *length = chains_value(reply);
+    return true;
+}
+
+/* Of chains_words: true, and the words of work area; false, and *words as it was, where refused. */
+static inline bool chains_needed(uint64_t reply, size_t *words)
+{
+    return chains_length(reply, words);
+}
+
+/* Of chains_read and chains_pattern: true where the lent words were written; false where refused, and where too few were lent. */
+static inline bool chains_written(uint64_t reply)
+{
+    return !chains_refused(reply) && chains_value(reply) != 0;
+}
+
+/* Of chains_check: was the answer yes? A refused check is neither yes nor no. */
+static inline bool chains_yes(uint64_t reply)
+{
+    return !chains_refused(reply) && chains_value(reply) == 1;
+}
+
+/* Of chains_check: was the answer no? */
+static inline bool chains_no(uint64_t reply)
+{
+    return !chains_refused(reply) && chains_value(reply) == 0;
+}
+
+/* Of chains_find: is there no accepted chain? A refused find is neither found nor none. */
+static inline bool chains_none(uint64_t reply)
+{
+    return !chains_refused(reply) && chains_value(reply) == CHAINS_NO_CHAIN;
+}
+
+/* Of chains_find: true, and the chain's length, where it was found and stands in the output; else false, and *length as it was. */
+static inline bool chains_found(uint64_t reply, size_t *length)
+{
+    return !chains_none(reply) && chains_length(reply, length);
+}
+
+/* Of chains_find: true, and the chain's length, where the output was too short for it (19); else false, and *length as it was. */
+static inline bool chains_too_long(uint64_t reply, size_t *length)
+{
+    if (chains_number(reply) != CHAINS_OUTPUT_TOO_SMALL) {
+        return false;
+    }
+    *length = chains_value(reply);
+    return true;
+}
+
+/* A refusal's number as a sentence for a results officer, without a capital letter and a full stop. */
+static inline const char *chains_message(uint32_t number)
+{
+    switch (number) {
+    case 0: return "not refused";
+    case 1: return "the day's record is longer than 40,964 bytes";
+    case 2: return "the day's record must begin with its count of places, 1 to 1,024";
+    case 3: return "the day's record breaks off, or has something in it that is neither a line nor the end";
+    case 4: return "the last line of the day's record is cut short";
+    case 5: return "a line is from or to a place that the day's record does not have";
+    case 6: return "a line's kind is not 1 to 15";
+    case 7: return "the day's record goes on after its end";
+    case 8: return "the pattern breaks off, or has something in it that is not a command";
+    case 9: return "the pattern has more than 63 commands";
+    case 10: return "the pattern breaks off before a command's kind or slot";
+    case 11: return "the pattern has a kind that is not 1 to 15, or a slot that is not 0 to 3";
+    case 12: return "the pattern compares a boat with that of a slot, but no keep around it keeps a boat there";
+    case 13: return "the pattern has more than three keeps inside each other";
+    case 14: return "the pattern goes on after it is complete";
+    case 15: return "one of the two places asked about is not in the day's record";
+    case 16: return "the search would be too large: the day has too many places and boats for so long a pattern with so many keeps inside each other";
+    case 17: return "the work area is too small for this day and pattern";
+    case 18: return "a line is named that the day's record does not have";
+    case 19: return "there is a chain, but the output is too short for it";
+    case 20: return "the day's record is said to be longer than its buffer";
+    case 21: return "the sail number is not below 16,777,216";
+    case 22: return "the day's record is full: it has 4,096 lines";
+    case 23: return "the buffer has no room for the day's record after this";
+    default: return "this number is not that of a refusal";
+    }
+}
+
+/* ---- The functions */
+
+/*
+ * The library's version: major * 1,000,000 + minor * 1,000 + patch. It is CHAINS_VERSION where header and library belong together.
+ * No refusals: the whole reply is the version.
+ */
+uint64_t chains_version(void);
 
 /*
  * Begins a record of so many places, with no lines.
@@ -120,6 +244,16 @@ uint64_t chains_add(uint8_t *buf, size_t buf_len, size_t len, uint16_t from, uin
  * 0 and a refusal leave it untouched.
  */
 uint64_t chains_read(const uint8_t *rec, size_t rec_len, uint16_t line, uint32_t *fields, size_t fields_len);
+
+/*
+ * Reads a pattern: how many commands it has, and how deep its keeps are nested at most.
+ *
+ * Value: 2; or 0 where counts_len is below 2, which is no refusal.
+ * Refusals: 8 to 14. They come before the count of words is looked at.
+ * pat: only read. counts: commands (1 to 63) and keeps (0 to 3) are written to the first two words; all other words stay. A value
+ * of 0 and a refusal leave it untouched.
+ */
+uint64_t chains_pattern(const uint8_t *pat, size_t pat_len, uint32_t *counts, size_t counts_len);
 
 /*
  * How many words of 32 bits chains_check and chains_find need as their work area, for this record and this pattern.

@@ -34,8 +34,13 @@ KEPT = {
     "chains_short": (None, question(0, 3, P)[:3]),
 }
 
+def boats(n): return record(4, *[(a, k, 1, i, b) for a, k, b in ((0, 1, 1), (1, 2, 2), (2, 4, 3)) for i in range(n)])
+
+
 LONG = [1, 4, 0] + line(0, 1, 1, 1, 1) * 4096
 TIMES = [0x25, 0x21, 3] * 31
+# Entered, that boat started, another or the same finished, and roundings of the two.
+TWO_KEEPS = [0x27, 1, 0, 0x25, 0x22, 2, 0, 0x27, 4, 1, 0x26, 0x24, 0x22, 3, 0, 0x22, 3, 1]
 OTHERS = {
     "area too small": (R, question(0, 3, [0x27, 1, 1, 0x27, 1, 2] + P)),
     "seventh line": (record(4, *(R_LINES + [(2, 4, 1, 150, 3)])), question(0, 3, P)),
@@ -48,6 +53,11 @@ OTHERS = {
     "no files": (None, None),
     "three bytes": (R, question(0, 3, P)[:3]),
     "four bytes": (R, question(0, 3, [])),
+    "63 boats, search size 2,048": (boats(63), question(0, 3, P)),
+    "64 boats, search size 2,080": (boats(64), question(0, 3, P)),
+    "32 places, 63 commands, search size 2,048": (record(32, (0, 3, 1, 7, 0), (0, 4, 1, 7, 31)), question(0, 31, TIMES + [0x21, 4])),
+    "6 boats, two keeps, search size 1,764": (boats(6), question(0, 3, TWO_KEEPS)),
+    "7 boats, two keeps, search size 2,304": (boats(7), question(0, 3, TWO_KEEPS)),
     "31 laps and home": (LAPS, question(0, 1, TIMES + [0x21, 4])),
     "4,096 lines": (LONG + [0], question(0, 1, [0x21, 1])),
     "4,096 lines and no end": (LONG, question(0, 1, [0x21, 1])),
@@ -92,5 +102,6 @@ def run():
     sys.exit(failed > 0)
 
 
-if sys.argv[1] == "write": write(sys.argv[2])
-else: run()
+if __name__ == "__main__":
+    if sys.argv[1] == "write": write(sys.argv[2])
+    else: run()

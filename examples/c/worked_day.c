@@ -2,13 +2,18 @@
  * The grounds for a place in the results, from C: reads a folder's day.rec (the record) and ask.pat (from and to, two bytes each,
  * then the pattern), finds the first shortest chain and prints it, and then each of its lines.
  *
- *     gcc -std=c11 -Wall -Wextra -Werror -pedantic -Iinclude examples/c/worked_day.c target/staticlib/libexports.a -o target/worked_day
+ *     gcc -std=c11 -Wall -Wextra -Werror -pedantic -Iinclude examples/c/worked_day.c target/libchains.a -o target/worked_day
  *     target/worked_day examples/day
  */
 #include "chains.h"
 
+#include <errno.h>
 #include <stdio.h>
 #include <stdlib.h>
+#include <string.h>
+
+/* Exit statuses, as those of the program chains. */
+enum { CALLED_WRONGLY = 2, UNREADABLE = 4, UNWRITTEN = 5 };
 
 /* Entries of output that are lent first; a longer chain is asked for once more. */
 enum { FIRST_ENTRIES = 16 };
@@ -25,26 +30,48 @@ static void *room(size_t entries, size_t width)
     void *at = calloc(entries == 0 ? 1 : entries, width);
     if (at == NULL) {
         fputs("worked_day: no memory\n", stderr);
-        exit(2);
+        exit(EXIT_FAILURE);
     }
     return at;
 }
 
-/* The first `most` bytes of a file; a file that cannot be read counts as empty. */
+static void cannot_read(const char *name, int error)
+{
+    fprintf(stderr, "worked_day: %s cannot be read: %s\n", name, strerror(error));
+    exit(UNREADABLE);
+}
+
+/* The first `most` bytes of a file; a missing file counts as empty. */
 static struct bytes read_file(const char *folder, const char *name, size_t most)
 {
     struct bytes file = {room(most, 1), 0};
     char path[4096];
     int length = snprintf(path, sizeof path, "%s/%s", folder, name);
     if (length < 0 || (size_t)length >= sizeof path) {
-        return file;
+        cannot_read(name, ENAMETOOLONG);
     }
     FILE *opened = fopen(path, "rb");
     if (opened != NULL) {
         file.count = fread(file.at, 1, most, opened);
+        if (ferror(opened)) {
+            cannot_read(name, errno);
+        }
         fclose(opened);
+    } else if (errno != ENOENT) {
+        cannot_read(name, errno);
     }
     return file;
+}
+
+/* The exit status: what was printed counts only when all of it is written. */
+static int printed(void)
+{
+    int failed = ferror(stdout);
+    if (fclose(stdout) != 0 || failed) {
+        fputs("worked_day: standard output cannot be written to\n", stderr);
+        return UNWRITTEN;
+    }
+    return 0;
 }
 
 /* Two bytes as a number, the high one first. */
@@ -54,17 +81,16 @@ static uint16_t number_at(const uint8_t *at)
 }
 
 /* Prints `found`, the length and the line numbers, and then each line. */
-static void print_chain(struct bytes day, const uint16_t *chain, uint32_t length)
+static void print_chain(struct bytes day, const uint16_t *chain, size_t length)
 {
-    printf("found %u:", (unsigned)length);
-    for (uint32_t i = 0; i < length; i++) {
+    printf("found %zu:", length);
+    for (size_t i = 0; i < length; i++) {
         printf(" %u", (unsigned)chain[i]);
     }
     putchar('\n');
-    for (uint32_t i = 0; i < length; i++) {
+    for (size_t i = 0; i < length; i++) {
         uint32_t field[CHAINS_FIELDS];
-        uint64_t reply = chains_read(day.at, day.count, chain[i], field, CHAINS_FIELDS);
-        if (chains_number(reply) == CHAINS_NOT_REFUSED) {
+        if (chains_written(chains_read(day.at, day.count, chain[i], field, CHAINS_FIELDS))) {
             printf("line %u: from %u, kind %u, class %u, sail number %u, to %u\n", (unsigned)chain[i],
                    (unsigned)field[CHAINS_FIELD_FROM], (unsigned)field[CHAINS_FIELD_KIND], (unsigned)field[CHAINS_FIELD_CLASS],
                    (unsigned)field[CHAINS_FIELD_SAIL], (unsigned)field[CHAINS_FIELD_TO]);
@@ -72,49 +98,56 @@ static void print_chain(struct bytes day, const uint16_t *chain, uint32_t length
     }
 }
 
-int main(int argc, char **argv)
+/* Asks, and prints the answer; ask has four bytes at least. */
+static void print_answer(struct bytes day, struct bytes ask)
 {
-    if (argc != 2) {
-        fputs("worked_day FOLDER, a folder with day.rec and ask.pat\n", stderr);
-        return 2;
-    }
-    /* One byte more than the longest record, so that a longer file is seen to be too long. */
-    struct bytes day = read_file(argv[1], "day.rec", CHAINS_LONGEST_RECORD + 1);
-    struct bytes ask = read_file(argv[1], "ask.pat", 4096);
-    if (ask.count < 4) {
-        puts("no question");
-        return 0;
-    }
     uint16_t from = number_at(ask.at);
     uint16_t to = number_at(ask.at + 2);
     const uint8_t *pattern = ask.at + 4;
     size_t pattern_count = ask.count - 4;
 
     /* Where chains_words refuses, an area of no words is lent: chains_find then asks the same questions, and 15 before 16. */
-    uint64_t needed = chains_words(day.at, day.count, pattern, pattern_count);
-    size_t words = chains_number(needed) == CHAINS_NOT_REFUSED ? chains_value(needed) : 0;
+    size_t words = 0;
+    chains_needed(chains_words(day.at, day.count, pattern, pattern_count), &words);
     uint32_t *work = room(words, sizeof *work);
 
     size_t entries = FIRST_ENTRIES;
     uint16_t *chain = room(entries, sizeof *chain);
     uint64_t reply = chains_find(day.at, day.count, pattern, pattern_count, from, to, work, words, chain, entries);
-    if (chains_number(reply) == CHAINS_OUTPUT_TOO_SMALL) {
-        entries = chains_value(reply);
+    if (chains_too_long(reply, &entries)) {
         free(chain);
         chain = room(entries, sizeof *chain);
         reply = chains_find(day.at, day.count, pattern, pattern_count, from, to, work, words, chain, entries);
     }
 
-    if (chains_number(reply) != CHAINS_NOT_REFUSED) {
-        printf("refused %u\n", (unsigned)chains_number(reply));
-    } else if (chains_value(reply) == CHAINS_NO_CHAIN) {
+    size_t length = 0;
+    if (chains_found(reply, &length)) {
+        print_chain(day, chain, length);
+    } else if (chains_none(reply)) {
         puts("none");
     } else {
-        print_chain(day, chain, chains_value(reply));
+        fprintf(stderr, "worked_day: %s\n", chains_message(chains_number(reply)));
+        printf("refused %u\n", (unsigned)chains_number(reply));
     }
     free(chain);
     free(work);
+}
+
+int main(int argc, char **argv)
+{
+    if (argc != 2) {
+        fputs("worked_day FOLDER, a folder with day.rec and ask.pat\n", stderr);
+        return CALLED_WRONGLY;
+    }
+    /* One byte more than the longest record, so that a longer file is seen to be too long. */
+    struct bytes day = read_file(argv[1], "day.rec", CHAINS_LONGEST_RECORD + 1);
+    struct bytes ask = read_file(argv[1], "ask.pat", 4096);
+    if (ask.count < 4) {
+        puts("no question");
+    } else {
+        print_answer(day, ask);
+    }
     free(ask.at);
     free(day.at);
-    return 0;
+    return printed();
 }

@@ -4,7 +4,7 @@
 
 use crate::compare::{self, shown};
 use crate::generator::{dirt, dirty_bytes, dirty_entries};
-use crate::library::{Ask, Library};
+use crate::library::{pattern_values, Ask, Library};
 use crate::random::Random;
 use crate::record::{read_record, written, Line, LONGEST, MOST_LINES};
 use crate::request::{self, refused, search_size, FindReply, NO_CHAIN};
@@ -47,6 +47,7 @@ pub const ALL: &[Case] = &[
     case("V11: a chain of 92,400 lines", vector_11),
     case("the largest size, found and none", largest),
     case("001, Proposition 3", proposition_3),
+    case("a pattern's counts", pattern_counts),
 ];
 
 /// A library, and the calls that the cases are made of.
@@ -71,6 +72,29 @@ impl Bench<'_> {
     fn words(&self, rec: &[u8], pat: &[u8], expected: u64) -> Done {
         let got = compare::words(self.library, rec, pat)?;
         expect(&format!("words of {rec:02x?}, {pat:02x?}"), got, expected)
+    }
+
+    /// The counts of a pattern, or its refusal, with room for them, too little and more.
+    fn pattern(&self, pat: &[u8], expected: Result<[u32; 2], u8>) -> Done {
+        let mut random = Random::new(pat.len() as u64);
+        for words in [2, 1, 0, 4] {
+            let lent = dirt(&mut random, words);
+            let got = compare::pattern(self.library, pat, &lent)?;
+            let reply = match expected {
+                Err(number) => refused(number, 0),
+                Ok(_) if words < 2 => 0,
+                Ok(_) => 2,
+            };
+            expect(&format!("counts of {pat:02x?}"), got, reply)?;
+        }
+        let (_, counts) = pattern_values(pat, &[7, 7]);
+        let said = expected.unwrap_or([7, 7]);
+        if counts != said {
+            return Err(format!(
+                "counts of {pat:02x?}: {counts:?}, but the case says {said:?}"
+            ));
+        }
+        Ok(())
     }
 
     fn read(&self, rec: &[u8], number: u16, expected: u64) -> Done {
@@ -1068,4 +1092,26 @@ fn largest(b: &Bench) -> Result<String, String> {
     b.found(ask(&found, &pat, 0, 3), &[0, 10, 2, 0, 63, 64])?;
     b.none(ask(&none, &pat, 0, 3))?;
     Ok(format!("{:?} with the comparison", clock.elapsed()))
+}
+
+/// Commands, and the deepest nesting of keeps; refusals as they come before the room.
+fn pattern_counts(b: &Bench) -> Result<String, String> {
+    let keep = [0x27, 1, 0];
+    let three = [keep, keep, keep].concat();
+    let beside = [&[0x25][..], &keep, &[0x20], &keep, &[0x20]].concat();
+    b.pattern(&[0x20], Ok([1, 0]))?;
+    b.pattern(&P, Ok([7, 1]))?;
+    b.pattern(&S, Ok([5, 2]))?;
+    b.pattern(&repeats(62, &[0x20]), Ok([63, 0]))?;
+    b.pattern(&[&three[..], &[0x20]].concat(), Ok([4, 3]))?;
+    b.pattern(&beside, Ok([5, 1]))?;
+    b.pattern(&[], Err(8))?;
+    b.pattern(&[0x28], Err(8))?;
+    b.pattern(&repeats(63, &[0x20]), Err(9))?;
+    b.pattern(&[0x21], Err(10))?;
+    b.pattern(&[0x21, 0], Err(11))?;
+    b.pattern(&[0x22, 1, 0], Err(12))?;
+    b.pattern(&[&three[..], &keep, &[0x20]].concat(), Err(13))?;
+    b.pattern(&[0x20, 0x20], Err(14))?;
+    ok()
 }

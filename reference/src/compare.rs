@@ -1,7 +1,7 @@
 //! One call of a library compared with this program: the reply, every entry of every
 //! lent buffer, the entries around it, and the bytes that were only to be read.
 
-use crate::library::{read_values, Ask, Library};
+use crate::library::{pattern_values, read_values, Ask, Library};
 use crate::record::{self, Line};
 use crate::request::{self, refused, CheckReply, FindReply};
 use std::fmt::Debug;
@@ -152,6 +152,24 @@ pub fn read(library: &dyn Library, rec: &[u8], number: u16, fields: &[u32]) -> C
                 "read, line {number}, {} fields, record {}: {what}",
                 fields.len(),
                 hex(rec)
+            )
+        })?;
+    Ok(got)
+}
+
+pub fn pattern(library: &dyn Library, pat: &[u8], counts: &[u32]) -> Compared {
+    let (expected, after) = pattern_values(pat, counts);
+    let given = Lent::new(pat, 0xA5);
+    let mut lent = Lent::new(counts, 0xA5A5_A5A5);
+    let got = library.pattern(&given.all[MARGIN..MARGIN + pat.len()], lent.inside());
+    compare_reply(got, expected)
+        .and_then(|()| lent.compare("counts", &after))
+        .and_then(|()| given.compare("pattern", pat))
+        .map_err(|what| {
+            format!(
+                "pattern, {} words, pattern {}: {what}",
+                counts.len(),
+                hex(pat)
             )
         })?;
     Ok(got)

@@ -102,6 +102,10 @@ pub enum Fault {
     OneLineMore,
     ReadsToLine,
     ShortFields,
+    // A pattern's counts.
+    CountsSwapped,
+    ShortCounts,
+    RoomBeforePattern,
 }
 
 /// A fault, in words, and the sorts of rounds that meet it.
@@ -199,6 +203,9 @@ pub const PLANTED: &[Planted] = &[
     planted(OneLineMore, W, "lets a 4,097th line pass 22"),
     planted(ReadsToLine, B, "reads a line back without asking about those after it"),
     planted(ShortFields, BW, "writes fields where fewer than five words are lent"),
+    planted(CountsSwapped, B, "gives keeps before commands"),
+    planted(ShortCounts, B, "writes commands where one word is lent for both counts"),
+    planted(RoomBeforePattern, B, "says 0 for too few words before it asks about the pattern"),
 ];
 
 /// What found a fault, and after how many requests.
@@ -288,6 +295,9 @@ impl Library for Counted {
     }
     fn read(&self, rec: &[u8], number: u16, fields: &mut [u32]) -> u64 {
         self.asked().read(rec, number, fields)
+    }
+    fn pattern(&self, pat: &[u8], counts: &mut [u32]) -> u64 {
+        self.asked().pattern(pat, counts)
     }
     fn words(&self, rec: &[u8], pat: &[u8]) -> u64 {
         self.asked().words(rec, pat)

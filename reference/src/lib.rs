@@ -10,7 +10,7 @@
 //! - `chains`: the first shortest accepted chain, by trying all chains and by a search.
 //! - `request`: every question in order, the replies, and what becomes of lent words.
 //! - `program`: the line that the small program prints.
-//! - `library`: the six functions that scoring software calls, as a trait.
+//! - `library`: the seven functions that scoring software calls, as a trait.
 //! - `compare`, `cases`, `rounds`, `generator`, `random`: a library compared with this one.
 //! - `rows`: the rows of the test program `find_random`.
 //! - `faults`: copies of this program with one fault each, which the comparison must find.

@@ -1,6 +1,7 @@
-//! The six functions that scoring software calls, as a trait: the linked library is one
+//! The seven functions that scoring software calls, as a trait: the linked library is one
 //! of these, and this program is another.
 
+use crate::pattern::read_pattern;
 use crate::record::{self, Line};
 use crate::request::{self, refused};
 
@@ -10,6 +11,7 @@ pub trait Library {
     fn begin(&self, buf: &mut [u8], places: u16) -> u64;
     fn add(&self, buf: &mut [u8], len: usize, line: Line) -> u64;
     fn read(&self, rec: &[u8], number: u16, fields: &mut [u32]) -> u64;
+    fn pattern(&self, pat: &[u8], counts: &mut [u32]) -> u64;
     fn words(&self, rec: &[u8], pat: &[u8]) -> u64;
     fn check(&self, ask: Ask, chain: &[u16], work: &mut [u32]) -> u64;
     fn find(&self, ask: Ask, work: &mut [u32], out: &mut [u16]) -> u64;
@@ -24,7 +26,7 @@ pub struct Ask<'a> {
     pub to: u16,
 }
 
-/// This program behind the same six functions.
+/// This program behind the same seven functions.
 pub struct Own;
 
 impl Library for Own {
@@ -39,6 +41,12 @@ impl Library for Own {
     fn read(&self, rec: &[u8], number: u16, fields: &mut [u32]) -> u64 {
         let (reply, after) = read_values(rec, number, fields);
         fields.copy_from_slice(&after);
+        reply
+    }
+
+    fn pattern(&self, pat: &[u8], counts: &mut [u32]) -> u64 {
+        let (reply, after) = pattern_values(pat, counts);
+        counts.copy_from_slice(&after);
         reply
     }
 
@@ -87,6 +95,20 @@ pub fn read_values(rec: &[u8], number: u16, fields: &[u32]) -> (u64, Vec<u32>) {
             ];
             after[..5].copy_from_slice(&values);
             (5, after)
+        }
+    }
+}
+
+/// The reply of reading a pattern, and the counts after it: as with a line's fields, the
+/// questions come first, and fewer than two words get nothing.
+pub fn pattern_values(pat: &[u8], counts: &[u32]) -> (u64, Vec<u32>) {
+    let mut after = counts.to_vec();
+    match read_pattern(pat) {
+        Err(number) => (refused(number, 0), after),
+        Ok(_) if counts.len() < 2 => (0, after),
+        Ok(pattern) => {
+            after[..2].copy_from_slice(&[pattern.commands as u32, pattern.keeps as u32]);
+            (2, after)
         }
     }
 }

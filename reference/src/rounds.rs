@@ -21,15 +21,18 @@ pub const SORTS: [(&str, Round); 4] = [
     ("finds", find),
 ];
 
-/// Records and patterns of any bytes: words, and one line read back.
+/// Records and patterns of any bytes: words, one line read back, and the pattern's counts.
 pub fn bytes(library: &dyn Library, random: &mut Random) -> Replies {
     let (rec, pat) = any_bytes(random);
     let number = random.pick(&[0, 1, 2, 7, 65_535]);
     let lent = random.pick(&[5, 5, 5, 4, 0, 6, 9]);
     let fields = dirt(random, lent);
+    let lent = random.pick(&[2, 2, 1, 0, 3, 5]);
+    let counts = dirt(random, lent);
     Ok(vec![
         compare::words(library, &rec, &pat)?,
         compare::read(library, &rec, number, &fields)?,
+        compare::pattern(library, &pat, &counts)?,
     ])
 }
 

@@ -5,19 +5,32 @@
 //!     cargo run --example worked_day -- ../examples/day
 
 use chains::{Finder, Question, Record, Refusal};
+use std::io::{self, ErrorKind, Write};
 use std::path::Path;
 use std::process::ExitCode;
 use std::{env, fs};
 
-/// A file that cannot be read counts as empty.
-fn read(folder: &Path, name: &str) -> Vec<u8> {
-    fs::read(folder.join(name)).unwrap_or_default()
+// Exit statuses, as those of the program chains.
+const CALLED_WRONGLY: u8 = 2;
+const UNREADABLE: u8 = 4;
+const UNWRITTEN: u8 = 5;
+
+/// The bytes of a file; a missing file counts as empty.
+fn read(folder: &Path, name: &str) -> io::Result<Vec<u8>> {
+    match fs::read(folder.join(name)) {
+        Err(error) if error.kind() == ErrorKind::NotFound => Ok(Vec::new()),
+        Err(error) => Err(io::Error::new(
+            error.kind(),
+            format!("{name} cannot be read: {error}"),
+        )),
+        bytes => bytes,
+    }
 }
 
-fn print_answer(day: Vec<u8>, question: &[u8]) -> Result<(), Refusal> {
+/// The answer, as the lines to print.
+fn answer(day: Vec<u8>, question: &[u8]) -> Result<String, Refusal> {
     let &[from_high, from_low, to_high, to_low, ref pattern @ ..] = question else {
-        println!("no question");
-        return Ok(());
+        return Ok("no question\n".to_string());
     };
     let day = Record::from_bytes(day)?;
     let mut finder = Finder::new();
@@ -28,26 +41,48 @@ fn print_answer(day: Vec<u8>, question: &[u8]) -> Result<(), Refusal> {
         to: u16::from_be_bytes([to_high, to_low]),
     })?;
     let Some(chain) = found else {
-        println!("none");
-        return Ok(());
+        return Ok("none\n".to_string());
     };
     let numbers: String = chain.iter().map(|number| format!(" {number}")).collect();
-    println!("found {}:{numbers}", chain.len());
+    let mut text = format!("found {}:{numbers}\n", chain.len());
     for &number in chain {
-        println!("line {number}: {}", day.line(number)?);
+        text += &format!("line {number}: {}\n", day.line(number)?);
     }
-    Ok(())
+    Ok(text)
+}
+
+fn print(text: &str) -> io::Result<()> {
+    let mut out = io::stdout().lock();
+    out.write_all(text.as_bytes())?;
+    out.flush()
+}
+
+fn fail(status: u8, sentence: &str) -> ExitCode {
+    eprintln!("worked_day: {sentence}");
+    ExitCode::from(status)
 }
 
 fn main() -> ExitCode {
     let Some(folder) = env::args_os().nth(1) else {
-        eprintln!("worked_day FOLDER, a folder with day.rec and ask.pat");
-        return ExitCode::from(2);
+        return fail(CALLED_WRONGLY, "name a folder with day.rec and ask.pat");
     };
     let folder = Path::new(&folder);
-    if let Err(refusal) = print_answer(read(folder, "day.rec"), &read(folder, "ask.pat")) {
-        println!("refused {}", refusal.number());
-        eprintln!("{refusal}");
+    let (day, question) = match (read(folder, "day.rec"), read(folder, "ask.pat")) {
+        (Ok(day), Ok(question)) => (day, question),
+        (Err(error), _) | (_, Err(error)) => return fail(UNREADABLE, &error.to_string()),
+    };
+    let text = match answer(day, &question) {
+        Ok(text) => text,
+        Err(refusal) => {
+            eprintln!("worked_day: {refusal}");
+            format!("refused {}\n", refusal.number())
+        }
+    };
+    match print(&text) {
+        Ok(()) => ExitCode::SUCCESS,
+        Err(error) => fail(
+            UNWRITTEN,
+            &format!("standard output cannot be written to: {error}"),
+        ),
     }
-    ExitCode::SUCCESS
 }

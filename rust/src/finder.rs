@@ -16,6 +16,33 @@ pub struct Question<'a> {
     pub to: u16,
 }
 
+impl<'a> Question<'a> {
+    /// A question about a [`Record`](crate::Record), a [`RecordIn`](crate::RecordIn) or a
+    /// record's bytes.
+    ///
+    /// ```
+    /// use chains::{Finder, Question, Record};
+    ///
+    /// let day = Record::begin(2)?;
+    /// let question = Question::about(&day, &[0x21, 1], 0, 1);
+    /// assert_eq!(Finder::new().find(&question)?, None);
+    /// # Ok::<(), chains::Refusal>(())
+    /// ```
+    pub fn about<R: AsRef<[u8]> + ?Sized>(
+        record: &'a R,
+        pattern: &'a [u8],
+        from: u16,
+        to: u16,
+    ) -> Question<'a> {
+        Question {
+            record: record.as_ref(),
+            pattern,
+            from,
+            to,
+        }
+    }
+}
+
 /// Finds and checks chains.
 ///
 /// It has the work area and the output that the library wants to be lent. Both grow when a
@@ -27,8 +54,8 @@ pub struct Question<'a> {
 ///
 /// let mut day = Record::begin(2)?;
 /// day.add(Line { from: 0, kind: 1, class: 2, sail: 150, to: 1 })?;
-/// // One line of kind 1.
-/// let question = Question { record: day.bytes(), pattern: &[0x21, 1], from: 0, to: 1 };
+/// // One line of kind 1, from place 0 to place 1.
+/// let question = Question::about(&day, &[0x21, 1], 0, 1);
 /// let mut finder = Finder::new();
 /// assert_eq!(finder.find(&question)?, Some(&[0][..]));
 /// assert!(finder.check(&question, &[0])?);
@@ -54,6 +81,9 @@ impl Finder {
     /// [`lent::words`] says. Nor does 19: where the output is too short for the chain, it is
     /// made long enough and the library is asked once more. A `Finder` that meets a chain
     /// longer than any before thus searches twice.
+    ///
+    /// The chain is lent from the finder's own output, until the finder is used again;
+    /// [`Finder::find_owned`] gives one to keep.
     pub fn find(&mut self, question: &Question) -> Result<Option<&[u16]>, Refusal> {
         let mut reply = self.find_once(question);
         if let FindReply::Refused(Refusal::OutputTooSmall { length }) = reply {
@@ -65,6 +95,24 @@ impl Finder {
             FindReply::NoChain => Ok(None),
             FindReply::Refused(refusal) => Err(refusal),
         }
+    }
+
+    /// As [`Finder::find`], with a chain of the caller's own: it can go to [`Finder::check`] of
+    /// the same finder, and be kept while other questions are asked.
+    ///
+    /// ```
+    /// use chains::{Finder, Line, Question, Record};
+    ///
+    /// let mut day = Record::begin(2)?;
+    /// day.add(Line { from: 0, kind: 1, class: 2, sail: 150, to: 1 })?;
+    /// let question = Question::about(&day, &[0x21, 1], 0, 1);
+    /// let mut finder = Finder::new();
+    /// let chain = finder.find_owned(&question)?.expect("line 0");
+    /// assert!(finder.check(&question, &chain)?);
+    /// # Ok::<(), chains::Refusal>(())
+    /// ```
+    pub fn find_owned(&mut self, question: &Question) -> Result<Option<Vec<u16>>, Refusal> {
+        Ok(self.find(question)?.map(<[u16]>::to_vec))
     }
 
     fn find_once(&mut self, question: &Question) -> FindReply {

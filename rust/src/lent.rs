@@ -2,13 +2,32 @@
 //! each, and an enum for each sort of reply. Nothing is allocated.
 //!
 //! What becomes of each lent buffer is said with each function. [`Record`](crate::Record)
-//! and [`Finder`](crate::Finder) do the lending for you.
+//! and [`Finder`](crate::Finder) do the lending for you. A later version may add cases to a
+//! reply, so a `match` needs an arm for the rest.
+//!
+//! ```
+//! use chains::lent::{self, FindReply, PatternReply, WordsReply};
+//!
+//! let day = [1, 0, 2, 2, 0, 0, 1, 2, 0, 0, 150, 0, 1, 0]; // two places, one line
+//! let pattern = [0x21, 1];
+//! let PatternReply::Counts(counts) = lent::pattern(&pattern) else { panic!("refused") };
+//! assert_eq!((counts.commands, counts.keeps), (1, 0));
+//! let WordsReply::Words(words) = lent::words(&day, &pattern) else { panic!("refused") };
+//! let (mut work, mut out) = (vec![0; words], [0; 8]);
+//! match lent::find(&day, &pattern, 0, 1, &mut work, &mut out) {
+//!     FindReply::Found(length) => assert_eq!(out[..length], [0]),
+//!     FindReply::NoChain => println!("none"),
+//!     FindReply::Refused(refusal) => println!("refused {}: {refusal}", refusal.number()),
+//!     _ => println!("a reply of a later version"),
+//! }
+//! ```
 
-use crate::{linked, Line, Refusal};
+use crate::{linked, Counts, Line, Refusal};
 
 /// The reply of [`begin`] and [`add`].
 #[derive(Clone, Copy, PartialEq, Eq, Debug)]
 #[must_use]
+#[non_exhaustive]
 pub enum WriteReply {
     /// The record's new length in bytes.
     Length(usize),
@@ -19,6 +38,7 @@ pub enum WriteReply {
 /// The reply of [`read`].
 #[derive(Clone, Copy, PartialEq, Eq, Debug)]
 #[must_use]
+#[non_exhaustive]
 pub enum LineReply {
     /// The line.
     Line(Line),
@@ -26,9 +46,21 @@ pub enum LineReply {
     Refused(Refusal),
 }
 
+/// The reply of [`pattern`].
+#[derive(Clone, Copy, PartialEq, Eq, Debug)]
+#[must_use]
+#[non_exhaustive]
+pub enum PatternReply {
+    /// The pattern passes, and has so many commands and keeps.
+    Counts(Counts),
+    /// A question was answered no.
+    Refused(Refusal),
+}
+
 /// The reply of [`words`].
 #[derive(Clone, Copy, PartialEq, Eq, Debug)]
 #[must_use]
+#[non_exhaustive]
 pub enum WordsReply {
     /// How many words of work area are needed.
     Words(usize),
@@ -39,6 +71,7 @@ pub enum WordsReply {
 /// The reply of [`check`].
 #[derive(Clone, Copy, PartialEq, Eq, Debug)]
 #[must_use]
+#[non_exhaustive]
 pub enum CheckReply {
     /// The chain leads from the first place to the second, and the pattern accepts it.
     Yes,
@@ -51,6 +84,7 @@ pub enum CheckReply {
 /// The reply of [`find`].
 #[derive(Clone, Copy, PartialEq, Eq, Debug)]
 #[must_use]
+#[non_exhaustive]
 pub enum FindReply {
     /// The first shortest chain has so many lines; they stand at the front of the output.
     Found(usize),
@@ -113,6 +147,20 @@ pub fn read(record: &[u8], number: u16) -> LineReply {
             })
         }
         Err(refusal) => LineReply::Refused(refusal),
+    }
+}
+
+/// Reads a pattern: the count of its commands, and its deepest nesting of keeps.
+///
+/// Refusals: 8 to 14.
+pub fn pattern(pattern: &[u8]) -> PatternReply {
+    let mut counts = [0u32; 2];
+    match taken_apart(linked::pattern(pattern, &mut counts)) {
+        Ok(_) => {
+            let [commands, keeps] = counts;
+            PatternReply::Counts(Counts { commands, keeps })
+        }
+        Err(refusal) => PatternReply::Refused(refusal),
     }
 }
 

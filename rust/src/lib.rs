@@ -5,23 +5,55 @@
 //! gives the shortest accepted chain between two places: the grounds for a place in the
 //! results. The repository's README explains the bytes of records and patterns.
 //!
-//! - [`Record`] grows with its lines; [`RecordIn`] stands in a buffer that is given.
+//! - [`Record`] grows with its lines and can be asked directly; [`RecordIn`] stands in a buffer
+//!   that is given.
+//! - [`read_pattern`] tests a pattern before there is a record.
 //! - [`Finder`] finds and checks chains, and keeps its buffers between requests.
 //! - [`Refusal`] says why a request was refused, in words.
 //! - [`lent`] has the library's functions as they are, on buffers that you lend.
 //!
-//! What the library replies is proved. This crate adds no answer of its own: it lends buffers
-//! of the right size and takes replies apart. All of its `unsafe` stands in one module.
+//! ```
+//! use chains::{Line, Record};
 //!
-//! `cargo run --example worked_day -- ../examples/day` prints document 01's worked day.
+//! let mut day = Record::begin(3)?;
+//! day.add(Line { from: 0, kind: 1, class: 2, sail: 150, to: 1 })?;
+//! day.add(Line { from: 1, kind: 4, class: 2, sail: 150, to: 2 })?;
+//! // A boat entered, and then that boat finished.
+//! let pattern = [0x27, 1, 0, 0x22, 4, 0];
+//! if let Some(chain) = day.find(&pattern, 0, 2)? {
+//!     for number in chain {
+//!         println!("line {number}: {}", day.line(number)?);
+//!     }
+//! }
+//! # assert_eq!(day.find(&pattern, 0, 2)?, Some(vec![0, 1]));
+//! # Ok::<(), chains::Refusal>(())
+//! ```
+//!
+//! What the library replies is proved. This crate adds one answer of its own: `lines` of a record
+//! that has passed the library's questions takes the lines' bytes apart in Rust. Everything else
+//! lends buffers of the right size and takes replies apart. All `unsafe` stands in one module.
+//!
+//! `cargo run --example worked_day -- ../examples/day` prints the grounds that README's worked
+//! day has.
 #![deny(unsafe_code)]
 
 mod finder;
 pub mod lent;
 mod linked;
+mod pattern;
 mod record;
 mod refusal;
 
 pub use finder::{Finder, Question};
-pub use record::{Line, Record, RecordIn};
+pub use pattern::{read_pattern, Counts};
+pub use record::{Line, Lines, Record, RecordIn};
 pub use refusal::Refusal;
+
+/// The version of the library that is linked: 1,000,000 × major + 1,000 × minor + patch.
+///
+/// ```
+/// assert_eq!(chains::version() / 1_000_000, 1);
+/// ```
+pub fn version() -> u64 {
+    linked::version()
+}

@@ -9,7 +9,6 @@
 
 use crate::Line;
 
-#[link(name = "exports", kind = "static")]
 extern "C" {
     fn chains_begin(buf: *mut u8, buf_len: usize, places: u16) -> u64;
     fn chains_add(
@@ -29,6 +28,7 @@ extern "C" {
         fields: *mut u32,
         fields_len: usize,
     ) -> u64;
+    fn chains_pattern(pat: *const u8, pat_len: usize, counts: *mut u32, counts_len: usize) -> u64;
     fn chains_words(rec: *const u8, rec_len: usize, pat: *const u8, pat_len: usize) -> u64;
     fn chains_check(
         rec: *const u8,
@@ -54,6 +54,7 @@ extern "C" {
         out: *mut u16,
         out_len: usize,
     ) -> u64;
+    fn chains_version() -> u64;
 }
 
 pub fn begin(buf: &mut [u8], places: u16) -> u64 {
@@ -62,6 +63,8 @@ pub fn begin(buf: &mut [u8], places: u16) -> u64 {
 }
 
 pub fn add(buf: &mut [u8], len: usize, line: Line) -> u64 {
+    #[cfg(test)]
+    counted::one_more();
     let Line {
         from,
         kind,
@@ -86,6 +89,8 @@ pub fn add(buf: &mut [u8], len: usize, line: Line) -> u64 {
 }
 
 pub fn read(record: &[u8], number: u16, fields: &mut [u32]) -> u64 {
+    #[cfg(test)]
+    counted::one_more();
     // SAFETY: pointers and lengths of slices, the second borrowed for writing.
     unsafe {
         chains_read(
@@ -94,6 +99,18 @@ pub fn read(record: &[u8], number: u16, fields: &mut [u32]) -> u64 {
             number,
             fields.as_mut_ptr(),
             fields.len(),
+        )
+    }
+}
+
+pub fn pattern(pattern: &[u8], counts: &mut [u32]) -> u64 {
+    // SAFETY: pointers and lengths of slices, the second borrowed for writing.
+    unsafe {
+        chains_pattern(
+            pattern.as_ptr(),
+            pattern.len(),
+            counts.as_mut_ptr(),
+            counts.len(),
         )
     }
 }
@@ -157,5 +174,29 @@ pub fn find(
             out.as_mut_ptr(),
             out.len(),
         )
+    }
+}
+
+pub fn version() -> u64 {
+    // SAFETY: it is lent nothing.
+    unsafe { chains_version() }
+}
+
+/// The crate's own tests count the calls of functions that read a record, to see what costs one.
+#[cfg(test)]
+pub mod counted {
+    use std::cell::Cell;
+
+    thread_local! {
+        static CALLS: Cell<usize> = const { Cell::new(0) };
+    }
+
+    /// How many times this thread has called [`super::read`] and [`super::add`].
+    pub fn calls() -> usize {
+        CALLS.get()
+    }
+
+    pub fn one_more() {
+        CALLS.set(CALLS.get() + 1);
     }
 }

@@ -1,8 +1,10 @@
 //! Records: one that grows, and one in a buffer that is given.
 
 use crate::lent::{self, LineReply, WriteReply};
-use crate::Refusal;
+use crate::{Finder, Question, Refusal};
 use std::fmt;
+use std::iter::FusedIterator;
+use std::slice::ChunksExact;
 
 /// A written line of the day's record.
 #[derive(Clone, Copy, PartialEq, Eq, Hash, Debug)]
@@ -29,6 +31,8 @@ impl fmt::Display for Line {
     }
 }
 
+/// How many bytes stand before the first line.
+const HEAD: usize = 3;
 /// How many bytes a line takes.
 const LINE: usize = 10;
 /// How many bytes a record without lines takes.
@@ -65,6 +69,57 @@ fn line_count(length: usize) -> u16 {
     ((length - EMPTY) / LINE) as u16
 }
 
+/// The lines of a record that has passed questions 1 to 7, by its bytes.
+fn lines_of(record: &[u8]) -> Lines<'_> {
+    // All but the places command and the end byte.
+    Lines(record[HEAD..record.len() - 1].chunks_exact(LINE))
+}
+
+/// The line that ten bytes say: `02`, from, kind, class, sail number, to, the high byte first.
+fn taken_apart(bytes: &[u8]) -> Line {
+    Line {
+        from: u16::from_be_bytes([bytes[1], bytes[2]]),
+        kind: bytes[3],
+        class: bytes[4],
+        sail: u32::from_be_bytes([0, bytes[5], bytes[6], bytes[7]]),
+        to: u16::from_be_bytes([bytes[8], bytes[9]]),
+    }
+}
+
+/// The lines of a record in the order written: [`Record::lines`], [`RecordIn::lines`].
+///
+/// The library reads a whole record anew to give one line. The record has passed its questions
+/// already, so these are taken from the bytes, in Rust, each once. The crate's tests hold them
+/// equal to the library's own.
+#[derive(Clone, Debug)]
+pub struct Lines<'a>(ChunksExact<'a, u8>);
+
+impl Iterator for Lines<'_> {
+    type Item = Line;
+
+    fn next(&mut self) -> Option<Line> {
+        self.0.next().map(taken_apart)
+    }
+
+    fn size_hint(&self) -> (usize, Option<usize>) {
+        self.0.size_hint()
+    }
+
+    fn nth(&mut self, n: usize) -> Option<Line> {
+        self.0.nth(n).map(taken_apart)
+    }
+}
+
+impl DoubleEndedIterator for Lines<'_> {
+    fn next_back(&mut self) -> Option<Line> {
+        self.0.next_back().map(taken_apart)
+    }
+}
+
+impl ExactSizeIterator for Lines<'_> {}
+
+impl FusedIterator for Lines<'_> {}
+
 /// A day's record that grows with its lines.
 ///
 /// ```
@@ -75,6 +130,8 @@ fn line_count(length: usize) -> u16 {
 /// assert_eq!(number, 0);
 /// assert_eq!(day.line(number)?.sail, 150);
 /// assert_eq!(day.bytes().len(), 14);
+/// // Asked directly: one line of kind 1, from place 0 to place 1.
+/// assert_eq!(day.find(&[0x21, 1], 0, 1)?, Some(vec![0]));
 /// # Ok::<(), chains::Refusal>(())
 /// ```
 #[derive(Clone, PartialEq, Eq, Debug)]
@@ -115,8 +172,70 @@ impl Record {
     }
 
     /// How many lines there are; they are numbered from 0.
-    pub fn lines(&self) -> u16 {
+    pub fn line_count(&self) -> u16 {
         line_count(self.bytes.len())
+    }
+
+    /// The lines in the order written, each read once.
+    ///
+    /// ```
+    /// use chains::{Line, Record};
+    ///
+    /// let mut day = Record::begin(2)?;
+    /// let entered = Line { from: 0, kind: 1, class: 2, sail: 150, to: 1 };
+    /// day.add(entered)?;
+    /// day.add(Line { kind: 2, ..entered })?;
+    /// for (number, line) in (0u16..).zip(day.lines()) {
+    ///     println!("line {number}: {line}");
+    /// }
+    /// assert_eq!(day.lines().len(), 2);
+    /// assert_eq!(day.lines().filter(|line| line.kind == 1).count(), 1);
+    /// # Ok::<(), chains::Refusal>(())
+    /// ```
+    pub fn lines(&self) -> Lines<'_> {
+        lines_of(&self.bytes)
+    }
+
+    /// Finds the first shortest chain of lines from the first place to the second that the
+    /// pattern accepts, as [`Finder::find`] does. Refusals: 8 to 16.
+    ///
+    /// For many questions keep a [`Finder`], and with it the work area.
+    ///
+    /// ```
+    /// use chains::{Line, Record};
+    ///
+    /// let mut day = Record::begin(2)?;
+    /// day.add(Line { from: 0, kind: 1, class: 2, sail: 150, to: 1 })?;
+    /// assert_eq!(day.find(&[0x21, 1], 0, 1)?, Some(vec![0]));
+    /// // No line of kind 2.
+    /// assert_eq!(day.find(&[0x21, 2], 0, 1)?, None);
+    /// # Ok::<(), chains::Refusal>(())
+    /// ```
+    pub fn find(&self, pattern: &[u8], from: u16, to: u16) -> Result<Option<Vec<u16>>, Refusal> {
+        Finder::new().find_owned(&Question::about(self, pattern, from, to))
+    }
+
+    /// Does the chain lead from the first place to the second, and does the pattern accept it?
+    /// Refusals: 8 to 16, and 18.
+    ///
+    /// ```
+    /// use chains::{Line, Record, Refusal};
+    ///
+    /// let mut day = Record::begin(2)?;
+    /// day.add(Line { from: 0, kind: 1, class: 2, sail: 150, to: 1 })?;
+    /// assert!(day.check(&[0x21, 1], 0, 1, &[0])?);
+    /// // There is no line 1.
+    /// assert_eq!(day.check(&[0x21, 1], 0, 1, &[1]), Err(Refusal::LineNotThere));
+    /// # Ok::<(), Refusal>(())
+    /// ```
+    pub fn check(
+        &self,
+        pattern: &[u8],
+        from: u16,
+        to: u16,
+        chain: &[u16],
+    ) -> Result<bool, Refusal> {
+        Finder::new().check(&Question::about(self, pattern, from, to), chain)
     }
 
     /// The record's bytes.
@@ -185,8 +304,49 @@ impl<'a> RecordIn<'a> {
     }
 
     /// How many lines there are; they are numbered from 0.
-    pub fn lines(&self) -> u16 {
+    pub fn line_count(&self) -> u16 {
         line_count(self.length)
+    }
+
+    /// The lines in the order written, each read once.
+    ///
+    /// ```
+    /// use chains::{Line, RecordIn};
+    ///
+    /// let mut buffer = [0; 24];
+    /// let mut day = RecordIn::begin(&mut buffer, 2)?;
+    /// let entered = Line { from: 0, kind: 1, class: 2, sail: 150, to: 1 };
+    /// day.add(entered)?;
+    /// day.add(Line { kind: 2, ..entered })?;
+    /// for (number, line) in (0u16..).zip(day.lines()) {
+    ///     println!("line {number}: {line}");
+    /// }
+    /// assert_eq!(day.lines().len(), 2);
+    /// assert_eq!(day.lines().filter(|line| line.kind == 1).count(), 1);
+    /// # Ok::<(), chains::Refusal>(())
+    /// ```
+    pub fn lines(&self) -> Lines<'_> {
+        lines_of(self.bytes())
+    }
+
+    /// Finds the first shortest chain of lines from the first place to the second that the
+    /// pattern accepts, as [`Finder::find`] does. Refusals: 8 to 16.
+    ///
+    /// For many questions keep a [`Finder`], and with it the work area.
+    pub fn find(&self, pattern: &[u8], from: u16, to: u16) -> Result<Option<Vec<u16>>, Refusal> {
+        Finder::new().find_owned(&Question::about(self, pattern, from, to))
+    }
+
+    /// Does the chain lead from the first place to the second, and does the pattern accept it?
+    /// Refusals: 8 to 16, and 18.
+    pub fn check(
+        &self,
+        pattern: &[u8],
+        from: u16,
+        to: u16,
+        chain: &[u16],
+    ) -> Result<bool, Refusal> {
+        Finder::new().check(&Question::about(self, pattern, from, to), chain)
     }
 
     /// The record's bytes.
@@ -198,5 +358,40 @@ impl<'a> RecordIn<'a> {
 impl AsRef<[u8]> for RecordIn<'_> {
     fn as_ref(&self) -> &[u8] {
         self.bytes()
+    }
+}
+
+#[cfg(test)]
+mod tests {
+    use super::*;
+    use crate::linked::counted;
+
+    /// Going over the lines calls the library for none of them, however many there are.
+    #[test]
+    fn lines_read_the_record_once() {
+        for count in [0, 1, 10, 1_000] {
+            let mut day = Record::begin(2).expect("two places");
+            for sail in 0..count {
+                day.add(Line {
+                    from: (sail % 2) as u16,
+                    kind: 3,
+                    class: 7,
+                    sail: sail * 16_001,
+                    to: 1,
+                })
+                .expect("a good line");
+            }
+            let before = counted::calls();
+            let day = Record::from_bytes(day.into_bytes()).expect("a good record");
+            assert_eq!(counted::calls(), before + 1);
+            let lines: Vec<Line> = day.lines().collect();
+            assert_eq!(lines.len(), count as usize);
+            assert_eq!(counted::calls(), before + 1);
+            // One call of the library for each line that it is asked for.
+            let read: Result<Vec<Line>, Refusal> =
+                (0..day.line_count()).map(|n| day.line(n)).collect();
+            assert_eq!(read, Ok(lines));
+            assert_eq!(counted::calls(), before + 1 + count as usize);
+        }
     }
 }

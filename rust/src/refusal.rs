@@ -5,7 +5,20 @@ use std::fmt;
 
 /// The question that was answered no. Its `Display` is a sentence for whoever wrote the
 /// record or the pattern; [`Refusal::number`] is the number in README's table.
+///
+/// A later library may ask more questions, so a `match` needs an arm for the rest:
+///
+/// ```
+/// use chains::{Record, Refusal};
+///
+/// match Record::begin(0) {
+///     Err(Refusal::PlacesOutOfRange) => println!("how many places are there?"),
+///     Err(refusal) => println!("refused {}: {refusal}", refusal.number()),
+///     Ok(day) => println!("{} bytes", day.bytes().len()),
+/// }
+/// ```
 #[derive(Clone, Copy, PartialEq, Eq, Hash, Debug)]
+#[non_exhaustive]
 pub enum Refusal {
     /// 1: the record has more than 40,964 bytes.
     RecordTooLong,
@@ -56,11 +69,19 @@ pub enum Refusal {
     RecordFull,
     /// 23: the buffer does not hold the record after the act.
     BufferTooSmall,
+    /// A number that this crate has no name for: a question of another version of the library.
+    #[non_exhaustive]
+    Other {
+        /// The question's number.
+        number: u32,
+        /// The second number that came with it.
+        second: u32,
+    },
 }
 
 impl Refusal {
-    /// The number of the question, 1 to 23.
-    pub fn number(self) -> u8 {
+    /// The number of the question: 1 to 23, and that of [`Refusal::Other`].
+    pub fn number(self) -> u32 {
         match self {
             Refusal::RecordTooLong => 1,
             Refusal::PlacesOutOfRange => 2,
@@ -85,14 +106,11 @@ impl Refusal {
             Refusal::SailNumberTooLarge => 21,
             Refusal::RecordFull => 22,
             Refusal::BufferTooSmall => 23,
+            Refusal::Other { number, .. } => number,
         }
     }
 
     /// The refusal of a question's number, with the second number that came with it.
-    ///
-    /// # Panics
-    ///
-    /// With a number that no question has: the library gives none.
     pub(crate) fn of(number: u32, second: u32) -> Refusal {
         match number {
             1 => Refusal::RecordTooLong,
@@ -120,7 +138,7 @@ impl Refusal {
             21 => Refusal::SailNumberTooLarge,
             22 => Refusal::RecordFull,
             23 => Refusal::BufferTooSmall,
-            _ => unreachable!("no question has the number {number}"),
+            _ => Refusal::Other { number, second },
         }
     }
 }
@@ -175,6 +193,12 @@ impl fmt::Display for Refusal {
             Refusal::SailNumberTooLarge => "the sail number is not below 16,777,216",
             Refusal::RecordFull => "the day's record is full: it has 4,096 lines",
             Refusal::BufferTooSmall => "the buffer has no room for the day's record after this",
+            Refusal::Other { number, .. } => {
+                return write!(
+                    f,
+                    "question {number} failed, which this crate does not know"
+                );
+            }
         };
         f.write_str(text)
     }
@@ -185,15 +209,33 @@ impl Error for Refusal {}
 #[cfg(test)]
 mod tests {
     use super::*;
-    use std::collections::BTreeSet;
+
+    /// Number, tab, sentence: the list that C and the program use too.
+    const SENTENCES: &str = include_str!("../../include/refusals.txt");
 
     #[test]
-    fn numbers_and_messages() {
-        let all: Vec<Refusal> = (1..=23).map(|number| Refusal::of(number, 0)).collect();
-        let numbers: Vec<u8> = all.iter().map(|refusal| refusal.number()).collect();
-        assert_eq!(numbers, (1..=23).collect::<Vec<u8>>());
-        let messages: BTreeSet<String> = all.iter().map(Refusal::to_string).collect();
-        assert_eq!(messages.len(), 23);
-        assert!(Refusal::of(19, 92_400).to_string().contains("92400 lines"));
+    fn sentences_are_those_of_the_list() {
+        assert_eq!(SENTENCES.lines().count(), 23);
+        for (number, row) in (1..).zip(SENTENCES.lines()) {
+            let refusal = Refusal::of(number, 92_400);
+            assert_eq!(refusal.number(), number);
+            // The list has no length to name.
+            let said = refusal.to_string().replace(", of 92400 lines,", ",");
+            assert_eq!(format!("{number}\t{said}"), row);
+        }
+        assert_eq!(
+            Refusal::of(19, 92_400).to_string(),
+            "there is a chain, of 92400 lines, but the output is too short for it"
+        );
+    }
+
+    #[test]
+    fn unknown_numbers_do_not_panic() {
+        for number in [24, 32, 255, u32::MAX] {
+            let refusal = Refusal::of(number, 7);
+            assert_eq!(refusal, Refusal::Other { number, second: 7 });
+            assert_eq!(refusal.number(), number);
+            assert!(refusal.to_string().contains(&number.to_string()));
+        }
     }
 }

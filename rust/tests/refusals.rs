@@ -2,12 +2,12 @@
 
 mod common;
 
-use chains::lent::{self, CheckReply, FindReply, LineReply, WordsReply, WriteReply};
-use chains::{Finder, Question, Record, RecordIn, Refusal};
+use chains::lent::{self, CheckReply, FindReply, LineReply, PatternReply, WordsReply, WriteReply};
+use chains::{read_pattern, Finder, Question, Record, RecordIn, Refusal};
 use common::*;
 
 /// Bytes of records that questions 1 to 7 refuse.
-fn refused_records() -> Vec<(u8, Vec<u8>)> {
+fn refused_records() -> Vec<(u32, Vec<u8>)> {
     let one = record(1, &[line(0, 1, 1, 1, 0)]).into_bytes();
     let with = |at: usize, byte: u8| {
         let mut bytes = one.clone();
@@ -30,7 +30,7 @@ fn refused_records() -> Vec<(u8, Vec<u8>)> {
 }
 
 /// Patterns that questions 8 to 14 refuse.
-fn refused_patterns() -> Vec<(u8, Vec<u8>)> {
+fn refused_patterns() -> Vec<(u32, Vec<u8>)> {
     vec![
         (8, vec![]),
         (8, vec![0x28]),
@@ -48,7 +48,7 @@ fn refused_patterns() -> Vec<(u8, Vec<u8>)> {
 }
 
 /// Every request that 1 to 16 refuse, whatever is lent.
-fn refused_requests() -> Vec<(u8, Vec<u8>, Vec<u8>, u16)> {
+fn refused_requests() -> Vec<(u32, Vec<u8>, Vec<u8>, u16)> {
     let mut requests = Vec::new();
     for (number, bytes) in refused_records() {
         requests.push((number, bytes, NOTHING.to_vec(), 0));
@@ -134,7 +134,7 @@ fn of_add() {
     }
     bytes.push(0);
     let mut full = Record::from_bytes(bytes).expect("4,096 lines");
-    assert_eq!(full.lines(), 4_096);
+    assert_eq!(full.line_count(), 4_096);
     let before = full.clone();
     assert_eq!(full.add(good), Err(Refusal::RecordFull));
     assert_eq!(full, before);
@@ -151,6 +151,17 @@ fn of_read() {
     }
     for number in [7, 4_096, u16::MAX] {
         assert_eq!(r().line(number), Err(Refusal::LineNotThere));
+    }
+}
+
+#[test]
+fn of_pattern() {
+    for (number, pattern) in refused_patterns() {
+        let PatternReply::Refused(refusal) = lent::pattern(&pattern) else {
+            panic!("{number} passes");
+        };
+        assert_eq!(refusal.number(), number);
+        assert_eq!(read_pattern(&pattern), Err(refusal));
     }
 }
 
@@ -185,14 +196,15 @@ fn of_check_and_find() {
         assert_eq!((checked.number(), found.number()), (number, number));
         assert_eq!(work, vec![DIRT; 9_000]);
         assert_eq!(out, vec![OUT_DIRT; 5]);
-        let question = Question {
-            record: &rec,
-            pattern: &pat,
-            from: 0,
-            to,
-        };
+        let question = Question::about(&rec, &pat, 0, to);
         assert_eq!(finder.check(&question, &[]), Err(checked));
         assert_eq!(finder.find(&question), Err(found));
+        assert_eq!(finder.find_owned(&question), Err(found));
+        // A record that passes can be asked directly.
+        if let Ok(day) = Record::from_bytes(rec) {
+            assert_eq!(day.check(&pat, 0, to, &[]), Err(checked));
+            assert_eq!(day.find(&pat, 0, to), Err(found));
+        }
     }
 }
 

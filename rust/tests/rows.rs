@@ -1,8 +1,8 @@
-//! Document 01's worked rows, by way of `Record` and `Finder`.
+//! The worked rows, by way of `Record` and `Finder`.
 
 mod common;
 
-use chains::{Finder, Line, Record, RecordIn, Refusal};
+use chains::{read_pattern, version, Finder, Line, Question, Record, RecordIn, Refusal};
 use common::*;
 
 /// One finder for all rows, so that its buffers come dirty and of other sizes to each.
@@ -97,12 +97,115 @@ fn outputs_grow() -> Result<(), Refusal> {
     Ok(())
 }
 
+/// The chain that was found goes to the same finder's check, and so do its neighbours.
+#[test]
+fn chains_go_back_to_the_finder() -> Result<(), Refusal> {
+    let mut finder = Finder::new();
+    let day = r();
+    let question = Question::about(&day, &P, 0, 3);
+    let chain = finder.find_owned(&question)?.expect("1 2 5");
+    assert_eq!(finder.find(&question)?, Some(&chain[..]));
+    assert!(finder.check(&question, &chain)?);
+    assert!(!finder.check(&question, &chain[1..])?);
+    let none = Question::about(&day, &P, 3, 0);
+    assert_eq!(finder.find_owned(&none)?, None);
+    assert!(!finder.check(&none, &chain)?);
+    Ok(())
+}
+
+/// A record is asked directly, whichever it is, and its bytes are.
+#[test]
+fn records_are_asked() -> Result<(), Refusal> {
+    let day = r();
+    let mut buffer = day.bytes().to_vec();
+    let length = buffer.len();
+    let bytes = buffer.clone();
+    let given = RecordIn::open(&mut buffer, length)?;
+    let chain = vec![1, 2, 5];
+    assert_eq!(day.find(&P, 0, 3)?, Some(chain.clone()));
+    assert_eq!(given.find(&P, 0, 3)?, Some(chain.clone()));
+    assert_eq!((day.find(&P, 3, 0)?, given.find(&P, 3, 0)?), (None, None));
+    assert!(day.check(&P, 0, 3, &chain)? && given.check(&P, 0, 3, &chain)?);
+    assert!(!day.check(&P, 0, 3, &[0, 2, 5])? && !given.check(&P, 0, 3, &[])?);
+    let missing = Err(Refusal::LineNotThere);
+    assert_eq!(day.check(&P, 0, 3, &[7]), missing);
+    assert_eq!(given.check(&P, 0, 3, &[7]), missing);
+
+    let question = ask(&day, &P, 0, 3);
+    assert_eq!(Question::about(&day, &P, 0, 3), question);
+    assert_eq!(Question::about(&given, &P, 0, 3), question);
+    assert_eq!(Question::about(&bytes, &P, 0, 3), question);
+    assert_eq!(Question::about(&bytes[..], &P, 0, 3), question);
+    Ok(())
+}
+
+#[test]
+fn patterns_are_counted() -> Result<(), Refusal> {
+    let counts = |pattern: &[u8]| read_pattern(pattern).map(|c| (c.commands, c.keeps));
+    assert_eq!(counts(&P)?, (7, 1));
+    assert_eq!(counts(&S)?, (5, 2));
+    assert_eq!(counts(&NOTHING)?, (1, 0));
+    assert_eq!(counts(&repeats(62, &NOTHING))?, (63, 0));
+    assert_eq!(counts(&fifteen_commands())?, (15, 1));
+    Ok(())
+}
+
+/// The library that is linked is of this crate's version.
+#[test]
+fn versions_agree() {
+    let number = |text: &str| text.parse::<u64>().expect("a number");
+    let crate_version = number(env!("CARGO_PKG_VERSION_MAJOR")) * 1_000_000
+        + number(env!("CARGO_PKG_VERSION_MINOR")) * 1_000
+        + number(env!("CARGO_PKG_VERSION_PATCH"));
+    assert_eq!(version(), crate_version);
+}
+
+/// Going over a record's lines gives what the library gives for each number.
+#[test]
+fn lines_are_the_librarys() -> Result<(), Refusal> {
+    // Every field with bytes that differ, so that none can stand for another.
+    let far = line(258, 15, 255, 0x00FE_DCBA, 1_023);
+    let near = line(1_023, 1, 0, 1, 258);
+    let mut many = Vec::new();
+    for number in 0..200 {
+        many.push(line(
+            number,
+            1 + (number % 15) as u8,
+            number as u8,
+            u32::from(number) << 13,
+            1_023 - number,
+        ));
+    }
+    for day in [
+        r(),
+        t(),
+        e(),
+        record(1_024, &[far, near]),
+        record(1_024, &many),
+    ] {
+        let read: Result<Vec<Line>, Refusal> = (0..day.line_count()).map(|n| day.line(n)).collect();
+        let read = read?;
+        assert_eq!(day.lines().len(), read.len());
+        assert_eq!(day.lines().collect::<Vec<Line>>(), read);
+        let last_first: Vec<Line> = day.lines().rev().collect();
+        assert!(last_first.iter().eq(read.iter().rev()));
+        for (number, line) in read.iter().enumerate() {
+            assert_eq!(day.lines().nth(number), Some(*line));
+        }
+        assert_eq!(day.lines().nth(read.len()), None);
+        // The same record in a longer buffer.
+        let mut buffer = [day.bytes(), &[0xA5; 20]].concat();
+        let given = RecordIn::open(&mut buffer, day.bytes().len())?;
+        assert_eq!(given.lines().collect::<Vec<Line>>(), read);
+    }
+    Ok(())
+}
+
 #[test]
 fn records_are_read_back() -> Result<(), Refusal> {
     let r = r();
-    assert_eq!(r.lines(), 7);
-    let lines: Result<Vec<Line>, Refusal> = (0..r.lines()).map(|number| r.line(number)).collect();
-    assert_eq!(lines?, lines_of_r());
+    assert_eq!(r.line_count(), 7);
+    assert_eq!(r.lines().collect::<Vec<Line>>(), lines_of_r());
     assert_eq!(Record::from_bytes(r.bytes())?, r);
 
     let mut buffer = [0xA5; 80];
@@ -111,13 +214,13 @@ fn records_are_read_back() -> Result<(), Refusal> {
         given.add(line)?;
     }
     assert_eq!(given.bytes(), r.bytes());
-    assert_eq!(given.lines(), 7);
+    assert_eq!(given.line_count(), 7);
     assert_eq!(given.line(5)?, lines_of_r()[5]);
     assert_eq!(given.add(line(0, 1, 1, 1, 1)), Err(Refusal::BufferTooSmall));
     assert_eq!(given.bytes(), r.bytes());
     assert_eq!(buffer[74..], [0xA5; 6]);
     let given = RecordIn::open(&mut buffer, 74)?;
-    assert_eq!(given.lines(), 7);
+    assert_eq!(given.line_count(), 7);
     Ok(())
 }
 

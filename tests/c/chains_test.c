@@ -1,9 +1,10 @@
 /*
- * Every function of chains.h, called from C: document 01's worked rows, every refusal number, and each lent buffer afterwards.
- * Prints what fails; the status is 1 if something did.
+ * Every function of chains.h, called from C: document 01's worked rows, every refusal number, and each lent buffer afterwards; the
+ * helpers that take a reply apart; and chains_message, held to the list of sentences. Prints what fails; the status is 1 if
+ * something did.
  *
- *     gcc -std=c11 -Wall -Wextra -Werror -pedantic -Iinclude tests/c/chains_test.c target/staticlib/libexports.a -o target/chains_test
- *     target/chains_test
+ *     gcc -std=c11 -Wall -Wextra -Werror -pedantic -Iinclude tests/c/chains_test.c target/libchains.a -o target/chains_test
+ *     target/chains_test include/refusals.txt
  */
 #include "chains.h"
 
@@ -266,6 +267,58 @@ static void test_words(void)
     expect_pattern("20 20", two, 2, CHAINS_BYTES_AFTER_PATTERN);
 }
 
+/* ---- patterns */
+
+/* Refused: no word is written, however many are lent. */
+static void pattern_refused(const char *what, const uint8_t *pat, size_t pat_len, uint32_t number)
+{
+    uint32_t counts[4] = {9, 9, 9, 9};
+    const uint32_t same[4] = {9, 9, 9, 9};
+    for (size_t lent = 0; lent <= 4; lent++) {
+        expect_reply(what, chains_pattern(pat, pat_len, counts, lent), number, 0);
+    }
+    expect(what, memcmp(counts, same, sizeof counts) == 0);
+}
+
+/* Read: the first two words have the counts, and no other word is written; fewer than two get none. */
+static void pattern_counts(const char *what, const uint8_t *pat, size_t pat_len, uint32_t commands, uint32_t keeps)
+{
+    uint32_t counts[4] = {9, 9, 9, 9};
+    const uint32_t same[4] = {9, 9, 9, 9}, shown[4] = {commands, keeps, 9, 9};
+    expect_reply(what, chains_pattern(pat, pat_len, counts, 0), 0, 0);
+    expect_reply(what, chains_pattern(pat, pat_len, counts, 1), 0, 0);
+    expect(what, memcmp(counts, same, sizeof counts) == 0);
+    for (size_t lent = 2; lent <= 4; lent++) {
+        memcpy(counts, same, sizeof counts);
+        expect_reply(what, chains_pattern(pat, pat_len, counts, lent), 0, CHAINS_COUNTS);
+        expect(what, memcmp(counts, shown, sizeof counts) == 0);
+    }
+    expect(what, counts[CHAINS_COUNT_COMMANDS] == commands && counts[CHAINS_COUNT_KEEPS] == keeps);
+}
+
+static void test_pattern(void)
+{
+    pattern_counts("pattern P", P, 15, 7, 1);
+    pattern_counts("pattern S", S, 13, 5, 2);
+    pattern_counts("pattern 20", NOTHING, 1, 1, 0);
+    uint8_t repeats[64];
+    memset(repeats, 0x26, 64);
+    repeats[62] = 0x20;
+    pattern_counts("pattern, 62 times 26, then 20", repeats, 63, 63, 0);
+    repeats[62] = 0x26;
+    repeats[63] = 0x20;
+    pattern_refused("pattern, 63 times 26, then 20", repeats, 64, CHAINS_TOO_MANY_COMMANDS);
+    const uint8_t keeps[13] = {0x27, 1, 0, 0x27, 1, 1, 0x27, 1, 2, 0x27, 1, 3, 0x20};
+    pattern_counts("pattern, three keeps nested", keeps + 3, 10, 4, 3);
+    pattern_refused("pattern, four keeps nested", keeps, 13, CHAINS_KEEPS_TOO_DEEP);
+    const uint8_t line_16[2] = {0x21, 16}, unkept[3] = {0x22, 1, 0}, two[2] = {0x20, 0x20};
+    pattern_refused("pattern, no bytes", NOTHING, 0, CHAINS_COMMAND_NOT_KNOWN);
+    pattern_refused("pattern 21", line_16, 1, CHAINS_OPERANDS_MISSING);
+    pattern_refused("pattern 21 10", line_16, 2, CHAINS_OPERAND_OUT_OF_RANGE);
+    pattern_refused("pattern 22 01 00", unkept, 3, CHAINS_SLOT_NOT_KEPT);
+    pattern_refused("pattern 20 20", two, 2, CHAINS_BYTES_AFTER_PATTERN);
+}
+
 /* 1,024 places, 15 commands, one keep, and so many boats. */
 static void test_sizes(void)
 {
@@ -399,16 +452,109 @@ static void test_find(void)
     find_in("find, an empty pattern", no_pattern, 8704, 3, CHAINS_COMMAND_NOT_KNOWN, 0, c125);
 }
 
-int main(void)
+/* ---- replies taken apart, and the version */
+
+static uint64_t reply_of(uint64_t number, uint64_t value)
+{
+    return number * 4294967296u + value;
+}
+
+/* A refusal is no answer of any sort, and leaves every length as it was. */
+static void test_refused_replies(void)
+{
+    const uint64_t values[6] = {0, 1, 2, 3, 5, CHAINS_NO_CHAIN};
+    for (uint64_t number = 1; number <= 23; number++) {
+        for (size_t i = 0; i < 6; i++) {
+            const uint64_t value = values[i], reply = reply_of(number, value);
+            size_t length = 77;
+            expect("a refusal is refused", chains_refused(reply));
+            expect("a refusal has no length", !chains_length(reply, &length));
+            expect("a refusal has no words", !chains_needed(reply, &length));
+            expect("a refusal is not found", !chains_found(reply, &length));
+            expect("a refusal leaves the length", length == 77);
+            expect("a refusal is not written", !chains_written(reply));
+            expect("a refusal is neither yes nor no", !chains_yes(reply) && !chains_no(reply));
+            expect("a refusal is not none", !chains_none(reply));
+            expect("19 alone has a length", chains_too_long(reply, &length) == (number == 19));
+            expect("19 tells its length", length == (number == 19 ? value : 77));
+        }
+    }
+}
+
+static void test_replies(void)
+{
+    size_t length = 77;
+    expect("none is none", chains_none(CHAINS_NO_CHAIN) && !chains_refused(CHAINS_NO_CHAIN));
+    expect("none is not found", !chains_found(CHAINS_NO_CHAIN, &length) && length == 77);
+    expect("none is not too long", !chains_too_long(CHAINS_NO_CHAIN, &length) && length == 77);
+    expect("found is found", chains_found(3, &length) && length == 3 && !chains_none(3));
+    expect("the empty chain is found", chains_found(0, &length) && length == 0 && !chains_none(0));
+    expect("yes is yes", chains_yes(1) && !chains_no(1));
+    expect("no is no", chains_no(0) && !chains_yes(0));
+    expect("written", chains_written(5) && chains_written(2) && !chains_written(0));
+    expect("words", chains_needed(8704, &length) && length == 8704);
+
+    /* The same of real replies. */
+    uint8_t buf[4];
+    expect("begin gives a length", chains_length(chains_begin(buf, 4, 1), &length) && length == 4);
+    expect("a refused add keeps the length", !chains_length(chains_add(buf, 4, length, 0, 1, 1, 1, 0), &length) && length == 4);
+    const uint16_t missing[1] = {7};
+    const uint64_t checked = chains_check(r.at, r.len, P, 15, 0, 3, missing, 1, area, WORDS);
+    expect("a check of a missing line is neither", chains_refused(checked) && !chains_yes(checked) && !chains_no(checked));
+    const uint64_t reply = chains_find(r.at, r.len, P, 15, 0, 3, area, WORDS, output, 2);
+    expect("an output of 2 is not found", !chains_found(reply, &length) && !chains_none(reply) && length == 4);
+    expect("an output of 2 is too short for 3", chains_too_long(reply, &length) && length == 3);
+
+    expect("the version is the header's", chains_version() == CHAINS_VERSION);
+    char text[32];
+    snprintf(text, sizeof text, "%d.%d.%d", CHAINS_VERSION / 1000000, CHAINS_VERSION / 1000 % 1000, CHAINS_VERSION % 1000);
+    expect("the version's text", strcmp(text, CHAINS_VERSION_TEXT) == 0);
+}
+
+/* ---- sentences */
+
+/* Every row of the list, number, tab and sentence, is what chains_message says; the rows are 1 to 23. */
+static void test_messages(const char *path)
+{
+    FILE *list = fopen(path, "r");
+    if (list == NULL) {
+        expect("the list of sentences can be read", 0);
+        return;
+    }
+    char row[400];
+    uint32_t number = 0;
+    while (fgets(row, sizeof row, list) != NULL) {
+        number++;
+        row[strcspn(row, "\n")] = '\0';
+        char expected[400];
+        snprintf(expected, sizeof expected, "%u\t%s", (unsigned)number, chains_message(number));
+        tests++;
+        if (strcmp(row, expected) != 0) {
+            failures++;
+            printf("fails: the sentence of %u: \"%s\" in the list\n", (unsigned)number, row);
+        }
+    }
+    fclose(list);
+    expect("the list has 23 sentences", number == 23);
+    expect("0 is not refused", strcmp(chains_message(0), "not refused") == 0);
+    const char *unknown = "this number is not that of a refusal";
+    expect("24 is no refusal", strcmp(chains_message(24), unknown) == 0 && strcmp(chains_message(UINT32_MAX), unknown) == 0);
+}
+
+int main(int argc, char **argv)
 {
     write_records();
     test_begin();
     test_add();
     test_read();
     test_words();
+    test_pattern();
     test_sizes();
     test_check();
     test_find();
+    test_refused_replies();
+    test_replies();
+    test_messages(argc > 1 ? argv[1] : "include/refusals.txt");
     if (failures > 0) {
         printf("%d of %d tests fail\n", failures, tests);
         return 1;

@@ -155,24 +155,59 @@ fn answer_line(line: &mut [u8; 65536], day: &[u8], ask: &[u8]) -> usize
 
 // ---- the files
 
-// Puts the first bytes of a file into a buffer, and says how many: none where there is no such file.
-fn first_bytes(name: &[u8], buf: &mut [u8]) -> usize
-    ensures { λ r. ⌜ Counts r (now (buf .exit)) ⌝ }
-{
-    let fd = os::open_read(name);
-    if fd < 0 {
-        return 0;
-    }
-    let n = io::read_full(fd, buf);
-    libc::close(fd);
-    n
+// What was read of a file: how many bytes, and whether it could be read.
+struct Got {
+    count: usize,
+    readable: bool,
 }
 
-// Prints the line for a record and a question.
+// Did reading stop after n bytes because the buffer was full, or the file at its end? io::read_full stops at a failure too: one more
+// read then fails again or gives a byte, and at the end it gives nothing.
+fn ended(fd: i32, n: usize, most: usize) -> bool {
+    if n == most {
+        return true;
+    }
+    let mut next = [0u8; 1];
+    libc::read(fd, &mut next) == 0
+}
+
+// Puts the first bytes of a file into a buffer: none of a file that is missing. The descriptor is what os::open_read answered.
+fn first_bytes(fd: i32, buf: &mut [u8]) -> Got
+    ensures { λ r. ⌜ Counts (r .«count») (now (buf .exit)) ⌝ }
+{
+    if fd < 0 {
+        return Got {
+            count: 0,
+            readable: os::errno() == libc::ENOENT,
+        };
+    }
+    let n = io::read_full(fd, buf);
+    Got {
+        count: n,
+        readable: ended(fd, n, buf.len()),
+    }
+}
+
+// Puts the first bytes of a file into a buffer, or says that it cannot be read. Of a file that was not opened, nothing is closed.
+fn read_file(name: &[u8], buf: &mut [u8], failure: &[u8]) -> Got
+    ensures { λ r. ⌜ Counts (r .«count») (now (buf .exit)) ⌝ }
+{
+    let fd = os::open_read(name);
+    let got = first_bytes(fd, buf);
+    if !got.readable {
+        os::fail(failure);
+    }
+    libc::close(fd);
+    got
+}
+
+// Prints the line for a record and a question, or says that it cannot be written.
 fn print_answer(day: &[u8], ask: &[u8]) {
     let mut line = io::large_buffer();
     let n = answer_line(&mut line, day, ask);
-    io::write_all(1, &line[..n]);
+    if !io::write_all(1, &line[..n]) {
+        os::fail(b"chains: the answer cannot be written");
+    }
 }
 
 // Reads the question, asks, and prints the answer. A longer file is cut, which changes no answer: of a pattern the reader asks for the
@@ -180,14 +215,21 @@ fn print_answer(day: &[u8], ask: &[u8]) {
 // reader finds the same bytes, and the same lack of a byte, in a pattern that is cut at 4,092 bytes as in the whole one.
 fn ask_file(day: &[u8]) {
     let mut ask = io::buffer();
-    let n = first_bytes(b"ask.pat", &mut ask);
-    print_answer(day, &ask[..n]);
+    let got = read_file(b"ask.pat", &mut ask, b"chains: ask.pat cannot be read");
+    if got.readable {
+        let n = got.count;
+        print_answer(day, &ask[..n]);
+    }
 }
 
-// Reads day.rec and ask.pat in the working folder, asks, and prints the answer. A longer record is cut, which changes no answer: at
-// 65,536 bytes it is longer than 40,964, as the whole one is, and both are refused at question 1.
+// Reads day.rec and ask.pat in the working folder, asks, and prints the answer, but no answer where one of them is there and cannot be
+// read. A longer record is cut, which changes no answer: at 65,536 bytes it is longer than 40,964, as the whole one is, and both are
+// refused at question 1.
 pub fn ask_files() {
     let mut day = io::large_buffer();
-    let n = first_bytes(b"day.rec", &mut day);
-    ask_file(&day[..n]);
+    let got = read_file(b"day.rec", &mut day, b"chains: day.rec cannot be read");
+    if got.readable {
+        let n = got.count;
+        ask_file(&day[..n]);
+    }
 }

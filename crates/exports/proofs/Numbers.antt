@@ -1,10 +1,10 @@
 -- Replies as numbers: a refusal's second number is 0, and lengths and words fit 32 bits. Assumes nothing.
 use mathlib.Core.Path.{_≡_, refl, sym, ap}
 use mathlib.Core.Bool.{Bool}
-use mathlib.Core.List.{List}
-use Prim.Native.Nat.{ℕ, _*_, _<_}
+use mathlib.Core.List.{List, [], _∷_}
+use Prim.Native.Nat.{ℕ, _*_, _<_, _≤_}
 use native.Mathlib.Omega.{arith}
-use lib.ListN.{take}
+use lib.ListN.{length, take, drop, set}
 use lib.Seq.{length-take-le}
 use Rattle.meaning.specs.Outcome.{Outcome, refused, passed, told, value, refusal}
 use Rattle.meaning.specs.Record.{Line}
@@ -35,15 +35,22 @@ add-fits buffer len l =
     let a = adds buffer len l longer e in
     omega (arith, a .grown, whole-of (take len buffer) (a .day) (a .reads) .short, length-take-le len buffer (a .inside)))
 
--- ---- a line read back
+-- ---- what is told, back as an outcome
 
-pub line-refused : (o : Outcome Line) (number second : ℕ) → refusal number second ≡ told o → o ≡ refused number
-line-refused (refused q) number second h = ap refused cc
-line-refused (passed l) number second h = absurd (let z : _≡_ {A = ℕ} 0 1 = cc in omega arith)
+pub told-refused : {A : Type 0} (o : Outcome A) (number second : ℕ) → refusal number second ≡ told o → o ≡ refused number
+told-refused (refused q) number second h = ap refused cc
+told-refused (passed a) number second h = absurd (let z : _≡_ {A = ℕ} 0 1 = cc in omega arith)
 
-pub line-passed : (o : Outcome Line) (l : Line) → value l ≡ told o → o ≡ passed l
-line-passed (refused q) l h = absurd (let z : _≡_ {A = ℕ} 0 1 = cc in omega arith)
-line-passed (passed m) l h = let e : l ≡ m = cc in ap passed (sym e)
+pub told-passed : {A : Type 0} (o : Outcome A) (a : A) → value a ≡ told o → o ≡ passed a
+told-passed (refused q) a h = absurd (let z : _≡_ {A = ℕ} 0 1 = cc in omega arith)
+told-passed (passed b) a h = let e : a ≡ b = cc in ap passed (sym e)
+
+-- ---- two words in front
+
+pub set-two : (words : List ℕ) (a b : ℕ) → 2 ≤ length words → set (set words 0 a) 1 b ≡ a ∷ b ∷ drop 2 words
+set-two [] a b h = absurd (omega (arith, h))
+set-two (x ∷ []) a b h = absurd (omega (arith, h))
+set-two (x ∷ y ∷ rest) a b h = refl
 
 -- ---- yes and no
 

@@ -1,23 +1,36 @@
 // The library's boundary for C and Rust: every reply as one number of 64 bits, n · 2^32 + value. n is 0, or the number of the
 // question that failed, and value is then the refusal's second number.
 ghost use mathlib.Core.Path.{_≡_};
-ghost use mathlib.Core.List.{_++_};
+ghost use mathlib.Core.List.{_∷_, _++_};
 ghost use Prim.Native.Nat.{_*_, _≤_};
 ghost use lib.ListN.{length, drop};
 ghost use Rattle.meaning.specs.Outcome.{told};
 ghost use Rattle.meaning.specs.Writing.{beginOf, beginAfter, addOf, addAfter, readOf};
+ghost use Rattle.meaning.specs.Pattern.{readPattern, noneGiven};
 ghost use Rattle.meaning.specs.Request.{wordsOf, askRequest, workAfter};
 ghost use Rattle.checker.specs.Reply.{checkOf};
 ghost use Rattle.finder.specs.Reply.{findOf, said, outAfter};
+ghost use Rattle.pattern.specs.Reply.{counted};
 ghost use Rattle.record.specs.Reply.{lineShown};
 ghost use Rattle.writing.specs.Reply.{writeReply};
-ghost use Rattle.exports.specs.Number.{numberOf, Fits32, fieldsOf, readNumber, readAfter, checkNumber, findNumber};
+ghost use Rattle.exports.specs.Number.{numberOf, Fits32, fieldsOf, readNumber, readAfter, patternNumber, patternAfter, checkNumber, findNumber, versionNumber};
 use checker::CheckReply;
 use finder::FindReply;
+use pattern::PatternReply;
 use record::Line;
 use record::LineReply;
 use request::WordsReply;
 use writing::WriteReply;
+
+// ---- the version
+
+// Major, minor and patch, in thousands: 1.0.0.
+#[no_mangle]
+pub extern "C" fn chains_version() -> u64
+    ensures { λ r. ⌜ r ≡ versionNumber 1 0 0 ⌝ }
+{
+    1000000
+}
 
 // ---- records
 
@@ -97,6 +110,36 @@ pub extern "C" fn chains_read(rec: &[u8], line: u16, fields: &mut [u32]) -> u64
             }
             put_fields(fields, l);
             5
+        }
+    }
+}
+
+// ---- patterns
+
+// Puts a pattern's two counts at the front of a list that has room for them.
+fn put_counts(counts: &mut [u32], commands: usize, keeps: usize)
+    requires { ⌜ (2 ≤ length (now counts)) × (commands ≤ 63) × (keeps ≤ 3) ⌝ }
+    ensures { λ _. ⌜ now (counts .exit) ≡ commands ∷ keeps ∷ drop 2 (now (counts .entry)) ⌝ }
+{
+    counts[0] = commands as u32;
+    counts[1] = keeps as u32;
+}
+
+// Reads a pattern: its commands and its deepest nesting of keeps into the first two words of a list; value: 2, or 0 where the list
+// is shorter.
+#[no_mangle]
+pub extern "C" fn chains_pattern(pat: &[u8], counts: &mut [u32]) -> u64
+    ensures reply { λ r. ⌜ r ≡ patternNumber (counted (readPattern noneGiven (now (pat .entry)))) (length (now (counts .entry))) ⌝ }
+    ensures words { λ _. ⌜ now (counts .exit) ≡ patternAfter (counted (readPattern noneGiven (now (pat .entry)))) (now (counts .entry)) ⌝ }
+{
+    match pattern::read_pattern(pat) {
+        PatternReply::Refused(q, _) => q as u64 * 4294967296,
+        PatternReply::Pattern { commands, keeps } => {
+            if counts.len() < 2 {
+                return 0;
+            }
+            put_counts(counts, commands, keeps);
+            2
         }
     }
 }

@@ -1,4 +1,4 @@
-//! This program once more behind the six functions, with one fault in it.
+//! This program once more behind the seven functions, with one fault in it.
 
 use super::reading::{self, asked_of_line, misread, nesting, places_pass};
 use super::searching;
@@ -286,6 +286,31 @@ impl Library for Faulty {
             0
         } else {
             5
+        }
+    }
+
+    fn pattern(&self, pat: &[u8], counts: &mut [u32]) -> u64 {
+        if self.is(RoomBeforePattern) && counts.len() < 2 {
+            return 0;
+        }
+        let pattern = match reading::read_pattern(self.0, pat) {
+            Ok(pattern) => pattern,
+            Err(number) => return refused(number, 0),
+        };
+        if counts.len() < 2 && !self.is(ShortCounts) {
+            return 0;
+        }
+        let mut values = [pattern.commands as u32, pattern.keeps as u32];
+        if self.is(CountsSwapped) {
+            values.swap(0, 1);
+        }
+        for (count, value) in counts.iter_mut().zip(values) {
+            *count = value;
+        }
+        if counts.len() < 2 {
+            0
+        } else {
+            2
         }
     }
 

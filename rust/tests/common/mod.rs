@@ -1,4 +1,4 @@
-//! Document 01's records and patterns.
+//! The worked rows' records and patterns.
 
 #![allow(dead_code)]
 

@@ -83,6 +83,10 @@ impl Library for Hand {
         Own.read(rec, number, fields)
     }
 
+    fn pattern(&self, pat: &[u8], counts: &mut [u32]) -> u64 {
+        Own.pattern(pat, counts)
+    }
+
     fn words(&self, rec: &[u8], pat: &[u8]) -> u64 {
         Own.words(rec, pat)
     }

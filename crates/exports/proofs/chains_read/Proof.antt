@@ -4,7 +4,7 @@ use mathlib.Core.Path.{refl, sym, ap, _∙_}
 use borrow.Author.Tests.{le-leb, lt-leb}
 use Rattle.meaning.specs.Writing.{readOf}
 use Rattle.record.specs.Reply.{lineReply}
-use Rattle.exports.proofs.Numbers.{line-refused, line-passed}
+use Rattle.exports.proofs.Numbers.{told-refused, told-passed}
 use borrow.Author.Needs.{needs}
 use Rattle.exports.proofs.chains_read.Statement.{statement}
 use Rattle.exports.proofs.chains_read.Tie as tie
@@ -28,7 +28,7 @@ returns : tie.Need-returns
 returns c =
     let b = c .before .before .before .before in
     let a = b .before .before .before .args in
-    rw (line-passed (readOf (a .rec .now) (a .line)) _ (ap lineReply (sym (c .before .before .l .given .1)) ∙ b .read-line .ensures), lt-leb _ _ (c .if1 .taken)) (refl, refl)
+    rw (told-passed (readOf (a .rec .now) (a .line)) _ (ap lineReply (sym (c .before .before .l .given .1)) ∙ b .read-line .ensures), lt-leb _ _ (c .if1 .taken)) (refl, refl)
 
 put-fields-requires : tie.Need-put-fields-requires
 put-fields-requires c κs = search needs
@@ -37,7 +37,7 @@ returns-2 : tie.Need-returns-2
 returns-2 c =
     let b = c .before .before .before in
     let a = b .before .before .before .args in
-    rw (line-refused (readOf (a .rec .now) (a .line)) _ _ (ap lineReply (sym (c .before .q .given .1)) ∙ b .read-line .ensures)) (refl, refl)
+    rw (told-refused (readOf (a .rec .now) (a .line)) _ _ (ap lineReply (sym (c .before .q .given .1)) ∙ b .read-line .ensures)) (refl, refl)
 
 same-length : tie.Need-same-length
 same-length c = search needs
@@ -47,7 +47,7 @@ returns-3 c =
     let d = c .before .before .before .before in
     let b = d .before .before .before .before in
     let a = b .before .before .before .args in
-    rw (line-passed (readOf (a .rec .now) (a .line)) _ (ap lineReply (sym (d .before .before .l .given .1)) ∙ b .read-line .ensures), le-leb _ _ (d .if1 .left)) (refl, c .before .before .put-fields .ensures)
+    rw (told-passed (readOf (a .rec .now) (a .line)) _ (ap lineReply (sym (d .before .before .l .given .1)) ∙ b .read-line .ensures), le-leb _ _ (d .if1 .left)) (refl, c .before .before .put-fields .ensures)
 
 pub chains-read-spec : {M : Type 1} → statement M
 chains-read-spec =

@@ -1,0 +1,143 @@
+"""A sailing day's record, and the first shortest chain of its lines that a pattern accepts: the functions of libchains.so.
+
+A record and a pattern are bytes or a bytearray. CHAINS_LIB names the library's file; else it is looked for beside this module, in
+the folder above and in the repository's target. A question that was answered no is a Refused, which has its number, its second
+number (value) and, as its text, a sentence; a number that a function's type does not hold is an OverflowError."""
+import ctypes
+import os
+from array import array
+from collections import namedtuple
+from pathlib import Path
+
+SENTENCES = (  # by number, from 1
+    "the day's record is longer than 40,964 bytes",
+    "the day's record must begin with its count of places, 1 to 1,024",
+    "the day's record breaks off, or has something in it that is neither a line nor the end",
+    "the last line of the day's record is cut short",
+    "a line is from or to a place that the day's record does not have",
+    "a line's kind is not 1 to 15",
+    "the day's record goes on after its end",
+    "the pattern breaks off, or has something in it that is not a command",
+    "the pattern has more than 63 commands",
+    "the pattern breaks off before a command's kind or slot",
+    "the pattern has a kind that is not 1 to 15, or a slot that is not 0 to 3",
+    "the pattern compares a boat with that of a slot, but no keep around it keeps a boat there",
+    "the pattern has more than three keeps inside each other",
+    "the pattern goes on after it is complete",
+    "one of the two places asked about is not in the day's record",
+    "the search would be too large: the day has too many places and boats for so long a pattern with so many keeps inside each other",
+    "the work area is too small for this day and pattern",
+    "a line is named that the day's record does not have",
+    "there is a chain, but the output is too short for it",
+    "the day's record is said to be longer than its buffer",
+    "the sail number is not below 16,777,216",
+    "the day's record is full: it has 4,096 lines",
+    "the buffer has no room for the day's record after this",
+)
+Line = namedtuple("Line", "from_ kind class_ sail to")
+
+
+class Refused(Exception):
+    def __init__(self, number, value):
+        known = 0 < number <= len(SENTENCES)
+        super().__init__(SENTENCES[number - 1] if known else f"refused with {number}, which this module does not know")
+        self.number, self.value = number, value
+
+
+def _load():
+    here = Path(__file__).resolve().parent
+    files = here / "libchains.so", here.parent / "libchains.so", here.parent / "target" / "libchains.so"
+    library = ctypes.CDLL(os.environ.get("CHAINS_LIB") or next((str(f) for f in files if f.exists()), "libchains.so"))
+    types = {"1": ctypes.c_uint8, "2": ctypes.c_uint16, "4": ctypes.c_uint32, "n": ctypes.c_size_t, "p": ctypes.c_void_p}
+    for name, taken in (("version", ""), ("begin", "pn2"), ("add", "pnn21142"), ("read", "pn2pn"), ("pattern", "pnpn"),
+                        ("words", "pnpn"), ("check", "pnpn22pnpn"), ("find", "pnpn22pnpn")):
+        function = getattr(library, "chains_" + name)
+        function.argtypes, function.restype = [types[letter] for letter in taken], ctypes.c_uint64
+    return library
+
+
+_library = _load()
+
+
+def _value(reply):
+    if reply >> 32:
+        raise Refused(reply >> 32, reply & 0xFFFFFFFF)
+    return reply
+
+
+def _u(bits, number):
+    if not 0 <= number < 1 << bits:
+        raise OverflowError(f"{number} is not 0 to {(1 << bits) - 1}")
+    return number
+
+
+def _slice(given):
+    """Bytes or an array as pointer and count; the pointer is not null where there are none."""
+    held = memoryview(given)
+    return bytes(held), len(held)
+
+
+def version():
+    return _library.chains_version()
+
+
+def begin(places):
+    """A record without lines, as a bytearray."""
+    day = (ctypes.c_uint8 * 4)()
+    _value(_library.chains_begin(day, 4, _u(16, places)))
+    return bytearray(day)
+
+
+def add(day, from_, kind, class_, sail, to):
+    """Adds a line to a record in a bytearray, which grows by ten bytes."""
+    longer = (ctypes.c_uint8 * (len(day) + 10)).from_buffer_copy(day + bytes(10))
+    line = _u(16, from_), _u(8, kind), _u(8, class_), _u(32, sail), _u(16, to)
+    _value(_library.chains_add(longer, len(longer), len(day), *line))
+    day[:] = longer
+
+
+def lines(day):
+    """Every line of a record."""
+    given, found, fields = _slice(day), [], (ctypes.c_uint32 * 5)()
+    while (reply := _library.chains_read(*given, len(found), fields, 5)) >> 32 != 18:
+        _value(reply)
+        found.append(Line(*fields))
+    return found
+
+
+def counts(pattern):
+    """A pattern's count of commands, and its deepest nesting of keeps."""
+    two = (ctypes.c_uint32 * 2)()
+    _value(_library.chains_pattern(*_slice(pattern), two, 2))
+    return tuple(two)
+
+
+def words(day, pattern):
+    """The 32-bit words of work area that a request needs."""
+    return _value(_library.chains_words(*_slice(day), *_slice(pattern)))
+
+
+def _request(day, pattern, from_, to):
+    """What check and find are both given, and a work area: of no words where `words` refuses, since 15 is asked before 16."""
+    asked = *_slice(day), *_slice(pattern), _u(16, from_), _u(16, to)
+    reply = _library.chains_words(*asked[:4])
+    needed = 0 if reply >> 32 else reply
+    return asked, ((ctypes.c_uint32 * max(1, needed))(), needed)
+
+
+def check(day, pattern, from_, to, chain):
+    """Does the chain, line numbers, lead from the first place to the second, and does the pattern accept it?"""
+    asked, area = _request(day, pattern, from_, to)
+    return _value(_library.chains_check(*asked, *_slice(array("H", chain)), *area)) == 1
+
+
+def find(day, pattern, from_, to):
+    """The line numbers of the first shortest accepted chain, or None."""
+    asked, area = _request(day, pattern, from_, to)
+    room = 16
+    while True:
+        out = (ctypes.c_uint16 * room)()
+        reply = _library.chains_find(*asked, *area, out, room)
+        if reply >> 32 != 19:
+            return None if _value(reply) == 0xFFFFFFFF else out[:reply]
+        room = reply & 0xFFFFFFFF

@@ -1,0 +1,66 @@
+//! A later version may add cases: a caller's `match` that names all of them still needs an arm
+//! for the rest. That arm would be unreachable, and this file would not compile, if one of the
+//! enums were not `#[non_exhaustive]`.
+#![deny(unreachable_patterns)]
+
+use chains::lent::{self, CheckReply, FindReply, LineReply, PatternReply, WordsReply, WriteReply};
+use chains::Refusal;
+
+fn known(refusal: Refusal) -> bool {
+    use Refusal::*;
+    match refusal {
+        RecordTooLong | PlacesOutOfRange | EntryNotKnown | LineCutShort | LinePlaceNotThere => true,
+        LineKindOutOfRange | BytesAfterEnd | CommandNotKnown | TooManyCommands => true,
+        OperandsMissing | OperandOutOfRange | SlotNotKept | KeepsTooDeep => true,
+        BytesAfterPattern | AskedPlaceNotThere | SearchTooLarge | WorkAreaTooSmall => true,
+        LineNotThere | LengthBeyondBuffer | SailNumberTooLarge | RecordFull => true,
+        BufferTooSmall | OutputTooSmall { length: _ } => true,
+        Other {
+            number: _,
+            second: _,
+            ..
+        } => false,
+        _ => false,
+    }
+}
+
+#[test]
+fn matches_have_an_arm_for_the_rest() {
+    let day = [1, 0, 1, 0];
+    let pattern = [0x21, 1];
+    let (mut work, mut out) = (vec![0; 8_204], []);
+    assert!(match lent::begin(&mut [0; 4], 0) {
+        WriteReply::Length(_) => false,
+        WriteReply::Refused(refusal) => known(refusal),
+        _ => false,
+    });
+    assert!(match lent::read(&day, 0) {
+        LineReply::Line(_) => false,
+        LineReply::Refused(refusal) => known(refusal),
+        _ => false,
+    });
+    assert!(match lent::pattern(&pattern) {
+        PatternReply::Counts(counts) => counts.commands == 1,
+        PatternReply::Refused(_) => false,
+        _ => false,
+    });
+    assert!(match lent::words(&day, &pattern) {
+        WordsReply::Words(words) => words <= work.len(),
+        WordsReply::Refused(_) => false,
+        _ => false,
+    });
+    assert!(match lent::check(&day, &pattern, 0, 0, &[], &mut work) {
+        CheckReply::Yes => false,
+        CheckReply::No => true,
+        CheckReply::Refused(_) => false,
+        _ => false,
+    });
+    assert!(
+        match lent::find(&day, &pattern, 0, 0, &mut work, &mut out) {
+            FindReply::Found(_) => false,
+            FindReply::NoChain => true,
+            FindReply::Refused(_) => false,
+            _ => false,
+        }
+    );
+}

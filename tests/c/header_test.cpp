@@ -1,0 +1,23 @@
+// The header from C++: it compiles with every warning, and the functions are linked by their C names.
+//
+//     g++ -std=c++11 -Wall -Wextra -Werror -pedantic -Iinclude tests/c/header_test.cpp target/libchains.a -o target/header_test
+//     target/header_test
+#include "chains.h"
+
+#include <cstdio>
+#include <cstring>
+
+int main()
+{
+    uint8_t record[4];
+    uint8_t pattern[1] = {0x20};
+    uint32_t counts[CHAINS_COUNTS];
+    size_t length = 0;
+    bool holds = chains_version() == CHAINS_VERSION;
+    holds = holds && chains_length(chains_begin(record, sizeof record, 1), &length) && length == 4;
+    holds = holds && chains_needed(chains_words(record, length, pattern, 1), &length) && length == 8200;
+    holds = holds && chains_written(chains_pattern(pattern, 1, counts, CHAINS_COUNTS)) && counts[CHAINS_COUNT_COMMANDS] == 1;
+    holds = holds && std::strcmp(chains_message(chains_number(chains_begin(record, sizeof record, 0))), chains_message(2)) == 0;
+    std::puts(holds ? "the header serves C++" : "fails: the header from C++");
+    return holds ? 0 : 1;
+}

@@ -1,0 +1,147 @@
+#!/usr/bin/env python3
+"""python/chains.py over target/libchains.so: the worked rows, refusals and their sentences, and README's program.
+
+    make lib
+    python3 tests/python_test.py
+"""
+import re
+import subprocess
+import sys
+import unittest
+from pathlib import Path
+
+HOME = Path(__file__).resolve().parent.parent
+sys.path.insert(0, str(HOME / "python"))
+import chains  # noqa: E402  (the folder is put on the path first)
+
+LINES = [(0, 1, 1, 150, 1), (0, 1, 2, 150, 1), (1, 2, 2, 150, 2), (1, 2, 1, 150, 2), (2, 3, 1, 150, 2), (2, 4, 2, 150, 3),
+         (2, 4, 1, 151, 3)]
+P = bytes.fromhex("270100 25 220200 25 26 220300 220400")
+S = bytes.fromhex("270100 25 270100 230100 220100")
+NOTHING = b"\x20"
+FOUND = {"PYTHONPATH": str(HOME / "python")}
+
+
+def day_of(places, lines):
+    day = chains.begin(places)
+    for line in lines:
+        chains.add(day, *line)
+    return day
+
+
+class Asking(unittest.TestCase):
+    def refused(self, number, call, *given):
+        with self.assertRaises(chains.Refused) as caught:
+            call(*given)
+        self.assertEqual((caught.exception.number, caught.exception.value), (number, 0))
+        self.assertEqual(str(caught.exception), chains.SENTENCES[number - 1])
+
+
+class Records(Asking):
+    def test_bytes(self):
+        self.assertEqual(chains.begin(1024), b"\x01\x04\x00\x00")
+        day = day_of(2, [(1, 15, 255, 0x010203, 0)])
+        self.assertEqual(day, bytes([1, 0, 2, 2, 0, 1, 15, 255, 1, 2, 3, 0, 0, 0]))
+        self.assertEqual(bytes(day_of(4, LINES)), (HOME / "examples/day/day.rec").read_bytes())
+
+    def test_lines(self):
+        self.assertEqual(chains.lines(day_of(4, LINES)), LINES)
+        self.assertEqual(chains.lines(chains.begin(1)), [])
+        self.assertEqual(chains.lines(day_of(4, LINES))[5].sail, 150)
+
+    def test_full(self):
+        day = bytearray(b"\x01\x00\x01" + b"\x02\x00\x00\x01\x01\x00\x00\x01\x00\x00" * 4095 + b"\x00")
+        chains.add(day, 0, 1, 1, 1, 0)
+        self.assertEqual((len(day), len(chains.lines(day))), (40964, 4096))
+        before = bytes(day)
+        self.refused(22, chains.add, day, 0, 1, 1, 1, 0)
+        self.assertEqual(day, before)
+
+    def test_refused(self):
+        day = chains.begin(2)
+        for number, line in ((5, (2, 1, 1, 1, 0)), (5, (0, 1, 1, 1, 2)), (6, (0, 0, 1, 1, 0)), (21, (0, 1, 1, 1 << 24, 0))):
+            self.refused(number, chains.add, day, *line)
+        self.assertEqual(day, chains.begin(2))
+        self.refused(2, chains.begin, 0)
+        for number, damaged in ((1, bytes(40965)), (2, b""), (3, day[:3]), (4, day[:3] + b"\2"), (7, day + b"\0")):
+            self.refused(number, chains.lines, damaged)
+            self.refused(number, chains.words, damaged, NOTHING)
+
+
+class Requests(Asking):
+    def test_find(self):
+        day = day_of(4, LINES)
+        self.assertEqual(chains.find(day, P, 0, 3), [1, 2, 5])
+        self.assertEqual(chains.find(day_of(4, LINES + [(2, 4, 1, 150, 3)]), P, 0, 3), [0, 3, 7])
+        self.assertIsNone(chains.find(day_of(4, LINES[:5] + LINES[6:]), P, 0, 3))
+        self.assertEqual(chains.find(day, NOTHING, 0, 0), [])
+        self.assertIsNone(chains.find(day, NOTHING, 0, 1))
+        two = day_of(1, [(0, 1, 1, 1, 0), (0, 1, 1, 2, 0)])
+        self.assertEqual(chains.find(two, S, 0, 0), [0, 0, 1, 0])
+
+    def test_long_chain(self):
+        day = day_of(40, [(place, 1, 1, 1, place + 1) for place in range(39)])
+        self.assertEqual(chains.find(day, b"\x26\x21\x01", 0, 39), list(range(39)))
+        self.assertEqual(chains.find(day, b"\x26\x21\x01", 0, 16), list(range(16)))
+        self.assertEqual(chains.find(day, b"\x26\x21\x01", 0, 17), list(range(17)))
+
+    def test_check(self):
+        day = day_of(4, LINES)
+        self.assertIs(chains.check(day, P, 0, 3, [1, 2, 5]), True)
+        self.assertIs(chains.check(day, P, 0, 3, [0, 2, 5]), False)
+        self.assertIs(chains.check(day, NOTHING, 0, 0, []), True)
+        self.refused(18, chains.check, day, P, 0, 3, [5, 0, 7])
+        self.refused(15, chains.check, day, P, 0, 4, [1, 2, 5])
+
+    def test_order_of_refusals(self):
+        many = day_of(1024, [(0, 1, 1, boat, 0) for boat in range(64)])
+        large = bytes.fromhex("270100") + b"\x26" * 13 + b"\x21\x01"
+        self.refused(16, chains.words, many, large)
+        self.refused(16, chains.find, many, large, 0, 0)
+        self.refused(15, chains.find, many, large, 0, 1024)
+        self.refused(8, chains.find, many, b"", 0, 1024)
+
+    def test_pattern(self):
+        self.assertEqual(chains.counts(P), (7, 1))
+        self.assertEqual(chains.counts(S), (5, 2))
+        self.assertEqual(chains.counts(b"\x26" * 62 + NOTHING), (63, 0))
+        four = bytes.fromhex("270100 270101 270102 270103 20")
+        for number, damaged in ((8, b""), (9, b"\x26" * 64), (10, b"\x21"), (11, b"\x21\x00"), (12, b"\x22\x01\x00"), (13, four),
+                                (14, b"\x20\x20")):
+            self.refused(number, chains.counts, damaged)
+
+    def test_words(self):
+        self.assertEqual(chains.words(day_of(4, LINES), P), 8704)
+
+
+class Module(unittest.TestCase):
+    def test_sentences(self):
+        rows = (HOME / "include/refusals.txt").read_text().splitlines()
+        self.assertEqual(rows, [f"{number}\t{sentence}" for number, sentence in enumerate(chains.SENTENCES, 1)])
+        self.assertIn("99", str(chains.Refused(99, 0)))
+
+    def test_numbers_that_do_not_fit(self):
+        day = chains.begin(2)
+        for call, given in ((chains.begin, (65537,)), (chains.begin, (-1,)), (chains.add, (day, 65536, 1, 1, 1, 0)),
+                            (chains.add, (day, 0, 257, 1, 1, 0)), (chains.add, (day, 0, 1, 256, 1, 0)),
+                            (chains.add, (day, 0, 1, 1, 1 << 32, 0)), (chains.find, (day, NOTHING, 65536, 0)),
+                            (chains.check, (day, NOTHING, 0, 0, [65536])), (chains.check, (day, NOTHING, 0, 0, [-1]))):
+            with self.assertRaises(OverflowError):
+                call(*given)
+        self.assertEqual(day, chains.begin(2))
+
+    def test_version(self):
+        header = (HOME / "include/chains.h").read_text()
+        self.assertIn(f"#define CHAINS_VERSION {chains.version()}\n", header)
+
+    def test_readme(self):
+        """README's program prints what its comments say."""
+        program = re.search(r"```python\n(.*?)```", (HOME / "README.md").read_text(), re.S)[1]
+        printed = [[chains.Line(0, 1, 2, 150, 1)], *map(eval, re.findall(r"# (\[0\]|True|\(1, 0\))", program))]
+        self.assertEqual(len(printed), 4)
+        ran = subprocess.run([sys.executable, "-c", program], capture_output=True, text=True, env=FOUND)
+        self.assertEqual((ran.stdout, ran.stderr), ("".join(f"{line}\n" for line in printed), ""))
+
+
+if __name__ == "__main__":
+    unittest.main()
