@@ -33,14 +33,13 @@ fn first_met(work: &[u32], plan: Plan, begin: u64, from: usize, d: u32, last: u3
 pub fn search_back(
     work: &mut [u32],
     plan: Plan,
-    filed: bool,
     program: &[u64; 128],
     begin: u64,
     from: usize,
     tail: usize,
 ) -> usize
     requires { ⌜ ReadyBack plan tail (now work) ⌝ }
-    requires { ⌜ Backing filed plan (now program) (now work) ⌝ }
+    requires { ⌜ Backing plan (now program) (now work) ⌝ }
     requires { ⌜ from < plan .places ⌝ }
     ensures { λ r. ⌜ StoppedAt opened (settingAt (now (program .entry)) plan (now (work .entry))) plan begin from tail (now (work .entry)) r (now (work .exit)) ⌝ }
 {
@@ -53,7 +52,7 @@ pub fn search_back(
         if first_met(work, plan, begin, from, d, last) {
             return t;
         }
-        t = expanding::expand_state(work, plan, filed, program, d + 1, s, t);
+        t = expanding::expand_state(work, plan, program, d + 1, s, t);
         head += 1;
         last = d;
     }
@@ -65,13 +64,12 @@ pub fn search_back(
 pub fn distances(
     work: &mut [u32],
     plan: Plan,
-    filed: bool,
     program: &[u64; 128],
     begin: u64,
     from: usize,
     to: usize,
 ) -> usize
-    requires { ⌜ Backing filed plan (now program) (now work) ⌝ }
+    requires { ⌜ Backing plan (now program) (now work) ⌝ }
     requires { ⌜ (from < plan .places) × (to < plan .places) ⌝ }
     ensures { λ r. ⌜ StoppedFrom to (settingAt (now (program .entry)) plan (now (work .entry))) plan begin from 0 (now (work .entry)) r (now (work .exit)) ⌝ }
 {

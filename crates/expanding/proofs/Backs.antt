@@ -19,7 +19,6 @@ use Rattle.sorting.specs.Runs.{sorted-same}
 use Rattle.sorting.specs.declared.Order.{Order}
 use Rattle.sorting.specs.declared.Order.the-variants as Order
 use Rattle.thinning.specs.Runs.{thin-same}
-use Rattle.ways.specs.Filed.{kindsAt, boatsAt, thinAt}
 use Rattle.ways.specs.Stacked.{stackedTurn}
 use Rattle.ways.specs.Ways.{laneTurn, runTurn, Told, Runs}
 use Rattle.ways.specs.declared.Lane.{Lane}
@@ -30,7 +29,7 @@ use Rattle.states.specs.Spots.{front, Starts, Fit, spotIn, off, on, okay, stack
 use Rattle.states.specs.declared.Spot.{Spot}
 use Rattle.states.specs.declared.Target.{Target}
 use Rattle.states.proofs.Changes.{under-front, under-back}
-use Rattle.states.proofs.Bounds.{power-pos, stacks-pos}
+use Rattle.states.proofs.Bounds.{fit-same}
 
 -- ---- a stack undone, to u
 
@@ -98,19 +97,20 @@ run-lines {o} {plan} {s} {t} {c} {count} {k} {lane} r {g} told d st =
     turns-alike (lineTurn plan g s t d c count) (runTurn o plan g k (laneTurn d lane)) 0 (plan .lines) (plan .lines) (omega arith) (λ i less b. r .same g told d i less b) st
 
 -- in a loop of phase one both the loaded tables and the sorted lines stay
-pub backing-under : {filed : Bool} {plan : Plan} {a : List ℕ} {F : Search → Search} {t₀ : ℕ} {w₀ : List ℕ} {G : Search → Search} {t : ℕ} {w : List ℕ}
-    → Under (plan .base) (plan .size) F t₀ w₀ G t w → Backing filed plan a w₀ → Backing filed plan a w
-backing-under {plan = plan} {w₀ = w₀} {w = w} u b =
+pub backing-under : {plan : Plan} {a : List ℕ} {F : Search → Search} {t₀ : ℕ} {w₀ : List ℕ} {G : Search → Search} {t : ℕ} {w : List ℕ}
+    → Under (plan .base) (plan .size) F t₀ w₀ G t w → Backing plan a w₀ → Backing plan a w
+backing-under {plan} {w₀ = w₀} {w = w} u b =
+    let l = b .fit .laid in
     let f = under-front u (plan .base) (omega arith) in
-    let behind : (at : ℕ) → kindsAt plan ≤ at → drop at w ≡ drop at w₀ = λ at le. under-back u at (omega (arith, u .ready .fits)) in
+    let behind : (at : ℕ) → plan .bykind ≤ at → drop at w ≡ drop at w₀ = λ at le. under-back u at (omega (arith, u .ready .fits, l .kinds-at)) in
     record {
       fit = fit-same (u .long) f (b .fit);
       tables = λ e.
           let t = b .tables e in
           record {
             room = omega (arith, t .room, u .long);
-            kinds = sorted-same Order.Kind plan (kindsAt plan) w₀ w (t .kinds) f (behind (kindsAt plan) (omega arith));
-            boats = sorted-same Order.Boat plan (boatsAt plan) w₀ w (t .boats) f (behind (boatsAt plan) (omega arith));
-            thin = thin-same plan (kindsAt plan) (thinAt plan) w₀ w (t .kinds) (t .thin) (behind (kindsAt plan) (omega arith)) (omega arith);
+            kinds = sorted-same Order.Kind plan (plan .bykind) w₀ w (t .kinds) f (behind (plan .bykind) (omega arith));
+            boats = sorted-same Order.Boat plan (plan .byboat) w₀ w (t .boats) f (behind (plan .byboat) (omega (arith, l .boats-at)));
+            thin = thin-same plan (plan .bykind) (plan .thin) w₀ w (t .kinds) (t .thin) (behind (plan .bykind) (omega arith)) (omega (arith, l .boats-at, l .thin-at));
           };
     }

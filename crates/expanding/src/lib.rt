@@ -481,11 +481,10 @@ fn over_way(
     }
 }
 
-// The position `c`, which the target's may come after: the lines that lead back to it. `filed` says that the lines are sorted.
+// The position `c`, which the target's may come after: the lines that lead back to it, by the sorted ones where the plan has them.
 pub fn one_spot(
     work: &mut [u32],
     plan: Plan,
-    filed: bool,
     program: &[u64; 128],
     target: Target,
     d: u32,
@@ -493,7 +492,7 @@ pub fn one_spot(
     tail: usize,
 ) -> usize
     requires { ⌜ ReadyBack plan tail (now work) ⌝ }
-    requires { ⌜ Backing filed plan (now program) (now work) ⌝ }
+    requires { ⌜ Backing plan (now program) (now work) ⌝ }
     requires { ⌜ Aimed plan target ⌝ }
     requires { ⌜ (0 < d) × (d ≤ suc tail) × (c < plan .done) × (bitOf (followAt (now program) c) (target .position) ≡ 1) ⌝ }
     ensures { λ r. ⌜ StepBack plan (spotTurn (now (program .entry)) plan (front plan (now (work .entry))) target d c) tail (now (work .entry)) r (now (work .exit)) ⌝ }
@@ -501,7 +500,7 @@ pub fn one_spot(
     let row = automaton::row_at(program, c);
     let spot = states::spot_at(program, plan.radix, c);
     let leaves = leaves_of(row);
-    if filed {
+    if plan.filed {
         return over_way(work, plan, spot, target, d, c, leaves, tail);
     }
     by_stack(work, plan, spot, target, d, c, leaves, tail)
@@ -511,14 +510,13 @@ pub fn one_spot(
 pub fn expand_state(
     work: &mut [u32],
     plan: Plan,
-    filed: bool,
     program: &[u64; 128],
     d: u32,
     t: usize,
     tail: usize,
 ) -> usize
     requires { ⌜ ReadyBack plan tail (now work) ⌝ }
-    requires { ⌜ Backing filed plan (now program) (now work) ⌝ }
+    requires { ⌜ Backing plan (now program) (now work) ⌝ }
     requires { ⌜ (0 < d) × (d ≤ suc tail) × (t < plan .size) ⌝ }
     ensures { λ r. ⌜ StepBack plan (expand (settingAt (now (program .entry)) plan (now (work .entry))) d t) tail (now (work .entry)) r (now (work .exit)) ⌝ }
 {
@@ -527,7 +525,7 @@ pub fn expand_state(
     let mut u = tail;
     for c in 0..done {
         if (automaton::follow_at(program, c) >> target.position) % 2 == 1 {
-            u = one_spot(work, plan, filed, program, target, d, c, u);
+            u = one_spot(work, plan, program, target, d, c, u);
         }
     }
     u

@@ -37,8 +37,8 @@ fn both_phases(
     requires { ⌜ (from < plan .places) × (to < plan .places) ⌝ }
     ensures { λ r. ⌜ SearchedIn (settingAt (now (program .entry)) plan (now (work .entry))) plan (firstStates plan begin from) to r (now (out .entry)) (now (out .exit)) ⌝ }
 {
-    let filed = ways::file_lines(work, plan);
-    backward::distances(work, plan, filed, program, begin, from, to);
+    ways::file_lines(work, plan);
+    backward::distances(work, plan, program, begin, from, to);
     let nearest = forward::nearest(work, plan, begin, from);
     if nearest == 0 {
         return nearest;

@@ -15,10 +15,10 @@ use Rattle.backward.proofs.search_back.Statement.{statement}
 use Rattle.backward.proofs.search_back.Tie as tie
 
 abbrev Inv-loop : tie.InvT-loop
-Inv-loop work₀ plan filed program begin from tail t₀ head₀ last₀ work t head last = Going (plan .base) (plan .size) (expand (settingIn program plan (front plan work₀))) head tail work₀ t work
+Inv-loop work₀ plan program begin from tail t₀ head₀ last₀ work t head last = Going (plan .base) (plan .size) (expand (settingIn program plan (front plan work₀))) head tail work₀ t work
 
 abbrev μ-loop : tie.MeasureT-loop
-μ-loop work₀ plan filed program begin from tail t₀ head₀ last₀ work t head last = plan .size - head
+μ-loop work₀ plan program begin from tail t₀ head₀ last₀ work t head last = plan .size - head
 
 abbrev prog : tie.Start Inv-loop μ-loop → List ℕ
 prog c = c .args .program .now

@@ -19,10 +19,10 @@ use Rattle.expanding.proofs.expand_state.Statement.{statement}
 use Rattle.expanding.proofs.expand_state.Tie as tie
 
 abbrev Inv-loop : tie.InvT-loop
-Inv-loop work₀ plan filed program d t tail target done u₀ c₀ work u c = (c ≤ plan .done) × Under (plan .base) (plan .size) (expand (settingIn program plan (front plan work₀)) d t) tail work₀ (turns (spotTurn program plan (front plan work₀) target d) c (plan .done - c)) u work
+Inv-loop work₀ plan program d t tail target done u₀ c₀ work u c = (c ≤ plan .done) × Under (plan .base) (plan .size) (expand (settingIn program plan (front plan work₀)) d t) tail work₀ (turns (spotTurn program plan (front plan work₀) target d) c (plan .done - c)) u work
 
 abbrev μ-loop : tie.MeasureT-loop
-μ-loop work₀ plan filed program d t tail target done u₀ c₀ work u c = plan .done - c
+μ-loop work₀ plan program d t tail target done u₀ c₀ work u c = plan .done - c
 
 abbrev prog : tie.Start Inv-loop μ-loop → List ℕ
 prog c = c .args .program .now
