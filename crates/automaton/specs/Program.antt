@@ -11,7 +11,7 @@ use lib.Dec.{eqb}
 use lib.ListN.{length, getD, set, length-set}
 use lib.Seq.{getD-set-same, getD-set-other}
 use Rattle.meaning.specs.Pattern.{Pattern, same, other, commands}
-use Rattle.automaton.specs.Listed.{_∈_, when}
+use Rattle.automaton.specs.Listed.{_∈_}
 use Rattle.automaton.specs.Automaton.{Node, Test, never, always, against, nodes, nodeAt, start}
 use Rattle.automaton.specs.Shape.{deeper}
 use Rattle.automaton.specs.declared.Row.{Row}

@@ -1,6 +1,6 @@
 // The compiler: from a pattern's bytes to its position automaton, written into a program.
 // Two passes over the bytes, both by recursion: what a pattern begins with, and with that the entries of its positions.
-ghost use Prim.Native.Nat.{_<_, _≤_};
+ghost use Prim.Native.Nat.{_<_};
 ghost use mathlib.Core.Path.{_≡_};
 ghost use mathlib.Core.List.{[], _∷_};
 ghost use Rattle.automaton.specs.Automaton.{silent};

@@ -1,7 +1,7 @@
 // Forward by one line from one state: the states to which it leads are visited; and the first states of a search. Marks and frontier are
 // phase two's pair of stretches, after the distances. The checker and both phases of the finder go by this.
 ghost use mathlib.Core.Path.{_≡_};
-ghost use Prim.Native.Nat.{ℕ, suc, _+_, _*_, _^_, _/_, _%_, _≤_, _<_};
+ghost use Prim.Native.Nat.{ℕ, _+_, _^_, _%_, _≤_, _<_};
 ghost use lib.ListN.{length};
 ghost use Rattle.automaton.specs.Program.{depthAt};
 ghost use Rattle.request.specs.Layout.{Laid};

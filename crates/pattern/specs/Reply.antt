@@ -1,6 +1,5 @@
 -- What reading a pattern promises: document 01's number and values of each case of `PatternReply`.
 -- `patternReply r ≡ told (counted (readPattern given s))` is the promise of the open function.
-use mathlib.Core.Path.{_≡_}
 use Prim.Native.Nat.{ℕ, _≤_}
 use Rattle.meaning.specs.Outcome.{Outcome, refused, passed, Reply, value, refusal}
 use Rattle.meaning.specs.Pattern.{Pattern, commands, keeps}

@@ -1,6 +1,6 @@
 -- The setting that a program and the words loaded into the work area say: what the loops of the search go by.
 use mathlib.Core.List.{List, [], _∷_}
-use Prim.Native.Nat.{ℕ, zero, suc, _+_, _-_}
+use Prim.Native.Nat.{ℕ, zero, suc, _+_}
 use lib.ListN.{getD, take}
 use Rattle.meaning.specs.Record.{Line}
 use Rattle.meaning.specs.Writing.{noLine}

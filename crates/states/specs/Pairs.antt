@@ -1,7 +1,7 @@
 -- The two pairs of stretches of a plan. Phase one's: distances and queue. Phase two's, after the distances: marks and frontiers.
 -- What a function of either phase asks and promises of its pair is said by these names.
 use mathlib.Core.List.{List}
-use Prim.Native.Nat.{ℕ, _+_}
+use Prim.Native.Nat.{ℕ}
 use Rattle.request.specs.declared.Plan.{Plan}
 use Rattle.search.specs.Moves.{visit}
 use Rattle.search.specs.Table.{Search}

@@ -5,7 +5,7 @@ use mathlib.Core.Bool.{Bool, true, false, cond, not, _&&_}
 use mathlib.Core.List.{List}
 use Prim.Native.Nat.{ℕ, _+_, _*_, _-_, _^_, _/_, _%_, _≤_, _<_}
 use lib.Dec.{eqb}
-use lib.ListN.{length, getD, take}
+use lib.ListN.{length, take}
 use Rattle.meaning.specs.Pattern.{same, other}
 use Rattle.meaning.specs.Language.{Compared, same-boat, other-boat, meets}
 use Rattle.automaton.specs.Program.{bitOf, rowAt, followAt, depthAt, leavesAt}

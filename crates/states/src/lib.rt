@@ -8,7 +8,7 @@ ghost use lib.ListN.{length, getD, set, replicate};
 ghost use Rattle.automaton.specs.Program.{rowAt, depthAt};
 ghost use Rattle.boats.specs.Codes.{telling};
 ghost use Rattle.search.specs.Table.{push};
-ghost use Rattle.states.specs.Area.{stretch, patch, found, Ready, Step};
+ghost use Rattle.states.specs.Area.{patch, found, Ready, Step};
 ghost use Rattle.states.specs.Served.{Thinnable};
 ghost use Rattle.states.specs.Spots.{toldShown, sameShown, metBy, spotIn, off, on, okay, TakenBy, OnlyKept, Lowest, targetIn};
 use automaton::Rule;

@@ -4,7 +4,7 @@ use mathlib.Core.Path.{_≡_}
 use mathlib.Core.Bool.{true}
 use mathlib.Core.List.{List}
 use Prim.Native.Nat.{ℕ, _+_, _/_, _≤_, _<_}
-use lib.ListN.{length, getD}
+use lib.ListN.{getD}
 use Rattle.request.specs.declared.Plan.{Plan}
 use Rattle.search.specs.Loops.{loop}
 use Rattle.search.specs.Table.{Search, blank}

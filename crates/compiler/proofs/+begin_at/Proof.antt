@@ -1,6 +1,6 @@
 -- `compiler::begin_at` meets its contract; the bytes left fall with each call. The command at the place passed its questions, so the
 -- pattern is one of three trees (`Parts`), and each way through the function is one law of `Beginnings`. Assumes nothing.
-use mathlib.Core.Path.{_≡_, subst}
+use mathlib.Core.Path.{subst}
 use mathlib.Core.List.{List}
 use Prim.Native.Nat.{ℕ, _-_, _<_, _≤_}
 use native.Mathlib.Omega.{arith}

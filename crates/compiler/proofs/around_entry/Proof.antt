@@ -1,6 +1,6 @@
 -- `compiler::around_entry` meets its contract: a keep's node pushes and is followed by what the pattern in it enters, a repeat's is
 -- silent. Assumes nothing.
-use mathlib.Core.Path.{_≡_, refl, ap}
+use mathlib.Core.Path.{refl, ap}
 use mathlib.Core.Bool.{true}
 use Prim.Native.Nat.{suc}
 use native.Mathlib.Omega.{arith}

@@ -1,5 +1,5 @@
 -- `compiler::begin_around` meets its contract: a keep takes a letter itself, a repeat begins as the pattern in it. Assumes nothing.
-use mathlib.Core.Path.{_≡_, refl}
+use mathlib.Core.Path.{refl}
 use borrow.Author.Needs.{needs}
 use Rattle.compiler.proofs.Beginnings.{around-keep, around-repeat, is-repeat, begins-as, keep-begins, repeat-begins}
 use Rattle.compiler.proofs.begin_around.Statement.{statement}

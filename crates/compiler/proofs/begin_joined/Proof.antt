@@ -1,6 +1,6 @@
 -- `compiler::begin_joined` meets its contract: an either begins as either of its patterns, a then as its first, and as its second
 -- where the first can be empty. Assumes nothing.
-use mathlib.Core.Path.{_≡_, refl, sym, ap, _∙_}
+use mathlib.Core.Path.{refl, sym, ap, _∙_}
 use mathlib.Core.Bool.{_&&_, _||_}
 use borrow.Author.Needs.{needs}
 use Rattle.compiler.proofs.Beginnings.{joined-either, joined-then, begins-as, begins-suc, either-begins, then-begins}

@@ -1,5 +1,5 @@
 -- `compiler::begin_leaf` meets its contract: nothing has no letter, every other command without patterns takes one. Assumes nothing.
-use mathlib.Core.Path.{_≡_, refl}
+use mathlib.Core.Path.{refl}
 use borrow.Author.Needs.{needs}
 use Rattle.compiler.proofs.Beginnings.{leaf-nothing, begins-as, nothing-begins, leaf-begins}
 use Rattle.compiler.proofs.begin_leaf.Statement.{statement}

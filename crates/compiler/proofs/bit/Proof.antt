@@ -1,5 +1,5 @@
 -- `compiler::bit` meets its contract: a shift of 1 by less than the width is a power of two. Assumes nothing.
-use mathlib.Core.Path.{_≡_, sym, subst}
+use mathlib.Core.Path.{sym, subst}
 use mathlib.Core.List.{[], _∷_}
 use Prim.Native.Nat.{ℕ}
 use borrow.Author.Needs.{needs}

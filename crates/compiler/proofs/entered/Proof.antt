@@ -1,5 +1,5 @@
 -- `compiler::entered` meets its contract: each arm is one side of `enter`'s condition. Assumes nothing.
-use mathlib.Core.Path.{_≡_, subst}
+use mathlib.Core.Path.{subst}
 use mathlib.Core.Bool.{Bool, cond}
 use lib.Bits.{bitOr}
 use Rattle.automaton.specs.Automaton.{enter}

@@ -1,6 +1,6 @@
 -- `compiler::inner_task` meets its contract: a keep is one more level and changes nothing of what comes after; a turn of a repeat
 -- may be followed by the repeat's heads. Assumes nothing.
-use mathlib.Core.Path.{_≡_, refl}
+use mathlib.Core.Path.{refl}
 use Prim.Native.Nat.{_<_}
 use lib.ListN.{length}
 use borrow.Author.Needs.{needs}

@@ -1,6 +1,6 @@
 -- `pattern::shape_of` meets its contract: the arrays hold the table's rows, the mark where there is none (`Table`).
 -- Assumes nothing.
-use mathlib.Core.Path.{_≡_, ap, sym, _∙_}
+use mathlib.Core.Path.{ap, sym, _∙_}
 use Prim.Native.Nat.{ℕ, _-_}
 use lib.ListN.{getD}
 use borrow.Author.Needs.{needs}

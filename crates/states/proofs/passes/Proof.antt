@@ -1,7 +1,6 @@
 -- `states::passes` meets its contract: everybody passes, or the comparison of the two numbers says it. Assumes nothing.
 use mathlib.Core.Path.{sym, ap, _∙_}
 use Rattle.boats.specs.Codes.{telling}
-use Rattle.states.specs.Spots.{metBy}
 use Rattle.states.proofs.Comparing.{okay-any, okay-told}
 use borrow.Author.Needs.{needs}
 use Rattle.states.proofs.passes.Statement.{statement}

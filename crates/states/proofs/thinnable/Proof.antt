@@ -1,5 +1,4 @@
 -- `states::thinnable` meets its contract, rule by rule. Assumes nothing.
-use mathlib.Core.Path.{_≡_}
 use mathlib.Core.Bool.{false≢true}
 use Prim.Native.Nat.{_/_, _%_}
 use Rattle.states.specs.Served.{everybody, all-but, nobody}

@@ -1,7 +1,7 @@
 -- `walk::choose_all` meets its contract: as long as a line gathers nothing the queue is as long as before, and the next line is tried. Assumes nothing.
 use mathlib.Core.Path.{_≡_, refl, sym, ap, _∙_}
 use mathlib.Core.List.{List}
-use Prim.Native.Nat.{ℕ, _+_, _-_, _≤_}
+use Prim.Native.Nat.{ℕ, _-_, _≤_}
 use native.Mathlib.Nat.{sub-zero}
 use native.Mathlib.Omega.{arith}
 use Rattle.states.specs.Area.{stretch, found, Under}

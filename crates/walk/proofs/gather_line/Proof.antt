@@ -1,6 +1,6 @@
 -- `walk::gather_line` meets its contract, by what is left of the frontier, which the line itself only appends to. Assumes nothing.
 use mathlib.Core.List.{List}
-use Prim.Native.Nat.{ℕ, _+_, _-_, _≤_}
+use Prim.Native.Nat.{ℕ, _-_, _≤_}
 use native.Mathlib.Omega.{arith}
 use Rattle.search.specs.Loops.{turns}
 use Rattle.states.specs.Area.{stretch, Under}
