@@ -12,7 +12,7 @@ use lib.Seq.{take-length, take-suc, take-suc-set, getD-take, getD-set-same, getD
 use borrow.Author.Tests.{eq-eqb, ne-eqb}
 use Rattle.meaning.specs.Record.{Boat, Line, agree, boatsAfter, boats}
 use Rattle.meaning.specs.Writing.{lineAt}
-use Rattle.boats.specs.Boats.{word, agree-same, agree-self, firstWith, firstSame, first-le, boats-more, boats-few}
+use Rattle.boats.specs.Boats.{asNumber, agree-same, agree-self, firstWith, firstSame, first-le, boats-more, boats-few}
 use Rattle.boats.specs.Codes.{codes, codes-length, code-earlier, code-new, first-has}
 use Rattle.boats.specs.Buckets.{bucketOf, bucketAt, StandsIn, Latest, Links, Numbered}
 
@@ -39,7 +39,7 @@ module _ (lines : List Line) (i : ℕ) (h : i < length lines) where
 
   -- the first line with the boat stands in line i's bucket
   first-stands : StandsIn lines (bucketAt lines i) first
-  first-stands = (ap (λ b. firstWith b lines) (sym first-boat), ap (λ b. bucketOf (word b)) (sym first-boat))
+  first-stands = (ap (λ b. firstWith b lines) (sym first-boat), ap (λ b. bucketOf (asNumber b)) (sym first-boat))
 
   -- and is not after the last line of the bucket
   latest-met : (k at : ℕ) → Latest lines (bucketAt lines i) k at → first < k → first < at

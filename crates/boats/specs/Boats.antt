@@ -1,5 +1,5 @@
 -- Counting the different boats: a line's boat is new exactly where no earlier line has it.
--- Claimed: `boats-more` (one line more, by the first line with its boat) and `word-agree` (a boat as one number).
+-- Claimed: `boats-more` (one line more, by the first line with its boat) and `number-agree` (a boat as one number).
 use mathlib.Core.Path.{_≡_, refl, sym, ap, _∙_}
 use mathlib.Core.Bool.{Bool, true, false, cond, _||_}
 use mathlib.Core.List.{List, [], _∷_, _++_}
@@ -28,23 +28,23 @@ agree-self a = true-and _ _ (eq-eqb (a .class) (a .class) refl) (eq-eqb (a .sail
 
 -- ---- a boat as one number: class · 2^24 + sail number
 
-abbrev pub word : Boat → ℕ
-word b = b .class * 16777216 + b .sail
+abbrev pub asNumber : Boat → ℕ
+asNumber b = b .class * 16777216 + b .sail
 
 -- a number says which boat it is
 pub record BoatIs (b : Boat) (n : ℕ) : Type 0 where
-  pub is : n ≡ word b
+  pub is : n ≡ asNumber b
   pub small : b .sail < 16777216
 
 module _ (a b : Boat) (small-a : a .sail < 16777216) (small-b : b .sail < 16777216) where
-  pub word-agree : word a ≡ word b → agree a b ≡ true
-  word-agree e = true-and _ _ (eq-eqb (a .class) (b .class) (omega arith)) (eq-eqb (a .sail) (b .sail) (omega arith))
+  pub number-agree : asNumber a ≡ asNumber b → agree a b ≡ true
+  number-agree e = true-and _ _ (eq-eqb (a .class) (b .class) (omega arith)) (eq-eqb (a .sail) (b .sail) (omega arith))
 
-  pub word-differ : (word a ≡ word b → ⊥) → agree a b ≡ false
-  word-differ n = go (agree a b) refl
+  pub number-differ : (asNumber a ≡ asNumber b → ⊥) → agree a b ≡ false
+  number-differ n = go (agree a b) refl
     where
       go : (t : Bool) → agree a b ≡ t → t ≡ false
-      go true e = absurd (n (ap word (agree-same a b e)))
+      go true e = absurd (n (ap asNumber (agree-same a b e)))
       go false e = refl
 
 -- ---- the first line with a boat

@@ -6,7 +6,7 @@ use Prim.Native.Nat.{ℕ, suc, _*_, _/_, _%_, _<_, _≤_}
 use lib.ListN.{length, getD, take}
 use Rattle.meaning.specs.Record.{Line, boats}
 use Rattle.meaning.specs.Writing.{lineAt}
-use Rattle.boats.specs.Boats.{word, firstSame}
+use Rattle.boats.specs.Boats.{asNumber, firstSame}
 use Rattle.boats.specs.Codes.{codes}
 
 -- the bucket of a boat as one number: the factor is 2^32 over the golden ratio, so that sail numbers in a row spread
@@ -15,7 +15,7 @@ bucketOf w = w * 2654435769 / 1048576 % 4096
 
 -- the bucket of line j
 abbrev pub bucketAt : List Line → ℕ → ℕ
-bucketAt lines j = bucketOf (word (lineAt lines j .boat))
+bucketAt lines j = bucketOf (asNumber (lineAt lines j .boat))
 
 -- line j is the first with its boat, and its bucket is q
 abbrev pub StandsIn : List Line → ℕ → ℕ → Type 0

@@ -2,7 +2,7 @@
 use mathlib.Core.Path.{_≡_, sym, _∙_, subst}
 use Prim.Native.Nat.{suc, _-_, _<_}
 use native.Mathlib.Omega.{arith}
-use Rattle.boats.specs.Boats.{word-agree, word-differ}
+use Rattle.boats.specs.Boats.{number-agree, number-differ}
 use Rattle.boats.specs.Buckets.{Latest}
 use Rattle.record.specs.Whole.{linesOf, lines-short}
 use Rattle.boats.proofs.Bucketing.{Met, met-from, met-none, met-hit, met-down, met-next}
@@ -43,7 +43,7 @@ returns c =
     let a = b .before .before .before .before in
     let one = a .pre .1 .0 in
     let two = c .before .boat-at .ensures in
-    sym (met-hit (linesOf (a .args .day .now)) (a .args .i) (a .pre .0) (b .before .loop .inv) _ (back b) (word-agree _ _ (one .small) (two .small) (sym (one .is) ∙ (sym (c .if1 .taken) ∙ two .is))))
+    sym (met-hit (linesOf (a .args .day .now)) (a .args .i) (a .pre .0) (b .before .loop .inv) _ (back b) (number-agree _ _ (one .small) (two .small) (sym (one .is) ∙ (sym (c .if1 .taken) ∙ two .is))))
 
 mul-wide : tie.Need-mul-wide Inv-loop μ-loop
 mul-wide c = omega (arith, low (c .before .before))
@@ -62,7 +62,7 @@ on c =
     let a = b .before .before .before .before in
     let one = a .pre .1 .0 in
     let two = k .boat-at .ensures in
-    subst (Met (linesOf (a .args .day .now)) (a .args .i)) (sym (c .wide2 .ensures)) (met-next (linesOf (a .args .day .now)) (a .args .i) (a .pre .0) (b .before .loop .inv) _ (back b) (a .args .links .now) (a .pre .1 .1 .1) (word-differ _ _ (one .small) (two .small) (λ e. c .before .before .if1 .left (two .is ∙ (sym e ∙ sym (one .is))))))
+    subst (Met (linesOf (a .args .day .now)) (a .args .i)) (sym (c .wide2 .ensures)) (met-next (linesOf (a .args .day .now)) (a .args .i) (a .pre .0) (b .before .loop .inv) _ (back b) (a .args .links .now) (a .pre .1 .1 .1) (number-differ _ _ (one .small) (two .small) (λ e. c .before .before .if1 .left (two .is ∙ (sym e ∙ sym (one .is))))))
 
 loop-less : tie.Need-loop-less Inv-loop μ-loop
 loop-less c =
