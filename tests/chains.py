@@ -2,7 +2,7 @@
 """The small program: its data sets and the line that each prints, from document 01's text alone.
 
 Run from the repository's root:
-python3 tests/chains.py write FOLDER    writes crates/*/data, crates/*/stdout and examples/ under the folder
+python3 tests/chains.py write FOLDER    writes crates/chains/data, its stdout, examples/day and tests/data under the folder
 python3 tests/chains.py run             runs ./chains on these data sets and on others that are too large to keep"""
 import os
 import subprocess
@@ -25,13 +25,11 @@ def said(day, ask):
 
 LAPS = record(2, (0, 3, 1, 7, 0), (0, 4, 1, 7, 1))
 
-# name: the record and the question.
+# name: the record and the question. These stand in files too: the worked day, and in tests/data two more for the examples.
+DAY = (R, question(0, 3, P))
 KEPT = {
-    "chains": (R, question(0, 3, P)),
-    "chains_none": (record(4, *(R_LINES[:5] + R_LINES[6:])), question(0, 3, P)),
-    "chains_empty": (E, question(0, 0, [0x20])),
-    "chains_damaged": (R[:-1], question(0, 3, P)),
-    "chains_short": (None, question(0, 3, P)[:3]),
+    "none": (record(4, *(R_LINES[:5] + R_LINES[6:])), question(0, 3, P)),
+    "damaged": (R[:-1], question(0, 3, P)),
 }
 
 def boats(n): return record(4, *[(a, k, 1, i, b) for a, k, b in ((0, 1, 1), (1, 2, 2), (2, 4, 3)) for i in range(n)])
@@ -42,6 +40,9 @@ TIMES = [0x25, 0x21, 3] * 31
 # Entered, that boat started, another or the same finished, and roundings of the two.
 TWO_KEEPS = [0x27, 1, 0, 0x25, 0x22, 2, 0, 0x27, 4, 1, 0x26, 0x24, 0x22, 3, 0, 0x22, 3, 1]
 OTHERS = {
+    "day": DAY,
+    "empty chain": (E, question(0, 0, [0x20])),
+    "no record and three bytes": (None, question(0, 3, P)[:3]),
     "area too small": (R, question(0, 3, [0x27, 1, 1, 0x27, 1, 2] + P)),
     "seventh line": (record(4, *(R_LINES + [(2, 4, 1, 150, 3)])), question(0, 3, P)),
     "T, S": (T, question(0, 0, S)),
@@ -82,11 +83,9 @@ def put(folder, day, ask):
 
 
 def write(folder):
-    for name, (day, ask) in KEPT.items():
-        if day is not None or ask is not None: put("%s/crates/%s/data" % (folder, name), day, ask)
-        os.makedirs("%s/crates/%s" % (folder, name), exist_ok=True)
-        with open("%s/crates/%s/stdout" % (folder, name), "w") as out: out.write(said(day, ask) + "\n")
-    put(folder + "/examples/day", *KEPT["chains"])
+    for kept in ("crates/chains/data", "examples/day"): put("%s/%s" % (folder, kept), *DAY)
+    with open(folder + "/crates/chains/stdout", "w") as out: out.write(said(*DAY) + "\n")
+    for name, files in KEPT.items(): put("%s/tests/data/%s" % (folder, name), *files)
 
 
 def run():

@@ -477,8 +477,8 @@ class Example(Case):
 
     def test_answers(self):
         self.assertEqual((0, read(DAY + "/worked_day.txt"), ""), self.run_in(self.command, DAY))
-        self.assertEqual((0, "none\n", ""), self.run_in(self.command, ROOT + "/crates/chains_none/data"))
-        status, said, more = self.run_in(self.command, ROOT + "/crates/chains_damaged/data")
+        self.assertEqual((0, "none\n", ""), self.run_in(self.command, ROOT + "/tests/data/none"))
+        status, said, more = self.run_in(self.command, ROOT + "/tests/data/damaged")
         self.assertEqual((0, "refused 3\n"), (status, said))
         self.assertRegex(more, r"\Aworked_day(\.py)?: %s\n\Z" % re.escape(sentences()["3"]))
 
@@ -505,7 +505,7 @@ class OneBoat(Case):
         self.assertEqual((0, read(folder + "/by_slip.txt"), ""), self.run_in(self.command, folder + "/day.rec"))
 
     def test_failures(self):
-        self.assertFails(self.run_in(self.command, ROOT + "/crates/chains_damaged/data/day.rec"), 1, "one_boat: " + sentences()["3"])
+        self.assertFails(self.run_in(self.command, ROOT + "/tests/data/damaged/day.rec"), 1, "one_boat: " + sentences()["3"])
         self.assertFails(self.run_in(self.command, self.folder), 1, "one_boat: Is a directory")
         self.assertFails(self.run_in(self.command), 1, "one_boat: name a file")
         with open("/dev/full", "w") as full:

@@ -1,4 +1,0 @@
-// The small program on a record without its end.
-fn main() {
-    asking::ask_files();
-}

@@ -1,4 +1,0 @@
-// The small program on a day without the finishing line: none.
-fn main() {
-    asking::ask_files();
-}
