@@ -22,9 +22,9 @@ largest = 1048576
 abbrev pub mostFront : ℕ
 mostFront = 16384
 
--- an inverse is a part of this
-abbrev pub whole : ℕ
-whole = 4398046511104
+-- an inverse is this number divided by another
+abbrev pub scale : ℕ
+scale = 4398046511104
 
 -- ---- the tables of a plan
 
@@ -51,7 +51,7 @@ pub record Laid (plan : Plan) (area : ℕ) : Type 0 where
   pub some-radix : 0 < plan .radix
   pub few-boats : plan .radix ≤ 4097
   pub stacks-is : plan .stacks ≡ plan .radix ^ plan .keeps
-  pub inverse-is : plan .inverse ≡ whole / plan .stacks + 1
+  pub inverse-is : plan .inverse ≡ scale / plan .stacks + 1
   pub size-is : plan .size ≡ plan .places * (plan .done + 1) * plan .stacks
   pub small : plan .size ≤ largest
   -- what is loaded, end to end

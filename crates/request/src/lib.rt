@@ -19,8 +19,8 @@ const LARGEST: usize = 1048576;
 // The words that a search needs besides four for each state.
 const EXTRA: usize = 8192;
 
-// An inverse is a part of this, 2^42.
-pub const WHOLE: usize = 4398046511104;
+// An inverse is this number, 2^42, divided by another.
+pub const SCALE: usize = 4398046511104;
 
 // The numbers of a search, and where each of its tables begins in the work area.
 pub struct Plan {
@@ -33,7 +33,7 @@ pub struct Plan {
     pub radix: usize,
     // radix to the power of keeps: how many stacks of kept boats there are.
     pub stacks: usize,
-    // WHOLE divided by stacks, and one: a number below 2^20 times this, divided by WHOLE, is that number divided by stacks.
+    // SCALE divided by stacks, and one: a number below 2^20 times this, divided by SCALE, is that number divided by stacks.
     pub inverse: usize,
     // The search size: places, positions and stacks.
     pub size: usize,
@@ -204,7 +204,7 @@ fn planned(
     ensures numbers { λ r. ⌜ (r .places ≡ places) × (r .lines ≡ lines) × (r .done ≡ done) × (r .keeps ≡ keeps) × (r .radix ≡ radix) × (r .boats ≡ at) ⌝ }
 {
     let stacks = size / (places * (done + 1));
-    let inverse = WHOLE / stacks + 1;
+    let inverse = SCALE / stacks + 1;
     let words = at + lines;
     let base = words + lines;
     let marks = base + size;

@@ -10,7 +10,7 @@ use lib.ListN.{length, getD, take}
 use lib.Pow.{pow-add}
 use lib.Seq.{getD-take}
 use Rattle.automaton.specs.Program.{rowAt, depthAt}
-use Rattle.request.specs.Layout.{Laid, toIn}
+use Rattle.request.specs.Layout.{largest, Laid, toIn}
 use Rattle.request.specs.declared.Plan.{Plan}
 use Rattle.search.specs.Loaded.{codeAt, wordAt}
 use Rattle.states.specs.Spots.{front, Starts, Fit, spotIn, Sane, off, offBy, targetIn, Aimed, Stacks}
@@ -18,7 +18,7 @@ use Rattle.states.specs.declared.Spot.{Spot}
 use Rattle.states.specs.declared.Target.{Target}
 
 -- one more factor
-pub pow-turn : (R e i p : ℕ) → 0 < R → i < e → R ^ e ≤ 1048576 → p ≡ R ^ i → (p * R ≤ 1048576) × (p * R ≡ R ^ (i + 1))
+pub pow-turn : (R e i p : ℕ) → 0 < R → i < e → R ^ e ≤ largest → p ≡ R ^ i → (p * R ≤ largest) × (p * R ≡ R ^ (i + 1))
 pow-turn R e i p pos h k q =
     let next : i + 1 ≡ suc i = omega arith in
     let t : p * R ≡ R ^ (i + 1) = ap (_* R) q ∙ (sym (pow-suc R i) ∙ ap (R ^_) (sym next)) in
@@ -31,7 +31,7 @@ pow-one R e h = sym (ap (R ^_) h ∙ (pow-suc R 0 ∙ (ap (_* R) (pow-zero R) �
 pub pow-two : (R e : ℕ) → e ≡ 2 → R * R ≡ R ^ e
 pow-two R e h = sym (ap (R ^_) h ∙ (pow-suc R 1 ∙ ap (_* R) (sym (pow-one R 1 refl))))
 
-pub product-small : (x y : ℕ) → x < 4294967296 → y ≤ 1048576 → x * y ≤ 4503599626321920
+pub product-small : (x y : ℕ) → x < 4294967296 → y ≤ largest → x * y ≤ 4503599626321920
 product-small x y h k = let a : x ≤ 4294967295 = omega arith in mul-le-mul a k
 
 off-by : (b : Bool) (d v : ℕ) → offBy b d v ≤ v
@@ -75,7 +75,7 @@ module _ {plan : Plan} {area : ℕ} (l : Laid plan area) where
       some-of : (p : ℕ) → 0 < p → 0 < p * (plan .done + 1)
       some-of p h = let one : 0 < plan .done + 1 = omega arith in omega (arith, le-mul-of-pos-right p one)
 
-  pub power-small : (e : ℕ) → e ≤ plan .keeps → plan .radix ^ e ≤ 1048576
+  pub power-small : (e : ℕ) → e ≤ plan .keeps → plan .radix ^ e ≤ largest
   power-small e h = omega (arith, power-fits e h, stacks-small, l .small)
 
   -- the stacks that a node of depth D can leave and that are w when cut to depth e
@@ -85,7 +85,7 @@ module _ {plan : Plan} {area : ℕ} (l : Laid plan area) where
       lt-of-lt-of-le (rw (← pow-add (plan .radix) (D - e) e) at below) (power-fits (D - e + e) (omega arith))
 
   -- the states at one place
-  pub block-small : (plan .done + 1) * plan .stacks ≤ 1048576
+  pub block-small : (plan .done + 1) * plan .stacks ≤ largest
   block-small =
       let block = (plan .done + 1) * plan .stacks in
       let whole : plan .size ≡ block * plan .places = l .size-is ∙ (mul-assoc (plan .places) (plan .done + 1) (plan .stacks) ∙ mul-comm (plan .places) block) in

@@ -12,7 +12,7 @@ use Rattle.automaton.specs.Program.{bitOf, rowAt, followAt, depthAt, leavesAt}
 use Rattle.automaton.specs.declared.Rule.{Rule}
 use Rattle.automaton.specs.declared.Rule.the-variants as Rule
 use Rattle.boats.specs.Codes.{telling}
-use Rattle.request.specs.Layout.{Laid, fromIn, toIn, kindIn}
+use Rattle.request.specs.Layout.{largest, Laid, fromIn, toIn, kindIn}
 use Rattle.request.specs.declared.Plan.{Plan}
 use Rattle.search.specs.Loops.{turns}
 use Rattle.search.specs.Table.{Search, push}
@@ -73,7 +73,7 @@ spotIn a R c =
 pub record Sane (s : Spot) : Type 0 where
   pub some-level : 0 < s .level
   pub some-weight : 0 < s .weight
-  pub small-weight : s .weight ≤ 1048576
+  pub small-weight : s .weight ≤ largest
 
 -- the stack v without its top, and the stack u with the boat number x on top, where there is a push
 abbrev pub offBy : Bool → ℕ → ℕ → ℕ

@@ -7,12 +7,14 @@ ghost use lib.Dec.{eqb};
 ghost use lib.ListN.{length, getD, set, replicate};
 ghost use Rattle.automaton.specs.Program.{rowAt, depthAt};
 ghost use Rattle.boats.specs.Codes.{telling};
+ghost use Rattle.request.specs.Layout.{largest, scale};
 ghost use Rattle.search.specs.Table.{push};
 ghost use Rattle.states.specs.Area.{patch, found, Ready, Step};
 ghost use Rattle.states.specs.Served.{Thinnable};
 ghost use Rattle.states.specs.Spots.{toldShown, sameShown, metBy, spotIn, off, on, okay, TakenBy, OnlyKept, Lowest, targetIn};
 use automaton::Rule;
 use request::Plan;
+use request::SCALE;
 
 // ---- the work area
 
@@ -164,7 +166,7 @@ pub fn wide(x: u8) -> usize
 
 // radix^e, one factor after the other.
 fn product(radix: usize, e: usize) -> usize
-    requires { ⌜ (0 < radix) × (radix ^ e ≤ 1048576) ⌝ }
+    requires { ⌜ (0 < radix) × (radix ^ e ≤ largest) ⌝ }
     ensures { λ r. ⌜ r ≡ radix ^ e ⌝ }
 {
     let mut p = 1;
@@ -178,7 +180,7 @@ fn product(radix: usize, e: usize) -> usize
 
 // radix^e. Most stacks are at most two deep, so those powers are answered without a loop.
 pub fn power(radix: usize, e: usize) -> usize
-    requires { ⌜ (0 < radix) × (radix ^ e ≤ 1048576) ⌝ }
+    requires { ⌜ (0 < radix) × (radix ^ e ≤ largest) ⌝ }
     ensures { λ r. ⌜ r ≡ radix ^ e ⌝ }
 {
     if e == 0 {
@@ -196,7 +198,7 @@ pub fn power(radix: usize, e: usize) -> usize
 // Position `c`.
 pub fn spot_at(program: &[u64; 128], radix: usize, c: usize) -> Spot
     requires { ⌜ (c < 64) × (0 < radix) ⌝ }
-    requires { ⌜ (radix ^ rowAt (now program) c .level ≤ 1048576) × (radix ^ depthAt (now program) c ≤ 1048576) ⌝ }
+    requires { ⌜ (radix ^ rowAt (now program) c .level ≤ largest) × (radix ^ depthAt (now program) c ≤ largest) ⌝ }
     ensures { λ r. ⌜ r ≡ spotIn (now (program .entry)) radix c ⌝ }
 {
     let row = automaton::row_at(program, c);
@@ -222,7 +224,7 @@ pub fn take_off(spot: Spot, v: usize) -> usize
 
 // The stack after the position, of the stack before it and the line's boat number.
 pub fn put_on(spot: Spot, u: usize, code: u32) -> usize
-    requires { ⌜ (spot .weight ≤ 1048576) × (u < 4294967296) ⌝ }
+    requires { ⌜ (spot .weight ≤ largest) × (u < 4294967296) ⌝ }
     ensures { λ r. ⌜ r ≡ on spot u code ⌝ }
 {
     if spot.push {
@@ -332,7 +334,7 @@ pub fn thinnable(spot: Spot) -> bool
 
 // The state at a place and a position with a stack.
 pub fn state_at(plan: Plan, place: usize, position: usize, stack: usize) -> usize
-    requires { ⌜ (plan .size ≡ plan .places * (plan .done + 1) * plan .stacks) × (plan .size ≤ 1048576) × (plan .done ≤ 63) ⌝ }
+    requires { ⌜ (plan .size ≡ plan .places * (plan .done + 1) * plan .stacks) × (plan .size ≤ largest) × (plan .done ≤ 63) ⌝ }
     requires { ⌜ (place < plan .places) × (position ≤ plan .done) × (stack < plan .stacks) ⌝ }
     ensures { λ r. ⌜ (r ≡ (place * (plan .done + 1) + position) * plan .stacks + stack) × (r < plan .size) ⌝ }
 {
@@ -341,7 +343,7 @@ pub fn state_at(plan: Plan, place: usize, position: usize, stack: usize) -> usiz
 
 // Is the state `s` at the place `q`? Asked without a division, since most lines start elsewhere.
 pub fn stands_at(plan: Plan, s: usize, q: usize) -> bool
-    requires { ⌜ (0 < plan .stacks) × ((plan .done + 1) * plan .stacks ≤ 1048576) × (plan .done ≤ 63) × (q < 4294967296) ⌝ }
+    requires { ⌜ (0 < plan .stacks) × ((plan .done + 1) * plan .stacks ≤ largest) × (plan .done ≤ 63) × (q < 4294967296) ⌝ }
     ensures { λ r. ⌜ r ≡ eqb q (s / plan .stacks / (plan .done + 1)) ⌝ }
 {
     let block = (plan.done + 1) * plan.stacks;
@@ -360,13 +362,13 @@ pub struct Stand {
 
 // Those of the state `s`, which is at the place `q`, without a division by the stacks.
 pub fn standing_at(plan: Plan, s: usize, q: usize) -> Stand
-    requires { ⌜ (0 < plan .stacks) × ((plan .done + 1) * plan .stacks ≤ 1048576) × (plan .done ≤ 63) × (q < 4294967296) ⌝ }
-    requires { ⌜ (eqb q (s / plan .stacks / (plan .done + 1)) ≡ true) × (plan .inverse ≡ 4398046511104 / plan .stacks + 1) ⌝ }
+    requires { ⌜ (0 < plan .stacks) × ((plan .done + 1) * plan .stacks ≤ largest) × (plan .done ≤ 63) × (q < 4294967296) ⌝ }
+    requires { ⌜ (eqb q (s / plan .stacks / (plan .done + 1)) ≡ true) × (plan .inverse ≡ scale / plan .stacks + 1) ⌝ }
     ensures { λ r. ⌜ (r .position ≡ s / plan .stacks % (plan .done + 1)) × (r .stack ≡ s % plan .stacks) ⌝ }
 {
     let low = q * ((plan.done + 1) * plan.stacks);
     let rest = s - low;
-    let position = rest * plan.inverse / 4398046511104;
+    let position = rest * plan.inverse / SCALE;
     Stand {
         position,
         stack: rest - position * plan.stacks,
@@ -396,7 +398,7 @@ pub struct Target {
 
 // The state `t` by its numbers.
 pub fn target_of(program: &[u64; 128], plan: Plan, t: usize) -> Target
-    requires { ⌜ (0 < plan .stacks) × (0 < plan .radix) × (plan .done ≤ 63) × ((k : ℕ) → k ≤ plan .done → plan .radix ^ depthAt (now program) k ≤ 1048576) ⌝ }
+    requires { ⌜ (0 < plan .stacks) × (0 < plan .radix) × (plan .done ≤ 63) × ((k : ℕ) → k ≤ plan .done → plan .radix ^ depthAt (now program) k ≤ largest) ⌝ }
     ensures { λ r. ⌜ r ≡ targetIn (now (program .entry)) plan t ⌝ }
 {
     let position = t / plan.stacks % (plan.done + 1);

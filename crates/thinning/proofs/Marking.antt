@@ -10,7 +10,7 @@ use lib.ListN.{length, getD, set, take, drop, length-set, length-drop}
 use borrow.Author.Tests.{ne-eqb}
 use lib.Seq.{take-suc, getD-drop, getD-set-same, getD-set-other}
 use Rattle.automaton.specs.Listed.{_∈_}
-use Rattle.sorting.specs.Sorting.{Kept}
+use Rattle.sorting.specs.Sorting.{packBy, Kept}
 use Rattle.sorting.proofs.Turns.{kept-none, kept-then, kept-set, kept-get}
 use Rattle.states.specs.Area.{stretch}
 use Rattle.states.specs.Served.{Served, everybody, all-but, nobody}
@@ -41,55 +41,55 @@ module _ (s n : ℕ) where
   -- ---- a word left out
 
   pub covered : (t x : ℕ) (vs w : List ℕ)
-      → Marked s n t vs w → x / 8192 < n → first s n (x / 8192) w / 8192 ≡ t → (first s n (x / 8192) w % 8192 ≡ x % 8192) ⊎ (other s n (x / 8192) w ≡ t) → Covered vs x
+      → Marked s n t vs w → x / packBy < n → first s n (x / packBy) w / packBy ≡ t → (first s n (x / packBy) w % packBy ≡ x % packBy) ⊎ (other s n (x / packBy) w ≡ t) → Covered vs x
   covered t x vs w m low h (inl e) T served passes =
-      let (y, has, from, is) = m .has-first (x / 8192) low h in
+      let (y, has, from, is) = m .has-first (x / packBy) low h in
       (y, has, record { from = from; passes = ap T (is ∙ e) ∙ passes })
   covered t x vs w m low h (inr e) T served passes =
-      let (y, has, from, is) = m .has-first (x / 8192) low h in
-      let (z, has′, from′, differs) = m .has-other (x / 8192) low e .1 in
+      let (y, has, from, is) = m .has-first (x / packBy) low h in
+      let (z, has′, from′, differs) = m .has-other (x / packBy) low e .1 in
       ⊎-elim
       (λ p. (y, has, record { from = from; passes = p }))
       (λ p. (z, has′, record { from = from′; passes = p }))
-      (one-of-two served (x % 8192) passes (y % 8192) (z % 8192) (λ q. differs (sym q ∙ is)))
+      (one-of-two served (x % packBy) passes (y % packBy) (z % packBy) (λ q. differs (sym q ∙ is)))
 
   -- ---- a word kept
 
   -- the marks of other places say what they said, and those of its own place say what is so
   module _ (t x : ℕ) (vs w v : List ℕ) (m : Marked s n t vs w)
-      (same : (g : ℕ) → g < n → (g ≡ x / 8192 → ⊥) → (first s n g v ≡ first s n g w) × (other s n g v ≡ other s n g w))
-      (own-first : (y : ℕ) × (y ∈ (vs ++ (x ∷ []))) × (y / 8192 ≡ x / 8192) × (y % 8192 ≡ first s n (x / 8192) v % 8192))
-      (own-other : other s n (x / 8192) v ≡ t
-      → (first s n (x / 8192) v / 8192 ≡ t) × ((y : ℕ) × (y ∈ (vs ++ (x ∷ []))) × (y / 8192 ≡ x / 8192) × (y % 8192 ≡ first s n (x / 8192) v % 8192 → ⊥)))
-      (own-stale : (first s n (x / 8192) v / 8192 < suc t) × (other s n (x / 8192) v < suc t)) where
-    all-first : (g : ℕ) → g < n → first s n g v / 8192 ≡ t → (y : ℕ) × (y ∈ (vs ++ (x ∷ []))) × (y / 8192 ≡ g) × (y % 8192 ≡ first s n g v % 8192)
-    all-first g l h = elim (ℕ-discrete g (x / 8192)) [
-      | yes e ↦ subst (λ z. (y : ℕ) × (y ∈ (vs ++ (x ∷ []))) × (y / 8192 ≡ z) × (y % 8192 ≡ first s n z v % 8192)) (sym e) own-first
+      (same : (g : ℕ) → g < n → (g ≡ x / packBy → ⊥) → (first s n g v ≡ first s n g w) × (other s n g v ≡ other s n g w))
+      (own-first : (y : ℕ) × (y ∈ (vs ++ (x ∷ []))) × (y / packBy ≡ x / packBy) × (y % packBy ≡ first s n (x / packBy) v % packBy))
+      (own-other : other s n (x / packBy) v ≡ t
+      → (first s n (x / packBy) v / packBy ≡ t) × ((y : ℕ) × (y ∈ (vs ++ (x ∷ []))) × (y / packBy ≡ x / packBy) × (y % packBy ≡ first s n (x / packBy) v % packBy → ⊥)))
+      (own-stale : (first s n (x / packBy) v / packBy < suc t) × (other s n (x / packBy) v < suc t)) where
+    all-first : (g : ℕ) → g < n → first s n g v / packBy ≡ t → (y : ℕ) × (y ∈ (vs ++ (x ∷ []))) × (y / packBy ≡ g) × (y % packBy ≡ first s n g v % packBy)
+    all-first g l h = elim (ℕ-discrete g (x / packBy)) [
+      | yes e ↦ subst (λ z. (y : ℕ) × (y ∈ (vs ++ (x ∷ []))) × (y / packBy ≡ z) × (y % packBy ≡ first s n z v % packBy)) (sym e) own-first
       | no d ↦
           (let a = same g l d .0 in
-          let r = m .has-first g l (ap (λ z. z / 8192) (sym a) ∙ h) in
-          (r .0, Memᴰ·append-left (x ∷ []) (r .1), r .2, r .3 ∙ ap (λ z. z % 8192) (sym a)))
+          let r = m .has-first g l (ap (λ z. z / packBy) (sym a) ∙ h) in
+          (r .0, Memᴰ·append-left (x ∷ []) (r .1), r .2, r .3 ∙ ap (λ z. z % packBy) (sym a)))
     ]
 
     all-other : (g : ℕ) → g < n → other s n g v ≡ t
-        → (first s n g v / 8192 ≡ t) × ((y : ℕ) × (y ∈ (vs ++ (x ∷ []))) × (y / 8192 ≡ g) × (y % 8192 ≡ first s n g v % 8192 → ⊥))
-    all-other g l h = elim (ℕ-discrete g (x / 8192)) [
+        → (first s n g v / packBy ≡ t) × ((y : ℕ) × (y ∈ (vs ++ (x ∷ []))) × (y / packBy ≡ g) × (y % packBy ≡ first s n g v % packBy → ⊥))
+    all-other g l h = elim (ℕ-discrete g (x / packBy)) [
       | yes e ↦
-          (subst (λ z. (first s n z v / 8192 ≡ t) × ((y : ℕ) × (y ∈ (vs ++ (x ∷ []))) × (y / 8192 ≡ z) × (y % 8192 ≡ first s n z v % 8192 → ⊥))) (sym e)
+          (subst (λ z. (first s n z v / packBy ≡ t) × ((y : ℕ) × (y ∈ (vs ++ (x ∷ []))) × (y / packBy ≡ z) × (y % packBy ≡ first s n z v % packBy → ⊥))) (sym e)
           (own-other (ap (λ z. other s n z v) (sym e) ∙ h)))
       | no d ↦
           (let a = same g l d .0 in
           let r = m .has-other g l (sym (same g l d .1) ∙ h) in
-          (ap (λ z. z / 8192) a ∙ r .0, (r .1 .0, Memᴰ·append-left (x ∷ []) (r .1 .1), r .1 .2, λ z. r .1 .3 (z ∙ ap (λ y. y % 8192) a))))
+          (ap (λ z. z / packBy) a ∙ r .0, (r .1 .0, Memᴰ·append-left (x ∷ []) (r .1 .1), r .1 .2, λ z. r .1 .3 (z ∙ ap (λ y. y % packBy) a))))
     ]
 
     all-stale : Stale s n (suc t) v
-    all-stale g l = elim (ℕ-discrete g (x / 8192)) [
-      | yes e ↦ subst (λ z. (first s n z v / 8192 < suc t) × (other s n z v < suc t)) (sym e) own-stale
+    all-stale g l = elim (ℕ-discrete g (x / packBy)) [
+      | yes e ↦ subst (λ z. (first s n z v / packBy < suc t) × (other s n z v < suc t)) (sym e) own-stale
       | no d ↦
           (let a = same g l d in
           let r = m .stale g l in
-          (subst (λ z. z / 8192 < suc t) (sym (a .0)) (r .0), subst (λ z. z < suc t) (sym (a .1)) (r .1)))
+          (subst (λ z. z / packBy < suc t) (sym (a .0)) (r .0), subst (λ z. z < suc t) (sym (a .1)) (r .1)))
     ]
 
     pub marked-kept : Marked s n t (vs ++ (x ∷ [])) v
@@ -118,16 +118,16 @@ module _ (s n : ℕ) where
 
   -- ---- the marks after a word kept
 
-  module _ (t x i : ℕ) (vs w : List ℕ) (m : Marked s n t vs w) (under : i < s) (fits : s + n + n ≤ length w) (low : x / 8192 < n) where
+  module _ (t x i : ℕ) (vs w : List ℕ) (m : Marked s n t vs w) (under : i < s) (fits : s + n + n ≤ length w) (low : x / packBy < n) where
     abbrev f : ℕ
-    f = x / 8192
+    f = x / packBy
 
     last-in : x ∈ (vs ++ (x ∷ []))
     last-in = Memᴰ·append-right vs (List·Memᴰ·head refl)
 
-    pub marked-new : (first s n f w / 8192 ≡ t → ⊥) → Marked s n t (vs ++ (x ∷ [])) (set (set w (s + f) (t * 8192 + x % 8192)) i x)
+    pub marked-new : (first s n f w / packBy ≡ t → ⊥) → Marked s n t (vs ++ (x ∷ [])) (set (set w (s + f) (t * packBy + x % packBy)) i x)
     marked-new d =
-        let y = t * 8192 + x % 8192 in
+        let y = t * packBy + x % packBy in
         let v = set (set w (s + f) y) i x in
         let in-marks : s ≤ s + f = omega arith in
         let high : s + f < s + n + n = omega (arith, low) in
@@ -136,11 +136,11 @@ module _ (s n : ℕ) where
         let beside : (g : ℕ) → other s n g v ≡ other s n g w = λ g. keeps (s + n + g) (omega arith) (λ e. omega (arith, e, low)) in
         marked-kept t x vs w v m
         (λ g l c. (keeps (s + g) (omega arith) (λ e. c (omega (arith, e))), beside g))
-        (x, last-in, refl, (let is : x % 8192 ≡ y % 8192 = omega arith in is ∙ ap (λ z. z % 8192) (sym own)))
+        (x, last-in, refl, (let is : x % packBy ≡ y % packBy = omega arith in is ∙ ap (λ z. z % packBy) (sym own)))
         (λ e. absurd (d (m .has-other f low (sym (beside f) ∙ e) .0)))
         (omega (arith, own), subst (λ z. z < suc t) (sym (beside f)) (m .stale f low .1))
 
-    pub marked-more : first s n f w / 8192 ≡ t → (first s n f w % 8192 ≡ x % 8192 → ⊥) → Marked s n t (vs ++ (x ∷ [])) (set (set w (s + n + f) t) i x)
+    pub marked-more : first s n f w / packBy ≡ t → (first s n f w % packBy ≡ x % packBy → ⊥) → Marked s n t (vs ++ (x ∷ [])) (set (set w (s + n + f) t) i x)
     marked-more h d =
         let v = set (set w (s + n + f) t) i x in
         let in-marks : s ≤ s + n + f = omega arith in
@@ -152,9 +152,9 @@ module _ (s n : ℕ) where
         let a = m .has-first f low h in
         marked-kept t x vs w v m
         (λ g l c. (beside g l, keeps (s + n + g) (omega arith) (λ e. c (omega (arith, e)))))
-        (a .0, Memᴰ·append-left (x ∷ []) (a .1), a .2, a .3 ∙ ap (λ z. z % 8192) (sym is))
-        (λ e. (ap (λ z. z / 8192) is ∙ h, (x, last-in, refl, λ z. d (sym (z ∙ ap (λ y. y % 8192) is)))))
-        (subst (λ z. z / 8192 < suc t) (sym is) (m .stale f low .0), omega (arith, own))
+        (a .0, Memᴰ·append-left (x ∷ []) (a .1), a .2, a .3 ∙ ap (λ z. z % packBy) (sym is))
+        (λ e. (ap (λ z. z / packBy) is ∙ h, (x, last-in, refl, λ z. d (sym (z ∙ ap (λ y. y % packBy) is)))))
+        (subst (λ z. z / packBy < suc t) (sym is) (m .stale f low .0), omega (arith, own))
 
 -- ---- a run under way
 
@@ -180,8 +180,8 @@ module _ {s n : ℕ} where
     read-same : getD w p 0 ≡ getD w₀ p 0
     read-same = kept-get (g .kept) p (omega (arith, less, a .apart))
 
-    pub read-low : {x : ℕ} → x ≡ getD w p 0 → x / 8192 < n
-    read-low {x} e = subst (λ z. z / 8192 < n) (sym (e ∙ read-same)) (a .low p (g .begun) less)
+    pub read-low : {x : ℕ} → x ≡ getD w p 0 → x / packBy < n
+    read-low {x} e = subst (λ z. z / packBy < n) (sym (e ∙ read-same)) (a .low p (g .begun) less)
 
     -- the next word kept comes to stand before the marks
     pub next-low : u < s
@@ -216,11 +216,11 @@ module _ {s n : ℕ} where
       pub going-read : {r : ℕ} {v : List ℕ} → Read s n t x u w r v → Going s n t lo b (p + 1) r w₀ v
       going-read (new d er ev) =
           shown-as er ev
-          (going-kept (s + x / 8192) (t * 8192 + x % 8192) (omega arith) (omega (arith, read-low e))
+          (going-kept (s + x / packBy) (t * packBy + x % packBy) (omega arith) (omega (arith, read-low e))
           (marked-new s n t x u (stretch b (u - b) w) w (g .marked) next-low going-fits (read-low e) d))
       going-read (more h d er ev) =
           shown-as er ev
-          (going-kept (s + n + x / 8192) t (omega arith) (omega (arith, read-low e))
+          (going-kept (s + n + x / packBy) t (omega arith) (omega (arith, read-low e))
           (marked-more s n t x u (stretch b (u - b) w) w (g .marked) next-low going-fits (read-low e) h d))
       going-read (spare h d er ev) =
           shown-as er ev

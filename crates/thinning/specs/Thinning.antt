@@ -7,21 +7,21 @@ use Prim.Native.Nat.{ℕ, suc, _+_, _-_, _/_, _%_, _≤_, _<_}
 use lib.ListN.{getD}
 use Rattle.automaton.specs.Listed.{_∈_}
 use Rattle.request.specs.declared.Plan.{Plan}
-use Rattle.sorting.specs.Sorting.{keys, packIn, linesFrom, sortedEnd}
+use Rattle.sorting.specs.Sorting.{packBy, keys, packIn, linesFrom, sortedEnd}
 use Rattle.sorting.specs.declared.Order.the-variants as Order
 use Rattle.states.specs.Area.{stretch}
 use Rattle.states.specs.Served.{Served}
 use Rattle.states.specs.Spots.{front}
 
--- a word written of a line is the place that it comes from times 8192 and its boat's number. Where the boats that pass are those of T, the
+-- a word written of a line is the place that it comes from times packBy and its boat's number. Where the boats that pass are those of T, the
 -- word y stands for the word x: it comes from the same place, and passes
 pub record StandsFor (T : ℕ → Bool) (x y : ℕ) : Type 0 where
-  pub from : y / 8192 ≡ x / 8192
-  pub passes : T (y % 8192) ≡ true
+  pub from : y / packBy ≡ x / packBy
+  pub passes : T (y % packBy) ≡ true
 
 -- whichever set that is served has those that pass: where x passes, a word of ys stands for it
 abbrev pub Covered : List ℕ → ℕ → Type 0
-Covered ys x = (T : ℕ → Bool) → Served T → T (x % 8192) ≡ true → (y : ℕ) × (y ∈ ys) × StandsFor T x y
+Covered ys x = (T : ℕ → Bool) → Served T → T (x % packBy) ≡ true → (y : ℕ) × (y ∈ ys) × StandsFor T x y
 
 -- ys are the words of xs, in their order, without some that those before them cover
 pub data Thin : List ℕ → List ℕ → Type 0 where
@@ -31,7 +31,7 @@ pub data Thin : List ℕ → List ℕ → Type 0 where
 
 -- what is written of each line says a place that it comes from
 abbrev pub FromPlaces : Plan → List ℕ → Type 0
-FromPlaces plan w = (i : ℕ) → i < plan .lines → packIn Order.Kind plan (front plan w) i / 8192 < plan .places
+FromPlaces plan w = (i : ℕ) → i < plan .lines → packIn Order.Kind plan (front plan w) i / packBy < plan .places
 
 -- ---- the table, from word `at` on, of a table sorted by kind that begins at word `of`
 

@@ -7,6 +7,7 @@ use native.Mathlib.Omega.{arith}
 use lib.Arith.{digits-lt}
 use lib.Dec.{eqb}
 use borrow.Author.Tests.{ne-eqb}
+use Rattle.request.specs.Layout.{largest}
 use Rattle.request.specs.declared.Plan.{Plan}
 use Rattle.search.specs.Loops.{turns}
 use Rattle.search.specs.Table.{Search, push}
@@ -14,6 +15,7 @@ use Rattle.states.specs.Spots.{okay, OnlyKept, stackTurn}
 use Rattle.states.specs.declared.Spot.{Spot}
 use Rattle.states.specs.declared.Target.{Target}
 use Rattle.states.proofs.Bounds.{power-fits, power-small}
+use Rattle.sorting.specs.Sorting.{packBy}
 use Rattle.ways.specs.Ways.{Single, Before}
 use Rattle.ways.proofs.Right.{stack-plain, stack-pushed, stack-forgotten, stack-left, stack-fits}
 
@@ -29,9 +31,9 @@ module _ (plan : Plan) (s : Spot) (t : Target) (c leaves : ℕ) (b : Before plan
   abbrev R : ℕ
   R = plan .radix
 
-  -- no boat has the number 8192
-  pub no-number : (x : ℕ) → x < R → not (eqb x 8192) ≡ true
-  no-number x low = ap not (ne-eqb x 8192 (λ e. omega (arith, e, low, b .laid .few-boats)))
+  -- no boat has the number packBy
+  pub no-number : (x : ℕ) → x < R → not (eqb x packBy) ≡ true
+  no-number x low = ap not (ne-eqb x packBy (λ e. omega (arith, e, low, b .laid .few-boats)))
 
   -- ---- the same, said otherwise
 
@@ -55,8 +57,8 @@ module _ (plan : Plan) (s : Spot) (t : Target) (c leaves : ℕ) (b : Before plan
         law = λ d home x low st. stack-plain R s d home x (t .weight) (t .stack) st e ∙ ap (λ z. cond z (push d (home + t .stack) st) st) (is x low);
       }
 
-  pub any-single : s .push ≡ false → ((x : ℕ) → okay R s x (t .stack) ≡ true) → Single plan s t 1 (λ x. not (eqb x 8192)) (λ x. t .stack + x * 0)
-  any-single e any = flat (plain e (λ x. not (eqb x 8192)) (λ x low. any x ∙ sym (no-number x low)))
+  pub any-single : s .push ≡ false → ((x : ℕ) → okay R s x (t .stack) ≡ true) → Single plan s t 1 (λ x. not (eqb x packBy)) (λ x. t .stack + x * 0)
+  any-single e any = flat (plain e (λ x. not (eqb x packBy)) (λ x low. any x ∙ sym (no-number x low)))
 
   pub only-single : s .push ≡ false → (y : ℕ) → ((x : ℕ) → okay R s x (t .stack) ≡ eqb x y) → Single plan s t 1 (λ x. eqb x y) (λ x. t .stack)
   only-single e y is = plain e (λ x. eqb x y) (λ x low. is x)
@@ -78,17 +80,17 @@ module _ (plan : Plan) (s : Spot) (t : Target) (c leaves : ℕ) (b : Before plan
 
   -- each line is taken
   each : {u : ℕ → ℕ} → ((x : ℕ) → x < R → u x < plan .stacks)
-      → ((d home x : ℕ) → x < R → (st : Search) → turns (stackTurn R s d home x (t .weight) (t .stack)) 0 R st ≡ push d (home + u x) st) → Single plan s t R (λ x. not (eqb x 8192)) u
-  each {u} fits h = single-as (λ x. not (eqb x 8192)) u (λ x low. sym (no-number x low)) (λ x. refl) (record { fits = fits; law = h })
+      → ((d home x : ℕ) → x < R → (st : Search) → turns (stackTurn R s d home x (t .weight) (t .stack)) 0 R st ≡ push d (home + u x) st) → Single plan s t R (λ x. not (eqb x packBy)) u
+  each {u} fits h = single-as (λ x. not (eqb x packBy)) u (λ x low. sym (no-number x low)) (λ x. refl) (record { fits = fits; law = h })
 
-  pub drop-single : s .push ≡ true → s .weight ≡ t .weight → ((x : ℕ) → okay R s x (t .stack) ≡ true) → Single plan s t R (λ x. not (eqb x 8192)) (λ x. t .stack + x * 0)
+  pub drop-single : s .push ≡ true → s .weight ≡ t .weight → ((x : ℕ) → okay R s x (t .stack) ≡ true) → Single plan s t R (λ x. not (eqb x packBy)) (λ x. t .stack + x * 0)
   drop-single e same any =
       flat (each (λ x low. stack-fits plan s t c leaves b) (λ d home x low st. stack-forgotten R s d home x (t .weight) (t .stack) st e same (any x) (b .aimed .stack-low) low))
 
-  pub weight-small : t .weight ≤ 1048576
+  pub weight-small : t .weight ≤ largest
   weight-small = omega (arith, b .aimed .weight-is, power-small (b .laid) (t .depth) (b .aimed .depth-low))
 
-  pub left-single : s .push ≡ false → OnlyKept s → s .level ≡ t .weight → leaves ≡ suc (t .depth) → Single plan s t R (λ x. not (eqb x 8192)) (λ x. t .stack + x * t .weight)
+  pub left-single : s .push ≡ false → OnlyKept s → s .level ≡ t .weight → leaves ≡ suc (t .depth) → Single plan s t R (λ x. not (eqb x packBy)) (λ x. t .stack + x * t .weight)
   left-single e only same deep =
       each fits (λ d home x low st. stack-left R s d home x (t .weight) (t .stack) st e only same (b .aimed .stack-low) low ∙ ap (λ z. push d z st) (omega arith))
     where

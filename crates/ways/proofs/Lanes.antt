@@ -13,7 +13,7 @@ use Rattle.automaton.specs.Listed.{_∈_, getD-in}
 use Rattle.request.specs.declared.Plan.{Plan}
 use Rattle.search.specs.Plain.{count}
 use Rattle.search.specs.Sets.{filt-in, count-in}
-use Rattle.sorting.specs.Sorting.{keyIn, packIn, having, sortedEnd, Run}
+use Rattle.sorting.specs.Sorting.{packBy, keyIn, packIn, having, sortedEnd, Run}
 use Rattle.sorting.specs.declared.Order.{Order}
 use Rattle.search.specs.Table.{Search, push}
 use Rattle.states.specs.Area.{stretch, found, Ready, Under}
@@ -24,11 +24,11 @@ use Rattle.ways.specs.Ways.{laneState, takenBy, laneTurn, runTurn}
 use Rattle.ways.specs.declared.Lane.{Lane}
 
 module _ (lane : Lane) (d e : ℕ) (st : Search) where
-  pub lane-taken : (s : ℕ) → takenBy (lane .only) (e % 8192) (lane .number) ≡ true → s ≡ laneState lane e → laneTurn d lane e st ≡ push d s st
+  pub lane-taken : (s : ℕ) → takenBy (lane .only) (e % packBy) (lane .number) ≡ true → s ≡ laneState lane e → laneTurn d lane e st ≡ push d s st
   unfolding laneTurn
   lane-taken s goes is = rw (goes, ← is)
 
-  pub lane-passed : takenBy (lane .only) (e % 8192) (lane .number) ≡ false → laneTurn d lane e st ≡ st
+  pub lane-passed : takenBy (lane .only) (e % packBy) (lane .number) ≡ false → laneTurn d lane e st ≡ st
   unfolding laneTurn
   lane-passed stays = rw stays
 

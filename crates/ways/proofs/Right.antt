@@ -10,14 +10,14 @@ use native.Mathlib.Omega.{arith}
 use lib.Arith.{digits-lt, digits-div, digits-mod}
 use lib.Dec.{eqb}
 use borrow.Author.Tests.{eq-eqb, ne-eqb}
-use Rattle.request.specs.Layout.{Laid, fromIn, toIn, kindIn}
+use Rattle.request.specs.Layout.{largest, Laid, fromIn, toIn, kindIn}
 use Rattle.request.specs.declared.Plan.{Plan}
 use Rattle.search.specs.Front.{stateIn}
 use Rattle.search.specs.Loaded.{codeAt, wordAt}
 use Rattle.search.specs.Loops.{turns}
 use Rattle.search.specs.Table.{Search, push}
 use Rattle.sorting.specs.Runs.{turns-within}
-use Rattle.sorting.specs.Sorting.{keys, keyIn, packIn}
+use Rattle.sorting.specs.Sorting.{packBy, keys, keyIn, packIn}
 use Rattle.sorting.specs.declared.Order.the-variants as Order
 use Rattle.states.specs.Spots.{off, offBy, on, onBy, okay, OnlyKept, stackAt, stackTurn, lineTurn}
 use Rattle.states.specs.declared.Spot.{Spot}
@@ -140,29 +140,29 @@ module _ (plan : Plan) (g : List ℕ) (told : Told plan g) (few : plan .radix �
   abbrev code : ℕ
   code = codeAt plan g i
 
-  code-small : code < 8192
+  code-small : code < packBy
   code-small = omega (arith, told .codes-low i h)
 
-  kind-small : kindIn (wordAt plan g i) < 8192
+  kind-small : kindIn (wordAt plan g i) < packBy
   kind-small = omega (arith, mod-lt (wordAt plan g i) {m = 16} (omega arith))
 
   -- the state that a lane gives a word with this place and the number y
-  module _ (c u weight number : ℕ) (only : Bool) (lane : Lane) (is : LaneTo plan c u weight number only lane) (y : ℕ) (small : y < 8192) where
+  module _ (c u weight number : ℕ) (only : Bool) (lane : Lane) (is : LaneTo plan c u weight number only lane) (y : ℕ) (small : y < packBy) where
     state-split : (v : ℕ) → stateIn plan from c 0 + v ≡ from * ((plan .done + 1) * plan .stacks) + (c * plan .stacks + v)
     state-split v =
         let n = plan .done + 1 in
         omega (arith, add-mul (from * n) c (plan .stacks), mul-assoc from n (plan .stacks))
 
-    pub lane-is : laneState lane (from * 8192 + y) ≡ stateIn plan from c 0 + (u + y * weight)
+    pub lane-is : laneState lane (from * packBy + y) ≡ stateIn plan from c 0 + (u + y * weight)
     unfolding laneState
     lane-is =
         let split = state-split (u + y * weight) in
         rw (digits-div from small, digits-mod from small, is .block-is, is .home-is, is .weight-is) (omega (arith, split))
 
-    number-of : (from * 8192 + y) % 8192 ≡ y
+    number-of : (from * packBy + y) % packBy ≡ y
     number-of = digits-mod from small
 
-    lane-turn : (d : ℕ) (st : Search) → laneTurn d lane (from * 8192 + y) st ≡ cond (takenBy only y number) (push d (stateIn plan from c 0 + (u + y * weight)) st) st
+    lane-turn : (d : ℕ) (st : Search) → laneTurn d lane (from * packBy + y) st ≡ cond (takenBy only y number) (push d (stateIn plan from c 0 + (u + y * weight)) st) st
     unfolding laneTurn
     lane-turn d st = rw (number-of, lane-is, is .number-is, is .only-is)
 
@@ -208,13 +208,13 @@ module _ (plan : Plan) (g : List ℕ) (told : Told plan g) (few : plan .radix �
 -- ---- a lane's bounds
 
 module _ (plan : Plan) (area : ℕ) (laid : Laid plan area) (c u weight number : ℕ) (only : Bool) (lane : Lane) (is : LaneTo plan c u weight number only lane) (c-low : c ≤ plan .done) (u-low : u < plan .stacks) where
-  lane-narrow : weight ≤ 1048576 → Narrow lane
+  lane-narrow : weight ≤ largest → Narrow lane
   lane-narrow low =
       let c< : c < plan .done + 1 = omega arith in
       let in-block : c * plan .stacks + u < (plan .done + 1) * plan .stacks = digits-lt c< u-low in
       record { block-low = omega (arith, is .block-is, block-small laid); home-low = omega (arith, is .home-is, in-block, block-small laid); weight-low = omega (arith, is .weight-is, low) }
 
-  lane-low : (g : List ℕ) (told : Told plan g) (i : ℕ) (h : i < plan .lines) (y : ℕ) → y < 8192 → u + y * weight < plan .stacks → laneState lane (fromIn (wordAt plan g i) * 8192 + y) < plan .size
+  lane-low : (g : List ℕ) (told : Told plan g) (i : ℕ) (h : i < plan .lines) (y : ℕ) → y < packBy → u + y * weight < plan .stacks → laneState lane (fromIn (wordAt plan g i) * packBy + y) < plan .size
   lane-low g told i h y small fits =
       let q = fromIn (wordAt plan g i) in
       let low = state-low (plan .places) (plan .done + 1) (plan .stacks) (plan .size) q c (u + y * weight) (laid .size-is) (told .starts i h) (omega arith) fits in
@@ -227,7 +227,7 @@ module _ (plan : Plan) (s : Spot) (t : Target) (c leaves : ℕ) (b : Before plan
   stack-fits = omega (arith, b .aimed .stack-low, b .aimed .weight-is, power-fits (b .laid) (t .depth) (b .aimed .depth-low))
 
   module _ (count k : ℕ) (lane : Lane) where
-    pub kind-runs : (weight number : ℕ) → LaneTo plan c (t .stack) weight number false lane → k ≡ t .place * 16 + s .kind → weight ≤ 1048576
+    pub kind-runs : (weight number : ℕ) → LaneTo plan c (t .stack) weight number false lane → k ≡ t .place * 16 + s .kind → weight ≤ largest
         → Single plan s t count (λ x. not (eqb x number)) (λ x. t .stack + x * weight) → Runs Order.Kind plan s t c count k lane
     unfolding keys packIn
     kind-runs weight number is key low single =

@@ -12,7 +12,7 @@ use Rattle.request.specs.declared.Plan.{Plan}
 use Rattle.search.specs.Loops.{turns}
 use Rattle.search.specs.Table.{Search}
 use Rattle.sorting.specs.Runs.{turns-run, table-behind}
-use Rattle.sorting.specs.Sorting.{keys, packIn, Run}
+use Rattle.sorting.specs.Sorting.{packBy, keys, packIn, Run}
 use Rattle.sorting.specs.declared.Order.the-variants as Order
 use Rattle.states.specs.Area.{stretch}
 use Rattle.states.specs.Served.{Thinnable}
@@ -47,7 +47,7 @@ module _ (plan : Plan) (w : List ℕ) (laid : Laid plan (length w)) (told : Told
   thin = filed .thin key (key-low plan (t .place) (s .kind) place-low kind-low)
 
   -- a line's word says a place
-  pack-low : (i : ℕ) → i < plan .lines → packIn Order.Kind plan (front plan w) i / 8192 < plan .places
+  pack-low : (i : ℕ) → i < plan .lines → packIn Order.Kind plan (front plan w) i / packBy < plan .places
   pack-low = from-places plan w (told .starts) (λ i h. omega (arith, told .codes-low i h, laid .few-boats))
 
   -- going over all lines is going over those of the key
@@ -67,7 +67,7 @@ module _ (plan : Plan) (w : List ℕ) (laid : Laid plan (length w)) (told : Told
                 inside = inside;
                 starts = λ p from less.
                     let (i, li, is) = run-word Order.Kind plan (plan .bykind) w key run (kinds-fit laid filed) p (omega (arith, el, from)) (omega (arith, eh, less)) in
-                    subst (λ e. e / 8192 < plan .places) is (pack-low i li);
+                    subst (λ e. e / packBy < plan .places) is (pack-low i li);
               };
           same = λ d c count some low fits st long.
               by-key d c count st
@@ -91,10 +91,10 @@ module _ (plan : Plan) (w : List ℕ) (laid : Laid plan (length w)) (told : Told
               ∙ (thin-turns plan (plan .bykind) (plan .thin) w key run thin (thin-fit laid filed) (kinds-fit laid filed) (stack-pushing plan s t c count few d some) st
               (λ y m u gets.
               let (n, less, goes, there) = gets in
-              let small = state-low (plan .places) (plan .done + 1) (plan .stacks) (plan .size) (y / 8192) c (n * t .weight + t .stack) (laid .size-is) (place-of y m) (omega (arith, low)) (fits n less) in
+              let small = state-low (plan .places) (plan .done + 1) (plan .stacks) (plan .size) (y / packBy) c (n * t .weight + t .stack) (laid .size-is) (place-of y m) (omega (arith, low)) (fits n less) in
               omega (arith, there, small, long))
               ∙ (λ n. turns (λ p. stackedTurn plan s t d c count (getD w p 0)) (sym el n) (sym eh n - sym el n) st));
         }
       where
-        place-of : (y : ℕ) → y ∈ stretch (getD w (plan .bykind + key) 0) (getD w (plan .bykind + suc key) 0 - getD w (plan .bykind + key) 0) w → y / 8192 < plan .places
-        place-of y m = let (i, li, is) = run-in Order.Kind plan (plan .bykind) w key run y m in subst (λ e. e / 8192 < plan .places) is (pack-low i li)
+        place-of : (y : ℕ) → y ∈ stretch (getD w (plan .bykind + key) 0) (getD w (plan .bykind + suc key) 0 - getD w (plan .bykind + key) 0) w → y / packBy < plan .places
+        place-of y m = let (i, li, is) = run-in Order.Kind plan (plan .bykind) w key run y m in subst (λ e. e / packBy < plan .places) is (pack-low i li)

@@ -19,7 +19,7 @@ use Rattle.search.specs.Front.{stateIn}
 use Rattle.search.specs.Loops.{loop, turns, loop-append, turns-same, turns-idle}
 use Rattle.search.specs.Table.{Search, push}
 use Rattle.sorting.specs.Runs.{turns-run, loop-stretch}
-use Rattle.sorting.specs.Sorting.{sortedEnd, Run}
+use Rattle.sorting.specs.Sorting.{packBy, sortedEnd, Run}
 use Rattle.sorting.specs.declared.Order.the-variants as Order
 use Rattle.states.specs.Area.{stretch}
 use Rattle.states.specs.Served.{Served, Thinnable}
@@ -168,7 +168,7 @@ module _ {f : ℕ → Search → Search} {Does : ℕ → ℕ → Type 0} (p : Pu
 
 module _ (many : ℕ) (passes : ℕ → ℕ → Bool) (gives : ℕ → ℕ → ℕ) where
   abbrev pub Gets : ℕ → ℕ → Type 0
-  Gets e s = (n : ℕ) × (n < many) × (passes n (e % 8192) ≡ true) × (s ≡ gives n (e / 8192))
+  Gets e s = (n : ℕ) × (n < many) × (passes n (e % packBy) ≡ true) × (s ≡ gives n (e / packBy))
 
   -- one of the words that cover another pushes what it pushes, where the numbers that pass are a set that is served
   stands-for : ((n : ℕ) → Served (passes n)) → (ys : List ℕ) (x s : ℕ) → Covered ys x → Gets x s → (y : ℕ) × (y ∈ ys) × Gets y s
@@ -177,7 +177,7 @@ module _ (many : ℕ) (passes : ℕ → ℕ → Bool) (gives : ℕ → ℕ → �
       (y, m, (n, less, stands .passes, there ∙ ap (gives n) (sym (stands .from))))
 
   abbrev pushes : ℕ → ℕ → ℕ → Search → Search
-  pushes d e n b = cond (passes n (e % 8192)) (push d (gives n (e / 8192)) b) b
+  pushes d e n b = cond (passes n (e % packBy)) (push d (gives n (e / packBy)) b) b
 
   pub pushing : ((n : ℕ) → Served (passes n)) → (d : ℕ) → 0 < d → (f : ℕ → Search → Search) → ((e : ℕ) (st : Search) → f e st ≡ turns (pushes d e) 0 many st) → Pushing f Gets
   pushing served d some f is =
@@ -194,18 +194,18 @@ module _ (many : ℕ) (passes : ℕ → ℕ → Bool) (gives : ℕ → ℕ → �
       }
     where
       takes : ℕ → ℕ → Bool
-      takes e n = passes n (e % 8192)
+      takes e n = passes n (e % packBy)
 
       state : ℕ → ℕ → ℕ
-      state e n = gives n (e / 8192)
+      state e n = gives n (e / packBy)
 
 -- ---- the words of a lane without weight: one state each
 
 module _ (lane : Lane) (thin : ThinLane lane) where
   -- only the place matters
-  pub flat-state : (e : ℕ) → laneState lane e ≡ e / 8192 * lane .block + lane .home
+  pub flat-state : (e : ℕ) → laneState lane e ≡ e / packBy * lane .block + lane .home
   unfolding laneState
-  flat-state e = let none : e % 8192 * lane .weight ≡ 0 = ap (e % 8192 *_) (thin .flat) ∙ mul-zero (e % 8192) in omega (arith, none)
+  flat-state e = let none : e % packBy * lane .weight ≡ 0 = ap (e % packBy *_) (thin .flat) ∙ mul-zero (e % packBy) in omega (arith, none)
 
   abbrev pub LaneGets : ℕ → ℕ → Type 0
   LaneGets = Gets 1 (λ n y. takenBy (lane .only) y (lane .number)) (λ n q. q * lane .block + lane .home)
@@ -213,7 +213,7 @@ module _ (lane : Lane) (thin : ThinLane lane) where
   pub lane-pushing : (d : ℕ) → 0 < d → Pushing (laneTurn d lane) LaneGets
   lane-pushing d some =
       pushing 1 (λ n y. takenBy (lane .only) y (lane .number)) (λ n q. q * lane .block + lane .home) (λ n. thin .served) d some (laneTurn d lane)
-      (λ e st. unfold laneTurn turns in ap (λ z. cond (takenBy (lane .only) (e % 8192) (lane .number)) (push d z st) st) (flat-state e))
+      (λ e st. unfold laneTurn turns in ap (λ z. cond (takenBy (lane .only) (e % packBy) (lane .number)) (push d z st) st) (flat-state e))
 
 -- ---- the words of a position that does not push: for each stack one state
 
@@ -232,7 +232,7 @@ module _ (plan : Plan) (s : Spot) (t : Target) (c count : ℕ) (thin : Thinnable
 
   stack-is : (d e : ℕ) (st : Search) → stackedTurn plan s t d c count e st ≡ turns (pushes count passesAt stateAt d e) 0 count st
   unfolding stackedTurn
-  stack-is d e st = turns-same _ _ (λ n b. tested-stands (plan .radix) s d (stateIn plan (e / 8192) c 0) (e % 8192) (t .weight) (t .stack) st n b (thin .plain)) 0 count st
+  stack-is d e st = turns-same _ _ (λ n b. tested-stands (plan .radix) s d (stateIn plan (e / packBy) c 0) (e % packBy) (t .weight) (t .stack) st n b (thin .plain)) 0 count st
 
   pub stack-pushing : (d : ℕ) → 0 < d → Pushing (stackedTurn plan s t d c count) StackGets
   stack-pushing d some = pushing count passesAt stateAt (λ n. thin .served (plan .radix) (stackOf n)) d some (stackedTurn plan s t d c count) (stack-is d)

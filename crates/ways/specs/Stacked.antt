@@ -10,18 +10,19 @@ use Rattle.search.specs.Table.{Search}
 use Rattle.states.specs.Spots.{front, stackTurn, lineTurn, Stacks}
 use Rattle.states.specs.declared.Spot.{Spot}
 use Rattle.states.specs.declared.Target.{Target}
+use Rattle.sorting.specs.Sorting.{packBy}
 
 -- the words from lo up to hi stand after the pair of stretches, and say places
 pub record Words (plan : Plan) (w : List ℕ) (lo hi : ℕ) : Type 0 where
   pub behind : plan .base + plan .size + plan .size ≤ lo
   pub rising : lo ≤ hi
   pub inside : hi ≤ length w
-  pub starts : (p : ℕ) → lo ≤ p → p < hi → getD w p 0 / 8192 < plan .places
+  pub starts : (p : ℕ) → lo ≤ p → p < hi → getD w p 0 / packBy < plan .places
 
 module _ (plan : Plan) (s : Spot) (t : Target) where
-  -- the word e, the place that a line comes from times 8192 and its boat's number: gone back over to the position c, for `count` stacks
+  -- the word e, the place that a line comes from times packBy and its boat's number: gone back over to the position c, for `count` stacks
   unfoldable pub stackedTurn : ℕ → ℕ → ℕ → ℕ → Search → Search
-  stackedTurn d c count e = turns (stackTurn (plan .radix) s d (stateIn plan (e / 8192) c 0) (e % 8192) (t .weight) (t .stack)) 0 count
+  stackedTurn d c count e = turns (stackTurn (plan .radix) s d (stateIn plan (e / packBy) c 0) (e % packBy) (t .weight) (t .stack)) 0 count
 
   -- the words from lo up to hi do what all lines do, for all positions and stacks
   pub record Enough (w : List ℕ) (lo hi : ℕ) : Type 0 where

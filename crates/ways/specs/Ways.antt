@@ -7,12 +7,12 @@ use mathlib.Core.List.{List}
 use Prim.Native.Nat.{ℕ, _+_, _*_, _-_, _/_, _%_, _≤_, _<_}
 use lib.Dec.{eqb}
 use lib.ListN.{getD}
-use Rattle.request.specs.Layout.{Laid, fromIn, toIn}
+use Rattle.request.specs.Layout.{largest, Laid, fromIn, toIn}
 use Rattle.request.specs.declared.Plan.{Plan}
 use Rattle.search.specs.Loaded.{codeAt, wordAt}
 use Rattle.search.specs.Loops.{turns}
 use Rattle.search.specs.Table.{Search, push}
-use Rattle.sorting.specs.Sorting.{keys, keyIn, packIn}
+use Rattle.sorting.specs.Sorting.{packBy, keys, keyIn, packIn}
 use Rattle.sorting.specs.declared.Order.{Order}
 use Rattle.sorting.specs.declared.Order.the-variants as Order
 use Rattle.states.specs.Served.{Served}
@@ -25,16 +25,16 @@ use Rattle.ways.specs.declared.Way.the-variants as Way
 
 -- ---- a lane
 
--- a word written of a line is the place that it comes from times 8192 and a number; the state before, by that place and that number
+-- a word written of a line is the place that it comes from times packBy and a number; the state before, by that place and that number
 unfoldable pub laneState : Lane → ℕ → ℕ
-laneState lane e = e / 8192 * lane .block + (lane .home + e % 8192 * lane .weight)
+laneState lane e = e / packBy * lane .block + (lane .home + e % packBy * lane .weight)
 
 -- is a line with the number y taken? Only those with the lane's number x, or only the others
 unfoldable pub takenBy : Bool → ℕ → ℕ → Bool
 takenBy only y x = cond only (eqb y x) (not (eqb y x))
 
 unfoldable pub laneTurn : ℕ → Lane → ℕ → Search → Search
-laneTurn d lane e st = cond (takenBy (lane .only) (e % 8192) (lane .number)) (push d (laneState lane e) st) st
+laneTurn d lane e st = cond (takenBy (lane .only) (e % packBy) (lane .number)) (push d (laneState lane e) st) st
 
 -- the lane to position c with the stack u
 pub record LaneTo (plan : Plan) (c u weight number : ℕ) (only : Bool) (lane : Lane) : Type 0 where
@@ -46,9 +46,9 @@ pub record LaneTo (plan : Plan) (c u weight number : ℕ) (only : Bool) (lane : 
 
 -- its numbers are small
 pub record Narrow (lane : Lane) : Type 0 where
-  pub block-low : lane .block ≤ 1048576
-  pub home-low : lane .home ≤ 1048576
-  pub weight-low : lane .weight ≤ 1048576
+  pub block-low : lane .block ≤ largest
+  pub home-low : lane .home ≤ largest
+  pub weight-low : lane .weight ≤ largest
 
 -- the thin words do for it: only the place that a word says and whether its number is taken matter, and the numbers taken are a set that is served
 pub record ThinLane (lane : Lane) : Type 0 where

@@ -2,7 +2,7 @@
 ghost use mathlib.Core.Path.{_≡_};
 ghost use Prim.Native.Nat.{ℕ, suc, _+_, _*_, _-_, _^_, _/_, _%_, _≤_, _<_};
 ghost use lib.ListN.{length, getD};
-ghost use Rattle.request.specs.Layout.{Laid, filedEnd};
+ghost use Rattle.request.specs.Layout.{largest, Laid, filedEnd};
 ghost use Rattle.search.specs.Loops.{turns};
 ghost use Rattle.states.specs.Area.{Ready, Step};
 ghost use Rattle.ways.specs.Ways.{laneState, takenBy, laneTurn, LaneTo, Narrow, ThinLane, Within, runTurn, Told, Gives, Single, Right, Before};
@@ -114,7 +114,7 @@ pub enum Way {
 
 // The lane to position `c`, for the stack `u`.
 fn lane_at(plan: Plan, c: usize, u: usize, weight: usize, number: usize, only: bool) -> Lane
-    requires { ⌜ (c ≤ 63) × (plan .done ≤ 63) × (plan .stacks ≤ 1048576) × (u < 4294967296) ⌝ }
+    requires { ⌜ (c ≤ 63) × (plan .done ≤ 63) × (plan .stacks ≤ largest) × (u < 4294967296) ⌝ }
     ensures { λ r. ⌜ LaneTo plan c u weight number only r ⌝ }
 {
     Lane {
@@ -137,7 +137,7 @@ fn boat_way(plan: Plan, spot: Spot, target: Target, c: usize, u: usize, boat: us
 
 // All lines of the position's kind but those of the boat number `boat`: the stack before is the state's, with the line's number at `weight`.
 fn kind_way(plan: Plan, spot: Spot, target: Target, c: usize, weight: usize, boat: usize) -> Way
-    requires { ⌜ Before plan spot target c (target .depth) × (weight ≤ 1048576) ⌝ }
+    requires { ⌜ Before plan spot target c (target .depth) × (weight ≤ largest) ⌝ }
     ensures { λ r. ⌜ ((count : ℕ) → Single plan spot target count (λ x. not (eqb x boat)) (λ x. target .stack + x * weight) → Right plan spot target c count r) ⌝ }
 {
     let lane = lane_at(plan, c, target.stack, weight, boat, false);

@@ -4,7 +4,7 @@ use mathlib.Core.Path.{_≡_, refl, sym, ap, _∙_}
 use Prim.Native.Nat.{ℕ, _+_, _*_, _^_, _/_, _<_, _≤_}
 use native.Mathlib.Nat.{mul-le-mul, mul-div-cancel-left, one-le-pow, div-le-self}
 use native.Mathlib.Omega.{arith}
-use Rattle.request.specs.Layout.{whole}
+use Rattle.request.specs.Layout.{scale}
 use borrow.Author.Needs.{needs}
 use Rattle.request.proofs.planned.Statement.{statement}
 use Rattle.request.proofs.planned.Tie as tie
@@ -34,7 +34,7 @@ div-inverse : tie.Need-div-inverse
 div-inverse c = omega (arith, one-le-pow (c .args .keeps) (c .args .radix) (c .pre .some-radix), stacks-are c)
 
 add-inverse : tie.Need-add-inverse
-add-inverse c = omega (arith, div-le-self whole (c .args .size / (c .args .places * (c .args .done + 1))))
+add-inverse c = omega (arith, div-le-self scale (c .args .size / (c .args .places * (c .args .done + 1))))
 
 add-words : tie.Need-add-words
 add-words c = search needs

@@ -9,6 +9,7 @@ use Rattle.states.proofs.Standing.{standing-past, standing-within, stan
 use borrow.Author.Needs.{needs}
 use Rattle.states.proofs.standing_at.Statement.{statement}
 use Rattle.states.proofs.standing_at.Tie as tie
+use Rattle.request.specs.Layout.{scale, largest}
 
 abbrev low : tie.Start → ℕ
 low c = c .args .q * ((c .args .plan .done + 1) * c .args .plan .stacks)
@@ -27,20 +28,20 @@ in-block c =
 -- the multiplication fits, and divides
 times-small : (c : tie.Start) → left c * c .args .plan .inverse ≤ 4611686018428436480
 times-small c =
-    let one : left c ≤ 1048576 = omega (arith, in-block c .1, c .pre .0 .1) in
-    let two : c .args .plan .inverse ≤ 4398046511105 = omega (arith, c .pre .1 .1, div-le-self 4398046511104 (c .args .plan .stacks)) in
+    let one : left c ≤ largest = omega (arith, in-block c .1, c .pre .0 .1) in
+    let two : c .args .plan .inverse ≤ 4398046511105 = omega (arith, c .pre .1 .1, div-le-self scale (c .args .plan .stacks)) in
     mul-le-mul one two
 
-position-is : (c : tie.Start) → left c * c .args .plan .inverse / 4398046511104 ≡ left c / c .args .plan .stacks
+position-is : (c : tie.Start) → left c * c .args .plan .inverse / scale ≡ left c / c .args .plan .stacks
 position-is c =
     let p = c .args .plan in
     let some = c .pre .0 .0 in
     let turn : 0 < p .done + 1 = omega arith in
-    let few : p .stacks ≤ 1048576 = omega (arith, le-mul-of-pos-right (p .stacks) turn, mul-comm (p .stacks) (p .done + 1), c .pre .0 .1) in
-    let many : 4194304 ≤ 4398046511104 / p .stacks = le-div-iff-mul-le some .1 (omega (arith, few)) in
-    divided 4398046511104 (left c) (p .stacks) (p .inverse) some (c .pre .1 .1) (omega (arith, in-block c .1, c .pre .0 .1, few, many))
+    let few : p .stacks ≤ largest = omega (arith, le-mul-of-pos-right (p .stacks) turn, mul-comm (p .stacks) (p .done + 1), c .pre .0 .1) in
+    let many : 4194304 ≤ scale / p .stacks = le-div-iff-mul-le some .1 (omega (arith, few)) in
+    divided scale (left c) (p .stacks) (p .inverse) some (c .pre .1 .1) (omega (arith, in-block c .1, c .pre .0 .1, few, many))
 
-taken-off : (c : tie.Start) → left c * c .args .plan .inverse / 4398046511104 * c .args .plan .stacks ≤ left c
+taken-off : (c : tie.Start) → left c * c .args .plan .inverse / scale * c .args .plan .stacks ≤ left c
 taken-off c =
     let same = ap (_* c .args .plan .stacks) (position-is c) in
     omega (arith, same, div-mul-le-self (left c) (c .args .plan .stacks))

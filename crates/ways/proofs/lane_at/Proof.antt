@@ -5,12 +5,13 @@ use native.Mathlib.Omega.{arith}
 use borrow.Author.Needs.{needs}
 use Rattle.ways.proofs.lane_at.Statement.{statement}
 use Rattle.ways.proofs.lane_at.Tie as tie
+use Rattle.request.specs.Layout.{largest}
 
 blocks : (c : tie.Start) → (c .args .plan .done + 1) * c .args .plan .stacks ≤ 67108864
-blocks c = mul-le-mul {n₂ = 64} {m₂ = 1048576} (omega (arith, c .pre .1)) (c .pre .2)
+blocks c = mul-le-mul {n₂ = 64} {m₂ = largest} (omega (arith, c .pre .1)) (c .pre .2)
 
 rows : (c : tie.Start) → c .args .c * c .args .plan .stacks ≤ 67108864
-rows c = mul-le-mul {n₂ = 64} {m₂ = 1048576} (omega (arith, c .pre .0)) (c .pre .2)
+rows c = mul-le-mul {n₂ = 64} {m₂ = largest} (omega (arith, c .pre .0)) (c .pre .2)
 
 add-t7 : tie.Need-add-t7
 add-t7 c = search needs

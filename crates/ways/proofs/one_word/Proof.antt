@@ -1,8 +1,8 @@
 -- `ways::one_word` meets its contract: the state that the word gives is pushed, or nothing is done. Assumes nothing.
 use mathlib.Core.Path.{sym, ap, _∙_, subst}
 use Prim.Native.Nat.{_%_, _<_}
-use native.Mathlib.Omega.{arith}
 use Rattle.states.proofs.Changes.{step-as, step-none}
+use Rattle.sorting.specs.Sorting.{packBy}
 use Rattle.ways.specs.Ways.{laneState, takenBy}
 use Rattle.ways.proofs.Lanes.{lane-taken, lane-passed}
 use borrow.Author.Needs.{needs}
@@ -35,7 +35,7 @@ returns : tie.Need-returns
 returns c =
     let a = c .before .before .before .before .before .before .before .before .before .before in
     let is = c .before .before .before .lane-state .ensures ∙ ap (laneState (a .args .lane)) (c .before .before .before .before .before .before .before .word .ensures) in
-    let yes = ap (λ e. takenBy (a .args .lane .only) (e % 8192) (a .args .lane .number)) (sym (c .before .before .before .before .before .before .before .word .ensures)) ∙ (sym (c .before .before .before .before .before .before .taken .ensures) ∙ c .before .before .before .before .before .if1 .taken) in
+    let yes = ap (λ e. takenBy (a .args .lane .only) (e % packBy) (a .args .lane .number)) (sym (c .before .before .before .before .before .before .before .word .ensures)) ∙ (sym (c .before .before .before .before .before .before .taken .ensures) ∙ c .before .before .before .before .before .if1 .taken) in
     step-as _ (c .before .before .push-if-new .ensures) (lane-taken (a .args .lane) (a .args .d) _ _ _ yes is)
 
 same-length-2 : tie.Need-same-length-2
@@ -44,7 +44,7 @@ same-length-2 c = search needs
 returns-2 : tie.Need-returns-2
 returns-2 c =
     let a = c .before .before .before .before .before in
-    let no = ap (λ e. takenBy (a .args .lane .only) (e % 8192) (a .args .lane .number)) (sym (c .before .before .word .ensures)) ∙ (sym (c .before .taken .ensures) ∙ c .if1 .left) in
+    let no = ap (λ e. takenBy (a .args .lane .only) (e % packBy) (a .args .lane .number)) (sym (c .before .before .word .ensures)) ∙ (sym (c .before .taken .ensures) ∙ c .if1 .left) in
     step-none _ (a .pre .0) (lane-passed (a .args .lane) (a .args .d) _ _ no)
 
 pub one-word-spec : {M : Type 1} → statement M
