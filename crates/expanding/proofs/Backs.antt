@@ -46,31 +46,6 @@ module _ (R : ℕ) (s : Spot) (d home x v : ℕ) (st : Search) (u : ℕ) (eu : u
   unfolding stackAt
   stack-other h = rw (← eu, ne-eqb _ _ h)
 
--- ---- a line, with the word p
-
-module _ (plan : Plan) (g : List ℕ) (s : Spot) (t : Target) (d c count i : ℕ) (st : Search) (p : ℕ) (e : p ≡ wordAt plan g i) where
-  pub line-elsewhere : (p / 16 % 1024 ≡ t .place → ⊥) → lineTurn plan g s t d c count i st ≡ st
-  unfolding lineTurn
-  line-elsewhere h = rw (← e, ne-eqb _ _ h)
-
-  module _ (h : p / 16 % 1024 ≡ t .place) where
-    pub line-other-kind : (p % 16 ≡ s .kind → ⊥) → lineTurn plan g s t d c count i st ≡ st
-    unfolding lineTurn
-    line-other-kind k = rw (← e, eq-eqb _ _ h, ne-eqb _ _ k)
-
-    pub line-taken : p % 16 ≡ s .kind → (x home : ℕ) → x ≡ codeAt plan g i → home ≡ stateIn plan (p / 16384) c 0
-        → lineTurn plan g s t d c count i st ≡ turns (stackTurn (plan .radix) s d home x (t .weight) (t .stack)) 0 count st
-    unfolding lineTurn
-    line-taken k x home ex eh = rw (← ex, ← e, ← eh, eq-eqb _ _ h, eq-eqb _ _ k)
-
--- ---- a word of the sorted lines, read as r
-
-module _ (plan : Plan) (s : Spot) (t : Target) (d c count e : ℕ) (st : Search) where
-  pub stacked-is : (r : ℕ) → r ≡ e → (home : ℕ) → home ≡ stateIn plan (r / 8192) c 0
-      → stackedTurn plan s t d c count e st ≡ turns (stackTurn (plan .radix) s d home (r % 8192) (t .weight) (t .stack)) 0 count st
-  unfolding stackedTurn
-  stacked-is r er home eh = rw (eh, er)
-
 -- ---- a position
 
 module _ (a : List ℕ) (plan : Plan) (g : List ℕ) (t : Target) (d c : ℕ) (st : Search) where

@@ -5,6 +5,7 @@ use mathlib.Core.List.{List}
 use Prim.Native.Nat.{ℕ, _-_, _≤_}
 use native.Mathlib.Nat.{sub-zero}
 use native.Mathlib.Omega.{arith}
+use Rattle.automaton.specs.Program.{bitOf}
 use Rattle.search.specs.Loops.{turns}
 use Rattle.states.specs.Area.{found, Under, Step}
 use Rattle.search.specs.Loaded.{settingIn}
@@ -43,11 +44,8 @@ loop-holds c =
     let aim = ap (λ x. turns (spotTurn (prog a) plan g x (a .args .d)) 0 (plan .done) st) (c .target-of .ensures) in
     (omega arith, rw sub-zero (under-as _ _ (a .pre .0) (aim ∙ sym (expand-is (prog a) plan g (laid .stacks-is) (laid .few-commands) (a .args .d) (a .args .t) st))))
 
-mul-if1 : tie.Need-mul-if1 Inv-loop μ-loop
-mul-if1 c = omega (arith, c .loop-test .taken, fit (c .before .before .before .before) .laid .few-commands)
-
-element-copy-out-if1 : tie.Need-element-copy-out-if1 Inv-loop μ-loop
-element-copy-out-if1 c = omega (arith, c .loop-test .taken, fit (c .before .before .before .before) .laid .few-commands)
+follow-at-requires : tie.Need-follow-at-requires Inv-loop μ-loop
+follow-at-requires c κs = omega (arith, c .loop-test .taken, fit (c .before .before .before .before) .laid .few-commands)
 
 shr-if1 : tie.Need-shr-if1 Inv-loop μ-loop
 shr-if1 c =
@@ -59,7 +57,7 @@ one-spot-requires c κs =
     let a = c .before .before .before .before .before .before .before in
     let u = c .before .before .before .before .loop .inv .1 in
     let (some, near, less) = a .pre .1 .1 in
-    (u .ready, (backing-under u (a .pre .1 .0), (aimed (fit a) (a .args .t) less _ (c .before .before .before .before .before .target-of .ensures), (some, omega (arith, near, u .grows), omega arith, c .before .if1 .taken))))
+    (u .ready, (backing-under u (a .pre .1 .0), (aimed (fit a) (a .args .t) less _ (c .before .before .before .before .before .target-of .ensures), (some, omega (arith, near, u .grows), omega arith, ap (λ (m : ℕ). bitOf m (c .before .before .before .before .before .target-of .result .position)) (sym (c .before .before .follow-at .ensures)) ∙ c .before .if1 .taken))))
 
 -- a position that the state's may come after is gone back to, and another does nothing
 step-of : (c : tie.Joined1 Inv-loop μ-loop) → let a = c .before .before .before .before .before .before in let l = c .before .before .before .loop in
@@ -72,7 +70,7 @@ step-of c =
     let same = under-front (l .inv .1) (plan .base) (omega arith) in
     ⊎-elim
     (λ m. subst₂ (λ u w. Step (plan .base) (plan .size) turn (l .u) (l .work) u w) (sym (m .6)) (sym (m .5)) (rw same at (m .2 .ensures)))
-    (λ m. subst₂ (λ u w. Step (plan .base) (plan .size) turn (l .u) (l .work) u w) (sym (m .2)) (sym (m .1)) (step-none turn (l .inv .1 .ready) (spot-passed (prog a) plan _ _ _ _ _ (m .0 .left))))
+    (λ m. subst₂ (λ u w. Step (plan .base) (plan .size) turn (l .u) (l .work) u w) (sym (m .2)) (sym (m .1)) (step-none turn (l .inv .1 .ready) (spot-passed (prog a) plan _ _ _ _ _ (λ e. m .0 .left (ap (λ (k : ℕ). bitOf k (c .before .before .before .before .target-of .result .position)) (c .before .follow-at .ensures) ∙ e)))))
     (c .if1 .came)
 
 add-c : tie.Need-add-c Inv-loop μ-loop
@@ -98,8 +96,7 @@ expand-state-spec =
     μ-loop
     target-of-requires
     loop-holds
-    mul-if1
-    element-copy-out-if1
+    follow-at-requires
     shr-if1
     one-spot-requires
     add-c

@@ -1,89 +1,99 @@
 -- `expanding::one_line` meets its contract: a line that leads elsewhere or is of another kind does nothing, and another is the loop over stacks.
 -- Assumes nothing.
-use mathlib.Core.Path.{sym, subst}
-use Prim.Native.Nat.{_+_, _*_, _/_, _<_}
-use native.Mathlib.Omega.{arith}
-use lib.ListN.{length}
-use Rattle.request.specs.Layout.{fromIn}
-use Rattle.states.proofs.Bounds.{word-low, code-low, base-in, word-front, code-front, stacks-pos, state-low}
+use mathlib.Core.Path.{_≡_, sym, ap, _∙_, subst}
+use Prim.Native.Nat.{_<_}
+use Rattle.request.specs.Layout.{fromIn, toIn, kindIn}
+use Rattle.search.specs.Loaded.{wordAt}
+use Rattle.states.specs.Spots.{front}
+use Rattle.states.proofs.Bounds.{word-front, code-front, stacks-pos}
 use Rattle.states.proofs.Changes.{step-as, step-none}
-use Rattle.expanding.proofs.Backs.{line-elsewhere, line-other-kind, line-taken}
+use Rattle.expanding.proofs.Undone.{home-in, line-elsewhere, line-other-kind, line-taken}
 use borrow.Author.Needs.{needs}
 use Rattle.expanding.proofs.one_line.Statement.{statement}
 use Rattle.expanding.proofs.one_line.Tie as tie
 
--- the line's words stand in the area
-in-area : (c : tie.Start)
-    → let a = c .args in
-    (a .plan .words + a .i < length (a .work .now)) × (a .plan .codes + a .i < length (a .work .now)) × (length (a .work .now) < 18446744073709551616)
-in-area c =
-    let l = c .pre .1 .0 .0 in
-    let h = c .pre .1 .1 .1 .3 in
-    (omega (arith, word-low l (c .args .i) h, base-in l), omega (arith, code-low l (c .args .i) h, base-in l), omega arith)
-
 add-word : tie.Need-add-word
-add-word c = let h = in-area (c .before .before .before) in omega (arith, h .0, h .2)
+add-word c = search needs
 
 word-requires : tie.Need-word-requires
-word-requires c κs = in-area (c .before .before .before) .0
+word-requires c κs = search needs
 
-cast-line : tie.Need-cast-line
-cast-line c = search needs
+to-of-requires : tie.Need-to-of-requires
+to-of-requires c κs = search needs
+
+kind-of-requires : tie.Need-kind-of-requires
+kind-of-requires c κs = search needs
 
 add-word-2 : tie.Need-add-word-2
-add-word-2 c = let h = in-area (c .before .before .before .before .before .before .before .before .before .before) in omega (arith, h .1, h .2)
+add-word-2 c = search needs
 
 word-requires-2 : tie.Need-word-requires-2
-word-requires-2 c κs = in-area (c .before .before .before .before .before .before .before .before .before .before) .1
+word-requires-2 c κs = search needs
+
+from-of-requires : tie.Need-from-of-requires
+from-of-requires c κs = search needs
+
+-- the word read is the line's
+word-is : (c : tie.After-word) → let x = c .before .before .before .before .args in c .word .result ≡ wordAt (x .plan) (front (x .plan) (x .work .now)) (x .i)
+word-is c = let a = c .before .before .before .before in word-front (a .pre .0 .laid) (a .args .work .now) (a .args .i) (a .pre .1 .0 .1) _ (c .word .ensures)
+
+-- ---- where all of it is read
+
+abbrev word-of : tie.After-from-of → tie.After-word
+word-of f = f .before .before .before .before .before .before .before .before .before .before
+
+abbrev start : tie.After-from-of → tie.Start
+start f = word-of f .before .before .before .before
+
+from-is : (f : tie.After-from-of) → let x = start f .args in f .from-of .result ≡ fromIn (wordAt (x .plan) (front (x .plan) (x .work .now)) (x .i))
+from-is f = f .from-of .ensures .0 ∙ ap fromIn (word-is (word-of f))
+
+from-low : (f : tie.After-from-of) → f .from-of .result < start f .args .plan .places
+from-low f = let a = start f in subst (_< a .args .plan .places) (sym (from-is f)) (a .pre .1 .0 .0 (a .args .i) (a .pre .1 .0 .1))
 
 state-at-requires : tie.Need-state-at-requires
 state-at-requires c κs =
-    let a = c .before .before .before .before .before .before .before .before .before .before .before in
-    let (laid, starts) = a .pre .1 .0 in
-    let (some, near, low, there, fits) = a .pre .1 .1 .1 in
-    let p = word-front laid (a .args .work .now) (a .args .i) there _ (c .before .before .before .before .before .before .before .word .ensures) in
-    ((laid .size-is, laid .small, laid .few-commands), (subst (λ z. fromIn z < a .args .plan .places) (sym p) (starts (a .args .i) there), low, stacks-pos laid))
+    let a = start c in
+    let laid = a .pre .0 .laid in
+    ((laid .size-is, laid .small, laid .few-commands), (from-low c, a .pre .1 .1 .low, stacks-pos laid))
 
 over-stacks-requires : tie.Need-over-stacks-requires
 over-stacks-requires c κs =
-    let a = c .before .before .before .before .before .before .before .before .before .before .before .before .before in
-    let plan = a .args .plan in
-    let (laid, starts) = a .pre .1 .0 in
-    let (some, near, low, there, fits) = a .pre .1 .1 .1 in
-    let p = word-front laid (a .args .work .now) (a .args .i) there _ (c .before .before .before .before .before .before .before .before .before .word .ensures) in
-    let from = subst (λ z. fromIn z < plan .places) (sym p) (starts (a .args .i) there) in
-    let home = c .before .state-at .ensures .0 in
-    (a .pre .0, (laid, (a .pre .1 .1 .0, (some, near, λ x hx. omega (arith, state-low (plan .places) (plan .done + 1) (plan .stacks) (plan .size) (c .before .before .before .before .before .before .before .before .before .word .result / 16384) (a .args .c) (x * a .args .target .weight + a .args .target .stack) (laid .size-is) from (omega (arith, low)) (fits x hx), home)))))
+    let f = c .before .before in
+    let a = start f in
+    let x = a .args in
+    (a .pre .0, home-in (x .plan) (x .undo) (a .pre .0 .laid) _ (x .c) _ (from-low f) (a .pre .1 .1) (c .before .state-at .ensures .0))
 
 same-length : tie.Need-same-length
 same-length c = search needs
 
 returns : tie.Need-returns
 returns c =
-    let a = c .before .before .before .before .before .before .before .before .before .before .before .before .before .before .before .before in
-    let (laid, starts) = a .pre .1 .0 in
-    let there = a .pre .1 .1 .1 .3 in
-    let p = word-front laid (a .args .work .now) (a .args .i) there _ (c .before .before .before .before .before .before .before .before .before .before .before .before .word .ensures) in
-    let x = code-front laid (a .args .work .now) (a .args .i) there _ (c .before .before .before .before .before .word2 .ensures) in
-    step-as _ (c .before .before .over-stacks .ensures) (line-taken _ _ _ _ _ _ _ _ _ _ p (c .before .before .before .before .before .before .before .before .before .before .if1 .taken) (c .before .before .before .before .before .before .before .before .if2 .taken) _ _ x (c .before .before .before .before .state-at .ensures .0))
+    let f = c .before .before .before .before .before in
+    let a = start f in
+    let w = word-is (word-of f) in
+    let b = code-front (a .pre .0 .laid) (a .args .work .now) (a .args .i) (a .pre .1 .0 .1) _ (f .before .word2 .ensures) in
+    step-as _ (c .before .before .over-stacks .ensures)
+    (line-taken _ _ _ _ _ _ _ _ (f .before .before .before .before .before .before .before .before .to-of .ensures .0 ∙ ap toIn w) (f .before .before .before .before .before .before .before .if1 .taken) _ (f .before .before .before .before .before .before .kind-of .ensures .0 ∙ ap kindIn w) (f .before .before .before .before .if2 .taken) _ (from-is f) _ _ b (c .before .before .before .before .state-at .ensures .0))
 
 same-length-2 : tie.Need-same-length-2
 same-length-2 c = search needs
 
 returns-2 : tie.Need-returns-2
 returns-2 c =
-    let a = c .before .before .before .before .before .before .before .before in
-    let p = word-front (a .pre .1 .0 .0) (a .args .work .now) (a .args .i) (a .pre .1 .1 .1 .3) _ (c .before .before .before .before .word .ensures) in
-    step-none _ (a .pre .0) (line-other-kind _ _ _ _ _ _ _ _ _ _ p (c .before .before .if1 .taken) (c .if2 .left))
+    let o = c .before .before .before .before .before .before in
+    let a = o .before .before .before .before in
+    let w = word-is o in
+    step-none _ (a .pre .0 .ready) (line-other-kind _ _ _ _ _ _ _ _ (c .before .before .before .before .to-of .ensures .0 ∙ ap toIn w) (c .before .before .before .if1 .taken) _ (c .before .before .kind-of .ensures .0 ∙ ap kindIn w) (c .if2 .left))
 
 same-length-3 : tie.Need-same-length-3
 same-length-3 c = search needs
 
 returns-3 : tie.Need-returns-3
 returns-3 c =
-    let a = c .before .before .before .before .before .before in
-    let p = word-front (a .pre .1 .0 .0) (a .args .work .now) (a .args .i) (a .pre .1 .1 .1 .3) _ (c .before .before .word .ensures) in
-    step-none _ (a .pre .0) (line-elsewhere _ _ _ _ _ _ _ _ _ _ p (c .if1 .left))
+    let o = c .before .before .before in
+    let a = o .before .before .before .before in
+    step-none _ (a .pre .0 .ready) (line-elsewhere _ _ _ _ _ _ _ _ (c .before .to-of .ensures .0 ∙ ap toIn (word-is o)) (c .if1 .left))
 
 pub one-line-spec : {M : Type 1} → statement M
 one-line-spec =
@@ -91,9 +101,11 @@ one-line-spec =
     (tie.spec
     add-word
     word-requires
-    cast-line
+    to-of-requires
+    kind-of-requires
     add-word-2
     word-requires-2
+    from-of-requires
     state-at-requires
     over-stacks-requires
     same-length

@@ -1,7 +1,7 @@
 -- `expanding::over_way` meets its contract: the run chosen does what all lines do. Assumes nothing.
 use mathlib.Core.Path.{subst}
 use Prim.Native.Nat.{_-_, _^_}
-use native.Mathlib.Omega.{arith}
+use Rattle.ways.proofs.Filing.{boats-fit}
 use Rattle.sorting.specs.declared.Order.the-variants as Order
 use Rattle.states.proofs.Changes.{step-as}
 use Rattle.ways.specs.Ways.{Right}
@@ -22,25 +22,22 @@ right c = c .way-of .ensures
 enum-known-k : tie.Need-enum-known-k
 enum-known-k c = search needs
 
-boats-at-requires : tie.Need-boats-at-requires
-boats-at-requires c κs = let l = c .before .before .before .before .before .pre .1 .0 .0 in (l .few-words, l .small, l .few-places, l .few-lines)
-
 over-run-requires : tie.Need-over-run-requires
 over-run-requires c κs =
-    let a = c .before .before .before .before .before .before .before in
-    let r = subst (Right _ _ _ _ _) (c .before .before .before .k .given .1) (right (c .before .before .before .before .before)) in
+    let a = c .before .before .before .before .before .before in
+    let r = subst (Right _ _ _ _ _) (c .before .before .k .given .1) (right (c .before .before .before .before)) in
+    let laid = a .pre .1 .0 .0 in
     let f = a .pre .1 .1 .1 .1 in
     let (some, near) = a .pre .1 .1 .1 .0 in
-    rw (c .before .boats-at .ensures)
-    (a .pre .0, ((f .boats, omega (arith, f .room), r .key-low), ((r .narrow, r .gives _ (a .pre .1 .0 .1)), (some, near, omega arith))))
+    (a .pre .0, ((laid, r .key-low), ((f .boats, boats-fit laid f), (r .narrow, r .gives _ (a .pre .1 .0 .1), some, near))))
 
 same-length : tie.Need-same-length
 same-length c = search needs
 
 returns : tie.Need-returns
 returns c =
-    let a = c .before .before .before .before .before .before .before .before .before .before in
-    let r = subst (Right _ _ _ _ _) (c .before .before .before .before .before .before .k .given .1) (right (c .before .before .before .before .before .before .before .before)) in
+    let a = c .before .before .before .before .before .before .before .before .before in
+    let r = subst (Right _ _ _ _ _) (c .before .before .before .before .before .k .given .1) (right (c .before .before .before .before .before .before .before)) in
     step-as _ (c .before .before .over-run .ensures) (run-lines r (a .pre .1 .0 .1) _ _)
 
 -- ---- the lines of one kind
@@ -84,7 +81,6 @@ over-way-spec =
     (tie.spec
     way-of-requires
     enum-known-k
-    boats-at-requires
     over-run-requires
     enum-known-k-2
     over-kind-requires
