@@ -8,12 +8,14 @@ use native.Mathlib.Omega.{arith}
 use lib.Arith.{digits-lt, digits-div, digits-mod}
 use lib.Dec.{eqb}
 use borrow.Author.Tests.{ne-eqb}
+use Rattle.request.specs.declared.Plan.{Plan}
 use Rattle.search.specs.Loops.{turns, turns-idle}
 use Rattle.search.specs.Table.{Search, push}
 use Rattle.states.specs.Spots.{stackTurn}
-use Rattle.states.specs.declared.Spot.{Spot}
-use Rattle.ways.proofs.Right.{at-x, turns-one, turns-alike, okay-same, tested-stands}
-use Rattle.expanding.specs.Stepping.{Entries, WantsSame, EntryBelow, EntryAmong}
+use Rattle.ways.proofs.Right.{at-x, turns-one, turns-alike, tested-stands}
+use Rattle.expanding.specs.Stepping.{entryState, entriesTurn, Entries, WantsSame, EntryBelow, EntryAmong}
+use Rattle.expanding.specs.Undoing.{undone, InStates}
+use Rattle.expanding.specs.declared.Undo.{Undo}
 
 -- ---- a loop in parts
 
@@ -100,54 +102,65 @@ no-rest n m e = omega (arith, div-add-mod' n m, e)
 pub le-product : (a b : ℕ) → 0 < b → a ≤ a * b
 le-product a b h = let m : a * 1 ≤ a * b = mul-le-mul {n₁ = a} {m₁ = 1} (omega arith) h in omega (arith, m, mul-one a)
 
--- ---- the stacks of a position that wants the boat at its level
+-- ---- the stacks of a position that takes only the boat at its level
 
-module _ (R : ℕ) (s : Spot) (d home x W w : ℕ) (wants : WantsSame s W w) where
+module _ (plan : Plan) (u : Undo) (home x : ℕ) (wants : WantsSame u) where
+  abbrev R : ℕ
+  R = plan .radix
+
+  abbrev W : ℕ
+  W = u .weight
+
+  abbrev w : ℕ
+  w = u .stack
+
+  abbrev level : ℕ
+  level = u .spot .level
+
   -- what one stack does
-  turn-is : (n : ℕ) (b : Search) → stackTurn R s d home x W w n b ≡ cond (eqb x ((n * W + w) / s .level % R)) (push d (home + (n * W + w)) b) b
-  turn-is n b = tested-stands R s d home x W w b n b (wants .no-push) ∙ ap (λ z. cond z (push d (home + (n * W + w)) b) b) (okay-same R s x (n * W + w) (wants .same))
+  abbrev turn : ℕ → Search → Search
+  turn = stackTurn R (u .spot) (u .d) home x W w
 
-  pub same-none : 0 < s .level → EntryBelow R (s .level) W → (x ≡ w / s .level % R → ⊥) → (count : ℕ) (st : Search) → turns (stackTurn R s d home x W w) 0 count st ≡ st
-  same-none some is other count st = turns-idle (stackTurn R s d home x W w) 0 count st (λ n l u. idle n)
+  abbrev goes : ℕ → Search → Search
+  goes n = push (u .d) (home + (n * W + w))
+
+  turn-is : (n : ℕ) (b : Search) → turn n b ≡ cond (eqb x ((n * W + w) / level % R)) (goes n b) b
+  turn-is n b = tested-stands R (u .spot) (u .d) home x W w b n b (wants .plain) ∙ ap (λ z. cond z (goes n b) b) (wants .only .kept R x (n * W + w))
+
+  pub same-none : 0 < level → EntryBelow R level W → (x ≡ w / level % R → ⊥) → (st : Search) → undone plan u home x st ≡ st
+  same-none some is other st = turns-idle turn 0 (u .count) st (λ n l h. idle n)
     where
-      idle : (n : ℕ) → stackTurn R s d home x W w n st ≡ st
+      idle : (n : ℕ) → turn n st ≡ st
       idle n =
-          let there : (n * W + w) / s .level % R ≡ w / s .level % R = ap (λ z. (n * z + w) / s .level % R) is ∙ entry-same R (s .level) (W / s .level / R) n w some in
-          turn-is n st ∙ ap (λ z. cond z (push d (home + (n * W + w)) st) st) (ne-eqb x ((n * W + w) / s .level % R) (λ e. other (e ∙ there)))
+          let there : (n * W + w) / level % R ≡ w / level % R = ap (λ z. (n * z + w) / level % R) is ∙ entry-same R level (W / level / R) n w some in
+          turn-is n st ∙ ap (λ z. cond z (goes n st) st) (ne-eqb x ((n * W + w) / level % R) (λ e. other (e ∙ there)))
 
-  pub same-entries : (count : ℕ) → EntryAmong R (s .level) W count x → (st : Search)
-      → turns (stackTurn R s d home x W w) 0 count st
-      ≡ turns (λ h. turns (λ l. push d (home + ((h * R + x) * (s .level / W) * W + w) + l * W)) 0 (s .level / W)) 0 (count / (s .level / W) / R) st
-  same-entries count among st =
-      let q = s .level / W in
-      let n = count / q / R in
-      turns-alike (stackTurn R s d home x W w) (body R q x (among .some) (among .boat) g) 0 count count (omega arith) (λ k less b. entry k b) st
-      ∙ (ap (λ k. turns (body R q x (among .some) (among .boat) g) 0 k st) (among .count-is)
-      ∙ (turns-entry R q x (among .some) (among .boat) g n st
-      ∙ turns-alike (λ h. turns (λ l. g ((h * R + x) * q + l)) 0 q) (λ h. turns (λ l. push d (home + ((h * R + x) * q * W + w) + l * W)) 0 q) 0 n n (omega arith)
-      (λ h less b. turns-alike (λ l. g ((h * R + x) * q + l)) (λ l. push d (home + ((h * R + x) * q * W + w) + l * W)) 0 q q (omega arith) (λ l lq c. ap (λ z. push d z c) (sum h l)) b) st))
+  pub same-entries : EntryAmong R level W (u .count) x → (st : Search) → undone plan u home x st ≡ turns (entriesTurn plan u home x (level / W)) 0 (u .count / (level / W) / R) st
+  unfolding entriesTurn
+  same-entries among st =
+      let q = level / W in
+      let n = u .count / q / R in
+      turns-alike turn (body R q x (among .some) (among .boat) goes) 0 (u .count) (u .count) (omega arith) (λ k less b. entry k b) st
+      ∙ (ap (λ k. turns (body R q x (among .some) (among .boat) goes) 0 k st) (among .count-is)
+      ∙ (turns-entry R q x (among .some) (among .boat) goes n st
+      ∙ turns-alike (λ h. turns (λ l. goes ((h * R + x) * q + l)) 0 q) (λ h. turns (λ l. push (u .d) (entryState plan u home x q h l)) 0 q) 0 n n (omega arith)
+      (λ h less b. turns-alike (λ l. goes ((h * R + x) * q + l)) (λ l. push (u .d) (entryState plan u home x q h l)) 0 q q (omega arith) (λ l lq c. ap (λ z. push (u .d) z c) (sum h l)) b) st))
     where
-      g : ℕ → Search → Search
-      g k = push d (home + (k * W + w))
-
-      some-weight : 0 < W
-      some-weight = omega (arith, wants .low)
-
-      entry : (k : ℕ) (b : Search) → stackTurn R s d home x W w k b ≡ cond (eqb x (k / (s .level / W) % R)) (g k b) b
+      entry : (k : ℕ) (b : Search) → turn k b ≡ cond (eqb x (k / (level / W) % R)) (goes k b) b
       entry k b =
-          let q = s .level / W in
-          let there : (k * W + w) / s .level ≡ k / q = ap ((k * W + w) /_) (among .level-is ∙ mul-comm q W) ∙ (sym (div-div-eq-div-mul (k * W + w) W q) ∙ ap (_/ q) (digits-div k (wants .low))) in
-          turn-is k b ∙ ap (λ z. cond (eqb x (z % R)) (g k b) b) there
+          let q = level / W in
+          let there : (k * W + w) / level ≡ k / q = ap ((k * W + w) /_) (among .level-is ∙ mul-comm q W) ∙ (sym (div-div-eq-div-mul (k * W + w) W q) ∙ ap (_/ q) (digits-div k (wants .low))) in
+          turn-is k b ∙ ap (λ z. cond (eqb x (z % R)) (goes k b) b) there
 
-      sum : (h l : ℕ) → home + (((h * R + x) * (s .level / W) + l) * W + w) ≡ home + ((h * R + x) * (s .level / W) * W + w) + l * W
-      sum h l = omega (arith, add-mul ((h * R + x) * (s .level / W)) l W)
+      sum : (h l : ℕ) → home + (((h * R + x) * (level / W) + l) * W + w) ≡ entryState plan u home x (level / W) h l
+      sum h l = omega (arith, add-mul ((h * R + x) * (level / W)) l W)
 
 -- each of them is one of the states
-pub entries-low : (R home x W w level count size : ℕ) → EntryAmong R level W count x → ((k : ℕ) → k < count → home + (k * W + w) < size)
-    → Entries home R x W w (level / W) (count / (level / W) / R) size
-entries-low R home x W w level count size among there h l hn lq =
-    let q = level / W in
-    let n = count / q / R in
-    let one : h * R + x < n * R = digits-lt hn (among .boat) in
-    let two : (h * R + x) * q + l < n * R * q = digits-lt one lq in
-    omega (arith, there ((h * R + x) * q + l) (omega (arith, two, among .count-is)), add-mul ((h * R + x) * q) l W)
+pub entries-low : (plan : Plan) (u : Undo) (home x : ℕ) → EntryAmong (plan .radix) (u .spot .level) (u .weight) (u .count) x → InStates plan u home
+    → Entries plan u home x (u .spot .level / u .weight) (u .count / (u .spot .level / u .weight) / plan .radix)
+entries-low plan u home x among there h l hn lq =
+    let q = u .spot .level / u .weight in
+    let n = u .count / q / plan .radix in
+    let one : h * plan .radix + x < n * plan .radix = digits-lt hn (among .boat) in
+    let two : (h * plan .radix + x) * q + l < n * plan .radix * q = digits-lt one lq in
+    omega (arith, there ((h * plan .radix + x) * q + l) (omega (arith, two, among .count-is)), add-mul ((h * plan .radix + x) * q) l (u .weight))

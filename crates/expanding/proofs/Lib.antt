@@ -1,3 +1,4 @@
 pub mod Bridge
 pub mod Backs
 pub mod Entries
+pub mod Undone

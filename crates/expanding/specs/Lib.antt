@@ -1,2 +1,3 @@
 pub mod Backing
+pub mod Undoing
 pub mod Stepping

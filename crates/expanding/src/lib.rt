@@ -6,24 +6,25 @@ ghost use lib.Dec.{eqb};
 ghost use lib.ListN.{length, getD};
 ghost use Rattle.automaton.specs.Program.{bitOf, followAt};
 ghost use Rattle.automaton.specs.Shape.{deeper};
-ghost use Rattle.request.specs.Layout.{Laid};
+ghost use Rattle.request.specs.Layout.{largest, Laid};
 ghost use Rattle.search.specs.Loops.{turns};
 ghost use Rattle.search.specs.Table.{push};
-ghost use Rattle.states.specs.Area.{Ready, Step};
 ghost use Rattle.states.specs.Pairs.{ReadyBack, StepBack};
 ghost use Rattle.search.specs.Loaded.{settingAt};
 ghost use Rattle.search.specs.Moves.{expand};
-ghost use Rattle.sorting.specs.Sorting.{keys};
+ghost use Rattle.sorting.specs.Sorting.{packBy, keys};
 ghost use Rattle.sorting.specs.declared.Order.the-variants as Orders;
 ghost use Rattle.ways.specs.Ways.{laneTurn, Narrow, runTurn, Told, Gives, Before};
 ghost use Rattle.ways.specs.Filed.{Filed};
-ghost use Rattle.ways.specs.Stacked.{stackedTurn, Enough};
+ghost use Rattle.ways.specs.Stacked.{Words};
 ghost use Rattle.expanding.specs.Backing.{Backing};
-ghost use Rattle.expanding.specs.Stepping.{Steps, Entries, WantsSame, EntryBelow, EntryAmong};
-ghost use Rattle.states.specs.Spots.{front, Sane, stackAt, stackTurn, lineTurn, Aimed, Stacks, Starts, spotTurn};
+ghost use Rattle.expanding.specs.Stepping.{Steps, Entries, entriesTurn, WantsSame, EntryBelow, EntryAmong};
+ghost use Rattle.expanding.specs.Undoing.{undone, lineUndone, wordUndone, linesBack, undoOf, Undoing, InStates, LeadsTo};
+ghost use Rattle.states.specs.Spots.{front, Sane, stackAt, Aimed, Starts, spotTurn};
 use automaton::Row;
 use request::Plan;
 use sorting::Order;
+use sorting::PACK;
 use states::Spot;
 use states::Target;
 use ways::Lane;
@@ -32,7 +33,7 @@ use ways::Way;
 // ---- the stacks of one line
 
 // One stack `v` after the position: it is undone for the line's boat, and the state before is pushed.
-pub fn one_stack(
+fn one_stack(
     work: &mut [u32],
     plan: Plan,
     spot: Spot,
@@ -42,11 +43,11 @@ pub fn one_stack(
     v: usize,
     tail: usize,
 ) -> usize
-    requires { ⌜ Ready (plan .base) (plan .size) tail (now work) ⌝ }
+    requires { ⌜ ReadyBack plan tail (now work) ⌝ }
     requires { ⌜ Laid plan (length (now work)) ⌝ }
     requires { ⌜ Sane spot ⌝ }
     requires { ⌜ (0 < d) × (d ≤ suc tail) × (home + v < plan .size) ⌝ }
-    ensures { λ r. ⌜ Step (plan .base) (plan .size) (stackAt (plan .radix) spot d home code v) tail (now (work .entry)) r (now (work .exit)) ⌝ }
+    ensures { λ r. ⌜ StepBack plan (stackAt (plan .radix) spot d home code v) tail (now (work .entry)) r (now (work .exit)) ⌝ }
 {
     let u = states::take_off(spot, v);
     if states::put_on(spot, u, code) == v {
@@ -57,28 +58,35 @@ pub fn one_stack(
     tail
 }
 
-// Each stack x * weight + w, of `count`, one after the other.
-fn over_each(
-    work: &mut [u32],
-    plan: Plan,
-    spot: Spot,
-    d: u32,
-    home: usize,
-    code: u32,
-    weight: usize,
-    w: usize,
-    count: usize,
-    tail: usize,
-) -> usize
-    requires { ⌜ Ready (plan .base) (plan .size) tail (now work) ⌝ }
-    requires { ⌜ Laid plan (length (now work)) ⌝ }
-    requires { ⌜ Sane spot ⌝ }
-    requires { ⌜ (0 < d) × (d ≤ suc tail) × ((x : ℕ) → x < count → home + (x * weight + w) < plan .size) ⌝ }
-    ensures { λ r. ⌜ Step (plan .base) (plan .size) (turns (stackTurn (plan .radix) spot d home code weight w) 0 count) tail (now (work .entry)) r (now (work .exit)) ⌝ }
+// The stacks after a position that are undone: x * weight + stack, for each x below `count`. The states before get the word `d`.
+pub struct Undo {
+    pub spot: Spot,
+    pub weight: usize,
+    pub stack: usize,
+    pub count: usize,
+    pub d: u32,
+}
+
+// Each stack, one after the other.
+fn over_each(work: &mut [u32], plan: Plan, undo: Undo, home: usize, code: u32, tail: usize) -> usize
+    requires { ⌜ Undoing plan undo tail (now work) ⌝ }
+    requires { ⌜ InStates plan undo home ⌝ }
+    ensures { λ r. ⌜ StepBack plan (undone plan undo home code) tail (now (work .entry)) r (now (work .exit)) ⌝ }
 {
+    let spot = undo.spot;
+    let count = undo.count;
     let mut t = tail;
     for x in 0..count {
-        t = one_stack(work, plan, spot, d, home, code, x * weight + w, t);
+        t = one_stack(
+            work,
+            plan,
+            spot,
+            undo.d,
+            home,
+            code,
+            x * undo.weight + undo.stack,
+            t,
+        );
     }
     t
 }
@@ -93,9 +101,9 @@ fn over_low(
     many: usize,
     tail: usize,
 ) -> usize
-    requires { ⌜ Ready (plan .base) (plan .size) tail (now work) ⌝ }
-    requires { ⌜ (0 < d) × (d ≤ suc tail) × (plan .size ≤ 1048576) × Steps first weight many (plan .size) ⌝ }
-    ensures { λ r. ⌜ Step (plan .base) (plan .size) (turns (λ l. push d (first + l * weight)) 0 many) tail (now (work .entry)) r (now (work .exit)) ⌝ }
+    requires { ⌜ ReadyBack plan tail (now work) ⌝ }
+    requires { ⌜ (0 < d) × (d ≤ suc tail) × (plan .size ≤ largest) × Steps first weight many (plan .size) ⌝ }
+    ensures { λ r. ⌜ StepBack plan (turns (λ l. push d (first + l * weight)) 0 many) tail (now (work .entry)) r (now (work .exit)) ⌝ }
 {
     let mut t = tail;
     for l in 0..many {
@@ -108,24 +116,21 @@ fn over_low(
 fn over_entries(
     work: &mut [u32],
     plan: Plan,
-    d: u32,
+    undo: Undo,
     home: usize,
     code: usize,
-    weight: usize,
-    w: usize,
     below: usize,
     above: usize,
     tail: usize,
 ) -> usize
-    requires { ⌜ Ready (plan .base) (plan .size) tail (now work) ⌝ }
-    requires { ⌜ (0 < weight) × (0 < below) ⌝ }
-    requires { ⌜ (0 < d) × (d ≤ suc tail) × (plan .size ≤ 1048576) × Entries home (plan .radix) code weight w below above (plan .size) ⌝ }
-    ensures { λ r. ⌜ Step (plan .base) (plan .size) (turns (λ h. turns (λ l. push d (home + ((h * plan .radix + code) * below * weight + w) + l * weight)) 0 below) 0 above) tail (now (work .entry)) r (now (work .exit)) ⌝ }
+    requires { ⌜ Undoing plan undo tail (now work) ⌝ }
+    requires { ⌜ (0 < undo .weight) × (0 < below) × Entries plan undo home code below above ⌝ }
+    ensures { λ r. ⌜ StepBack plan (turns (entriesTurn plan undo home code below) 0 above) tail (now (work .entry)) r (now (work .exit)) ⌝ }
 {
     let mut t = tail;
     for h in 0..above {
-        let first = home + ((h * plan.radix + code) * below * weight + w);
-        t = over_low(work, plan, d, first, weight, below, t);
+        let first = home + ((h * plan.radix + code) * below * undo.weight + undo.stack);
+        t = over_low(work, plan, undo.d, first, undo.weight, below, t);
     }
     t
 }
@@ -162,124 +167,86 @@ fn entry_among(radix: usize, level: usize, weight: usize, count: usize, code: u3
     (code as usize) < radix
 }
 
-// Each stack, of a position that wants the boat at its level and does not push. The entry at that level is one of the state's, the same
-// for all of them, or one of those that are gone over, of which the line's boat is taken alone.
-fn over_same(
-    work: &mut [u32],
-    plan: Plan,
-    spot: Spot,
-    d: u32,
-    home: usize,
-    code: u32,
-    weight: usize,
-    w: usize,
-    count: usize,
-    tail: usize,
-) -> usize
-    requires { ⌜ Ready (plan .base) (plan .size) tail (now work) ⌝ }
-    requires { ⌜ Laid plan (length (now work)) ⌝ }
-    requires { ⌜ Sane spot × WantsSame spot weight w ⌝ }
-    requires { ⌜ (0 < d) × (d ≤ suc tail) × ((x : ℕ) → x < count → home + (x * weight + w) < plan .size) ⌝ }
-    ensures { λ r. ⌜ Step (plan .base) (plan .size) (turns (stackTurn (plan .radix) spot d home code weight w) 0 count) tail (now (work .entry)) r (now (work .exit)) ⌝ }
+// Each stack, of a position that takes only the boat at its level and does not push. The entry at that level is one of the state's, the
+// same for all of them, or one of those that are gone over, of which the line's boat is taken alone.
+fn over_same(work: &mut [u32], plan: Plan, undo: Undo, home: usize, code: u32, tail: usize) -> usize
+    requires { ⌜ Undoing plan undo tail (now work) ⌝ }
+    requires { ⌜ InStates plan undo home ⌝ }
+    requires { ⌜ WantsSame undo ⌝ }
+    ensures { λ r. ⌜ StepBack plan (undone plan undo home code) tail (now (work .entry)) r (now (work .exit)) ⌝ }
 {
-    if entry_below(plan.radix, spot.level, weight) {
-        if states::entry_at(w, spot.level, plan.radix) != code as usize {
+    let spot = undo.spot;
+    if entry_below(plan.radix, spot.level, undo.weight) {
+        if states::entry_at(undo.stack, spot.level, plan.radix) != code as usize {
             return tail;
         }
-        return over_each(work, plan, spot, d, home, code, weight, w, count, tail);
+        return over_each(work, plan, undo, home, code, tail);
     }
-    let below = spot.level / weight;
-    if entry_among(plan.radix, spot.level, weight, count, code) {
-        let above = count / below / plan.radix;
-        return over_entries(
-            work,
-            plan,
-            d,
-            home,
-            code as usize,
-            weight,
-            w,
-            below,
-            above,
-            tail,
-        );
+    let below = spot.level / undo.weight;
+    if entry_among(plan.radix, spot.level, undo.weight, undo.count, code) {
+        let above = undo.count / below / plan.radix;
+        return over_entries(work, plan, undo, home, code as usize, below, above, tail);
     }
-    over_each(work, plan, spot, d, home, code, weight, w, count, tail)
+    over_each(work, plan, undo, home, code, tail)
 }
 
-// Does a position want the boat at its level, without a push? And is the stack that is kept below the weight?
-fn wants_same(spot: Spot, weight: usize, w: usize) -> bool
-    ensures { λ r. ⌜ (r ≡ true → WantsSame spot weight w) ⌝ }
+// Does the position take only the boat at its level, without a push? And is the stack that is kept below the weight?
+fn wants_same(undo: Undo) -> bool
+    ensures { λ r. ⌜ (r ≡ true → WantsSame undo) ⌝ }
 {
-    if spot.push == 1 {
+    let spot = undo.spot;
+    if spot.push {
         return false;
     }
-    if spot.test != 2 {
-        return false;
+    if states::wants_kept(spot) {
+        return undo.stack < undo.weight;
     }
-    w < weight
+    false
 }
 
-// Each stack x * weight + w, of `count`.
-pub fn over_stacks(
+// Each stack, for a line with the boat number `code`; `home` is the state with the empty stack at the line's start.
+fn over_stacks(
     work: &mut [u32],
     plan: Plan,
-    spot: Spot,
-    d: u32,
+    undo: Undo,
     home: usize,
     code: u32,
-    weight: usize,
-    w: usize,
-    count: usize,
     tail: usize,
 ) -> usize
-    requires { ⌜ Ready (plan .base) (plan .size) tail (now work) ⌝ }
-    requires { ⌜ Laid plan (length (now work)) ⌝ }
-    requires { ⌜ Sane spot ⌝ }
-    requires { ⌜ (0 < d) × (d ≤ suc tail) × ((x : ℕ) → x < count → home + (x * weight + w) < plan .size) ⌝ }
-    ensures { λ r. ⌜ Step (plan .base) (plan .size) (turns (stackTurn (plan .radix) spot d home code weight w) 0 count) tail (now (work .entry)) r (now (work .exit)) ⌝ }
+    requires { ⌜ Undoing plan undo tail (now work) ⌝ }
+    requires { ⌜ InStates plan undo home ⌝ }
+    ensures { λ r. ⌜ StepBack plan (undone plan undo home code) tail (now (work .entry)) r (now (work .exit)) ⌝ }
 {
-    if wants_same(spot, weight, w) {
-        return over_same(work, plan, spot, d, home, code, weight, w, count, tail);
+    if wants_same(undo) {
+        return over_same(work, plan, undo, home, code, tail);
     }
-    over_each(work, plan, spot, d, home, code, weight, w, count, tail)
+    over_each(work, plan, undo, home, code, tail)
 }
 
-// Line `i`, if it leads to the target's place and is of the position's kind: gone back over to the position `c`.
-pub fn one_line(
+// ---- each line
+
+// Line `i`, if it leads to the place and is of the position's kind: gone back over to the position `c`.
+fn one_line(
     work: &mut [u32],
     plan: Plan,
-    spot: Spot,
-    target: Target,
-    d: u32,
+    undo: Undo,
+    place: usize,
     c: usize,
-    count: usize,
     i: usize,
     tail: usize,
 ) -> usize
-    requires { ⌜ Ready (plan .base) (plan .size) tail (now work) ⌝ }
-    requires { ⌜ Laid plan (length (now work)) × Starts plan (front plan (now work)) ⌝ }
-    requires { ⌜ Sane spot ⌝ }
-    requires { ⌜ (0 < d) × (d ≤ suc tail) × (c ≤ plan .done) × (i < plan .lines) × Stacks count (target .weight) (target .stack) (plan .stacks) ⌝ }
-    ensures { λ r. ⌜ Step (plan .base) (plan .size) (lineTurn plan (front plan (now (work .entry))) spot target d c count i) tail (now (work .entry)) r (now (work .exit)) ⌝ }
+    requires { ⌜ Undoing plan undo tail (now work) ⌝ }
+    requires { ⌜ Starts plan (front plan (now work)) × (i < plan .lines) ⌝ }
+    requires { ⌜ LeadsTo plan undo c ⌝ }
+    ensures { λ r. ⌜ StepBack plan (lineUndone plan undo (front plan (now (work .entry))) place c i) tail (now (work .entry)) r (now (work .exit)) ⌝ }
 {
-    let line = states::word(work, plan.words + i) as usize;
-    if line / 16 % 1024 == target.place {
-        if line % 16 == spot.kind {
+    let line = states::word(work, plan.words + i);
+    let spot = undo.spot;
+    if request::to_of(line) == place {
+        if request::kind_of(line) == spot.kind {
             let code = states::word(work, plan.codes + i);
-            let home = states::state_at(plan, line / 16384, c, 0);
-            return over_stacks(
-                work,
-                plan,
-                spot,
-                d,
-                home,
-                code,
-                target.weight,
-                target.stack,
-                count,
-                tail,
-            );
+            let home = states::state_at(plan, request::from_of(line), c, 0);
+            return over_stacks(work, plan, undo, home, code, tail);
         }
     }
     tail
@@ -289,44 +256,48 @@ pub fn one_line(
 fn over_lines(
     work: &mut [u32],
     plan: Plan,
-    spot: Spot,
-    target: Target,
-    d: u32,
+    undo: Undo,
+    place: usize,
     c: usize,
-    count: usize,
     tail: usize,
 ) -> usize
-    requires { ⌜ Ready (plan .base) (plan .size) tail (now work) ⌝ }
-    requires { ⌜ Laid plan (length (now work)) × Starts plan (front plan (now work)) ⌝ }
-    requires { ⌜ Sane spot ⌝ }
-    requires { ⌜ (0 < d) × (d ≤ suc tail) × (c ≤ plan .done) × Stacks count (target .weight) (target .stack) (plan .stacks) ⌝ }
-    ensures { λ r. ⌜ Step (plan .base) (plan .size) (turns (lineTurn plan (front plan (now (work .entry))) spot target d c count) 0 (plan .lines)) tail (now (work .entry)) r (now (work .exit)) ⌝ }
+    requires { ⌜ Undoing plan undo tail (now work) ⌝ }
+    requires { ⌜ Starts plan (front plan (now work)) ⌝ }
+    requires { ⌜ LeadsTo plan undo c ⌝ }
+    ensures { λ r. ⌜ StepBack plan (turns (lineUndone plan undo (front plan (now (work .entry))) place c) 0 (plan .lines)) tail (now (work .entry)) r (now (work .exit)) ⌝ }
 {
     let lines = plan.lines;
     let mut t = tail;
     for i in 0..lines {
-        t = one_line(work, plan, spot, target, d, c, count, i, t);
+        t = one_line(work, plan, undo, place, c, i, t);
     }
     t
 }
 
-// The stack's depth after a position.
-fn leaves_of(row: Row) -> usize
-    ensures { λ r. ⌜ r ≡ deeper (row .push) (row .depth) ⌝ }
-{
-    let depth = states::wide(row.depth);
-    if row.push { depth + 1 } else { depth }
-}
-
 // How many stacks of depth `deep` there are over one of depth `e`: radix^(deep - e), and 1 where `e` is not below.
 fn stacks_over(radix: usize, deep: usize, e: usize) -> usize
-    requires { ⌜ (0 < radix) × (radix ^ (deep - e) ≤ 1048576) ⌝ }
+    requires { ⌜ (0 < radix) × (radix ^ (deep - e) ≤ largest) ⌝ }
     ensures { λ r. ⌜ r ≡ radix ^ (deep - e) ⌝ }
 {
     if e < deep {
         states::power(radix, deep - e)
     } else {
         1
+    }
+}
+
+// The stacks of the depth `leaves` after a position that are the state's when they are cut to its depth.
+fn undo_of(plan: Plan, spot: Spot, target: Target, d: u32, leaves: usize) -> Undo
+    requires { ⌜ (0 < plan .radix) × (plan .radix ^ (leaves - target .depth) ≤ largest) ⌝ }
+    ensures { λ r. ⌜ r ≡ undoOf plan spot target d leaves ⌝ }
+{
+    let count = stacks_over(plan.radix, leaves, target.depth);
+    Undo {
+        spot,
+        weight: target.weight,
+        stack: target.stack,
+        count,
+        d,
     }
 }
 
@@ -341,72 +312,48 @@ fn by_stack(
     leaves: usize,
     tail: usize,
 ) -> usize
-    requires { ⌜ Ready (plan .base) (plan .size) tail (now work) ⌝ }
+    requires { ⌜ ReadyBack plan tail (now work) ⌝ }
     requires { ⌜ Laid plan (length (now work)) × Told plan (front plan (now work)) ⌝ }
     requires { ⌜ Before plan spot target c leaves ⌝ }
     requires { ⌜ (0 < d) × (d ≤ suc tail) ⌝ }
-    ensures { λ r. ⌜ Step (plan .base) (plan .size) (turns (lineTurn plan (front plan (now (work .entry))) spot target d c (plan .radix ^ (leaves - target .depth))) 0 (plan .lines)) tail (now (work .entry)) r (now (work .exit)) ⌝ }
+    ensures { λ r. ⌜ StepBack plan (linesBack plan (front plan (now (work .entry))) spot target d c leaves) tail (now (work .entry)) r (now (work .exit)) ⌝ }
 {
-    let count = stacks_over(plan.radix, leaves, target.depth);
-    over_lines(work, plan, spot, target, d, c, count, tail)
+    let undo = undo_of(plan, spot, target, d, leaves);
+    over_lines(work, plan, undo, target.place, c, tail)
 }
 
-// The word `p` of the sorted lines: gone back over to the position `c`, for each of `count` stacks.
-fn one_stacked(
-    work: &mut [u32],
-    plan: Plan,
-    spot: Spot,
-    target: Target,
-    d: u32,
-    c: usize,
-    count: usize,
-    p: usize,
-    tail: usize,
-) -> usize
-    requires { ⌜ Ready (plan .base) (plan .size) tail (now work) ⌝ }
-    requires { ⌜ Laid plan (length (now work)) × Sane spot ⌝ }
-    requires { ⌜ (p < length (now work)) × (getD (now work) p 0 / 8192 < plan .places) ⌝ }
-    requires { ⌜ (0 < d) × (d ≤ suc tail) × (c ≤ plan .done) × Stacks count (target .weight) (target .stack) (plan .stacks) ⌝ }
-    ensures { λ r. ⌜ Step (plan .base) (plan .size) (stackedTurn plan spot target d c count (getD (now (work .entry)) p 0)) tail (now (work .entry)) r (now (work .exit)) ⌝ }
+// ---- the sorted lines
+
+// The word `p` of the sorted lines: gone back over to the position `c`.
+fn one_stacked(work: &mut [u32], plan: Plan, undo: Undo, c: usize, p: usize, tail: usize) -> usize
+    requires { ⌜ Undoing plan undo tail (now work) ⌝ }
+    requires { ⌜ (p < length (now work)) × (getD (now work) p 0 / packBy < plan .places) ⌝ }
+    requires { ⌜ LeadsTo plan undo c ⌝ }
+    ensures { λ r. ⌜ StepBack plan (wordUndone plan undo c (getD (now (work .entry)) p 0)) tail (now (work .entry)) r (now (work .exit)) ⌝ }
 {
     let e = states::word(work, p);
-    let home = states::state_at(plan, (e / 8192) as usize, c, 0);
-    over_stacks(
-        work,
-        plan,
-        spot,
-        d,
-        home,
-        e % 8192,
-        target.weight,
-        target.stack,
-        count,
-        tail,
-    )
+    let home = states::state_at(plan, (e / PACK) as usize, c, 0);
+    over_stacks(work, plan, undo, home, e % PACK, tail)
 }
 
 // The words from `lo` up to `hi`, which stand after the pair of stretches.
 fn over_stacked(
     work: &mut [u32],
     plan: Plan,
-    spot: Spot,
-    target: Target,
-    d: u32,
+    undo: Undo,
     c: usize,
-    count: usize,
     lo: usize,
     hi: usize,
     tail: usize,
 ) -> usize
-    requires { ⌜ Ready (plan .base) (plan .size) tail (now work) ⌝ }
-    requires { ⌜ Laid plan (length (now work)) × Sane spot ⌝ }
-    requires { ⌜ Enough plan spot target (now work) lo hi ⌝ }
-    requires { ⌜ (0 < d) × (d ≤ suc tail) × (c ≤ plan .done) × Stacks count (target .weight) (target .stack) (plan .stacks) ⌝ }
-    ensures { λ r. ⌜ Step (plan .base) (plan .size) (turns (λ p. stackedTurn plan spot target d c count (getD (now (work .entry)) p 0)) lo (hi - lo)) tail (now (work .entry)) r (now (work .exit)) ⌝ }
+    requires { ⌜ Undoing plan undo tail (now work) ⌝ }
+    requires { ⌜ Words plan (now work) lo hi ⌝ }
+    requires { ⌜ LeadsTo plan undo c ⌝ }
+    ensures { λ r. ⌜ StepBack plan (turns (λ p. wordUndone plan undo c (getD (now (work .entry)) p 0)) lo (hi - lo)) tail (now (work .entry)) r (now (work .exit)) ⌝ }
 {
     let mut t = tail;
     for p in lo..hi {
-        t = one_stacked(work, plan, spot, target, d, c, count, p, t);
+        t = one_stacked(work, plan, undo, c, p, t);
     }
     t
 }
@@ -422,35 +369,30 @@ fn by_sorted(
     leaves: usize,
     tail: usize,
 ) -> usize
-    requires { ⌜ Ready (plan .base) (plan .size) tail (now work) ⌝ }
+    requires { ⌜ ReadyBack plan tail (now work) ⌝ }
     requires { ⌜ Laid plan (length (now work)) × Told plan (front plan (now work)) ⌝ }
     requires { ⌜ Before plan spot target c leaves ⌝ }
     requires { ⌜ (0 < d) × (d ≤ suc tail) ⌝ }
     requires { ⌜ Filed plan (now work) ⌝ }
-    ensures { λ r. ⌜ Step (plan .base) (plan .size) (turns (lineTurn plan (front plan (now (work .entry))) spot target d c (plan .radix ^ (leaves - target .depth))) 0 (plan .lines)) tail (now (work .entry)) r (now (work .exit)) ⌝ }
+    ensures { λ r. ⌜ StepBack plan (linesBack plan (front plan (now (work .entry))) spot target d c leaves) tail (now (work .entry)) r (now (work .exit)) ⌝ }
 {
-    let count = stacks_over(plan.radix, leaves, target.depth);
+    let undo = undo_of(plan, spot, target, d, leaves);
     let run = ways::lines_for(work, plan, spot, target);
-    over_stacked(work, plan, spot, target, d, c, count, run.lo, run.hi, tail)
+    over_stacked(work, plan, undo, c, run.lo, run.hi, tail)
 }
 
-// The lines of the kind that the key `k` says; where their numbers have no weight, the thin ones are enough.
+// The lines of the kind that the key `k` says, by the thin ones where they are enough for the lane.
 fn over_kind(work: &mut [u32], plan: Plan, k: usize, lane: Lane, d: u32, tail: usize) -> usize
-    requires { ⌜ Ready (plan .base) (plan .size) tail (now work) ⌝ }
+    requires { ⌜ ReadyBack plan tail (now work) ⌝ }
     requires { ⌜ Laid plan (length (now work)) × Filed plan (now work) × (k < keys Orders.Kind plan) ⌝ }
     requires { ⌜ Narrow lane × Gives Orders.Kind plan (front plan (now work)) k lane ⌝ }
     requires { ⌜ (0 < d) × (d ≤ suc tail) ⌝ }
-    ensures { λ r. ⌜ Step (plan .base) (plan .size) (turns (runTurn Orders.Kind plan (front plan (now (work .entry))) k (laneTurn d lane)) 0 (plan .lines)) tail (now (work .entry)) r (now (work .exit)) ⌝ }
+    ensures { λ r. ⌜ StepBack plan (turns (runTurn Orders.Kind plan (front plan (now (work .entry))) k (laneTurn d lane)) 0 (plan .lines)) tail (now (work .entry)) r (now (work .exit)) ⌝ }
 {
-    let kinds = ways::kinds_at(plan);
-    if lane.only {
-        return ways::over_run(work, plan, Order::Kind, kinds, k, lane, d, tail);
+    if ways::thin_lane(lane) {
+        return ways::over_thin(work, plan, k, lane, d, tail);
     }
-    if lane.weight == 0 {
-        let thin = ways::thin_at(plan);
-        return ways::over_thin(work, plan, kinds, thin, k, lane, d, tail);
-    }
-    ways::over_run(work, plan, Order::Kind, kinds, k, lane, d, tail)
+    ways::over_run(work, plan, Order::Kind, k, lane, d, tail)
 }
 
 // The lines that lead back to position `c`, from the run of the sorted lines that has them where there is one.
@@ -464,21 +406,26 @@ fn over_way(
     leaves: usize,
     tail: usize,
 ) -> usize
-    requires { ⌜ Ready (plan .base) (plan .size) tail (now work) ⌝ }
+    requires { ⌜ ReadyBack plan tail (now work) ⌝ }
     requires { ⌜ Laid plan (length (now work)) × Told plan (front plan (now work)) ⌝ }
     requires { ⌜ Before plan spot target c leaves ⌝ }
     requires { ⌜ (0 < d) × (d ≤ suc tail) ⌝ }
     requires { ⌜ Filed plan (now work) ⌝ }
-    ensures { λ r. ⌜ Step (plan .base) (plan .size) (turns (lineTurn plan (front plan (now (work .entry))) spot target d c (plan .radix ^ (leaves - target .depth))) 0 (plan .lines)) tail (now (work .entry)) r (now (work .exit)) ⌝ }
+    ensures { λ r. ⌜ StepBack plan (linesBack plan (front plan (now (work .entry))) spot target d c leaves) tail (now (work .entry)) r (now (work .exit)) ⌝ }
 {
     match ways::way_of(plan, spot, target, leaves, c) {
-        Way::ByBoat(k, lane) => {
-            let at = ways::boats_at(plan);
-            ways::over_run(work, plan, Order::Boat, at, k, lane, d, tail)
-        }
+        Way::ByBoat(k, lane) => ways::over_run(work, plan, Order::Boat, k, lane, d, tail),
         Way::ByKind(k, lane) => over_kind(work, plan, k, lane, d, tail),
         Way::ByStack => by_sorted(work, plan, spot, target, d, c, leaves, tail),
     }
+}
+
+// The stack's depth after a position.
+fn leaves_of(row: Row) -> usize
+    ensures { λ r. ⌜ r ≡ deeper (row .push) (row .depth) ⌝ }
+{
+    let depth = states::wide(row.depth);
+    if row.push { depth + 1 } else { depth }
 }
 
 // The position `c`, which the target's may come after: the lines that lead back to it, by the sorted ones where the plan has them.

@@ -7,31 +7,33 @@ use Rattle.search.specs.Loops.{turns}
 use Rattle.states.specs.Area.{Under}
 use Rattle.states.specs.Spots.{stackTurn}
 use Rattle.states.proofs.Changes.{loop-start, loop-turn, loop-end}
+use Rattle.expanding.specs.Undoing.{undone}
 use borrow.Author.Needs.{needs}
 use Rattle.expanding.proofs.over_each.Statement.{statement}
 use Rattle.expanding.proofs.over_each.Tie as tie
 
 abbrev Inv-loop : tie.InvT-loop
-Inv-loop work₀ plan spot d home code weight w count tail t₀ x₀ work t x = (x ≤ count) × Under (plan .base) (plan .size) (turns (stackTurn (plan .radix) spot d home code weight w) 0 count) tail work₀ (turns (stackTurn (plan .radix) spot d home code weight w) x (count - x)) t work
+Inv-loop work₀ plan undo home code tail spot count t₀ x₀ work t x =
+    (x ≤ undo .count) × Under (plan .base) (plan .size) (undone plan undo home code) tail work₀ (turns (stackTurn (plan .radix) (undo .spot) (undo .d) home code (undo .weight) (undo .stack)) x (undo .count - x)) t work
 
 abbrev μ-loop : tie.MeasureT-loop
-μ-loop work₀ plan spot d home code weight w count tail t₀ x₀ work t x = count - x
+μ-loop work₀ plan undo home code tail spot count t₀ x₀ work t x = undo .count - x
 
 loop-holds : tie.Need-loop-holds Inv-loop μ-loop
-loop-holds c = (omega arith, loop-start _ _ (c .before .pre .0))
+loop-holds c = (omega arith, loop-start _ _ (c .before .before .pre .0 .ready))
 
 mul-one-stack : tie.Need-mul-one-stack Inv-loop μ-loop
-mul-one-stack c = let a = c .before .before .before .before in omega (arith, a .pre .1 .1 .1 .2 (c .before .before .loop .x) (omega arith), a .pre .1 .0 .small)
+mul-one-stack c = let a = c .before .before .before .before .before .before in omega (arith, a .pre .1 (c .before .before .before .loop .x) (c .before .before .loop-test .taken), a .pre .0 .laid .small)
 
 add-one-stack : tie.Need-add-one-stack Inv-loop μ-loop
-add-one-stack c = let a = c .before .before .before .before in omega (arith, a .pre .1 .1 .1 .2 (c .before .before .loop .x) (omega arith), a .pre .1 .0 .small)
+add-one-stack c = let a = c .before .before .before .before .before .before .before in omega (arith, a .pre .1 (c .before .before .before .before .loop .x) (c .before .before .before .loop-test .taken), a .pre .0 .laid .small)
 
 one-stack-requires : tie.Need-one-stack-requires Inv-loop μ-loop
 one-stack-requires c κs =
-    let a = c .before .before .before .before in
-    let u = c .before .before .loop .inv .1 in
-    let (some, near, there) = a .pre .1 .1 .1 in
-    (u .ready, (subst (Laid (a .args .plan)) (sym (u .long)) (a .pre .1 .0), (a .pre .1 .1 .0, (some, omega (arith, near, u .grows), there (c .before .before .loop .x) (omega arith)))))
+    let a = c .before .before .before .before .before .before .before in
+    let h = a .pre .0 in
+    let u = c .before .before .before .before .loop .inv .1 in
+    (u .ready, (subst (Laid (a .args .plan)) (sym (u .long)) (h .laid), (h .sane, (h .some, omega (arith, h .near, u .grows), a .pre .1 (c .before .before .before .before .loop .x) (c .before .before .before .loop-test .taken)))))
 
 add-x : tie.Need-add-x Inv-loop μ-loop
 add-x c = search needs
@@ -41,9 +43,7 @@ loop-less c = search needs
 
 loop-again : tie.Need-loop-again Inv-loop μ-loop
 unfolding stackTurn
-loop-again c =
-    let u = c .before .before .before .before .before .loop .inv .1 in
-    (omega arith, loop-turn _ _ _ u (omega arith) (c .before .before .one-stack .ensures))
+loop-again c = (omega arith, loop-turn _ _ _ (c .before .before .before .before .before .before .before .loop .inv .1) (c .before .before .before .before .before .before .loop-test .taken) (c .before .before .one-stack .ensures))
 
 same-length : tie.Need-same-length Inv-loop μ-loop
 same-length c = search needs

@@ -2,34 +2,33 @@
 use mathlib.Core.Path.{sym, subst}
 use Prim.Native.Nat.{_-_, _≤_}
 use native.Mathlib.Omega.{arith}
-use Rattle.request.specs.Layout.{Laid}
 use Rattle.search.specs.Loops.{turns}
 use Rattle.states.specs.Area.{Under}
-use Rattle.states.specs.Spots.{front, Starts, lineTurn}
+use Rattle.states.specs.Spots.{front, Starts}
 use Rattle.states.proofs.Changes.{loop-start, loop-turn, loop-end, under-front}
+use Rattle.expanding.specs.Undoing.{lineUndone}
+use Rattle.expanding.proofs.Undone.{undoing-under}
 use borrow.Author.Needs.{needs}
 use Rattle.expanding.proofs.over_lines.Statement.{statement}
 use Rattle.expanding.proofs.over_lines.Tie as tie
 
 abbrev Inv-loop : tie.InvT-loop
-Inv-loop work₀ plan spot target d c count tail lines t₀ i₀ work t i = (i ≤ plan .lines) × Under (plan .base) (plan .size) (turns (lineTurn plan (front plan work₀) spot target d c count) 0 (plan .lines)) tail work₀ (turns (lineTurn plan (front plan work₀) spot target d c count) i (plan .lines - i)) t work
+Inv-loop work₀ plan undo place c tail lines t₀ i₀ work t i =
+    (i ≤ plan .lines)
+    × Under (plan .base) (plan .size) (turns (lineUndone plan undo (front plan work₀) place c) 0 (plan .lines)) tail work₀ (turns (lineUndone plan undo (front plan work₀) place c) i (plan .lines - i)) t work
 
 abbrev μ-loop : tie.MeasureT-loop
-μ-loop work₀ plan spot target d c count tail lines t₀ i₀ work t i = plan .lines - i
+μ-loop work₀ plan undo place c tail lines t₀ i₀ work t i = plan .lines - i
 
 loop-holds : tie.Need-loop-holds Inv-loop μ-loop
-loop-holds c = (omega arith, loop-start _ _ (c .before .pre .0))
+loop-holds c = (omega arith, loop-start _ _ (c .before .pre .0 .ready))
 
 one-line-requires : tie.Need-one-line-requires Inv-loop μ-loop
 one-line-requires c κs =
     let a = c .before .before .before .before in
     let p = a .args .plan in
     let u = c .before .before .loop .inv .1 in
-    let (laid, starts) = a .pre .1 .0 in
-    let (some, near, low, fits) = a .pre .1 .1 .1 in
-    let laid′ = subst (Laid p) (sym (u .long)) laid in
-    let starts′ = subst (Starts p) (sym (under-front u (p .base) (omega arith))) starts in
-    (u .ready, ((laid′, starts′), (a .pre .1 .1 .0, (some, omega (arith, near, u .grows), low, omega arith, fits))))
+    (undoing-under u (a .pre .0), ((subst (Starts p) (sym (under-front u (p .base) (omega arith))) (a .pre .1 .0), c .before .loop-test .taken), a .pre .1 .1))
 
 add-i : tie.Need-add-i Inv-loop μ-loop
 add-i c = search needs

@@ -7,65 +7,65 @@ use Rattle.expanding.proofs.over_same.Statement.{statement}
 use Rattle.expanding.proofs.over_same.Tie as tie
 
 entry-below-requires : tie.Need-entry-below-requires
-entry-below-requires c κs = (c .before .pre .1 .0 .some-radix, c .before .pre .1 .1 .0 .0 .some-level)
+entry-below-requires c κs = search needs
 
 entry-at-requires : tie.Need-entry-at-requires
-entry-at-requires c κs = (c .before .before .before .pre .1 .1 .0 .0 .some-level, c .before .before .before .pre .1 .0 .some-radix)
+entry-at-requires c κs = search needs
 
 returns : tie.Need-returns
 returns c =
-    let a = c .before .before .before .before .before in
-    let (sane, wants) = a .pre .1 .1 .0 in
+    let a = c .before .before .before .before .before .before in
     let x = a .args in
-    step-none _ (a .pre .0) (same-none (x .plan .radix) (x .spot) (x .d) (x .home) (x .code) (x .weight) (x .w) wants (sane .some-level) (c .before .before .before .entry-below .ensures (c .before .before .if1 .taken)) (λ e. absurd (omega (arith, e, c .before .entry-at .ensures .0, c .if2 .taken))) (x .count) _)
+    let h = a .pre .0 in
+    step-none _ (h .ready)
+    (same-none (x .plan) (x .undo) (x .home) (x .code) (a .pre .1 .1) (h .sane .some-level) (c .before .before .before .entry-below .ensures (c .before .before .if1 .taken)) (λ e. absurd (omega (arith, e, c .before .entry-at .ensures .0, c .if2 .taken))) _)
 
 over-each-requires : tie.Need-over-each-requires
-over-each-requires c κs = let a = c .before .before .before .before .before .before in (a .pre .0, (a .pre .1 .0, (a .pre .1 .1 .0 .0, a .pre .1 .1 .1)))
+over-each-requires c κs = search needs
 
 same-length : tie.Need-same-length
 same-length c = search needs
 
 returns-2 : tie.Need-returns-2
-returns-2 c = c .before .before .over-each .ensures
+returns-2 c = search needs
 
 div-below : tie.Need-div-below
-div-below c = let a = c .before .before .before .before in omega (arith, a .pre .1 .1 .0 .1 .low)
+div-below c = search needs
 
 entry-among-requires : tie.Need-entry-among-requires
-entry-among-requires c κs = let a = c .before .before .before .before in (a .pre .1 .0 .some-radix, a .pre .1 .1 .0 .0 .some-level, omega (arith, a .pre .1 .1 .0 .1 .low))
+entry-among-requires c κs = search needs
 
 div-above : tie.Need-div-above
-div-above c = let among = c .before .entry-among .ensures (c .if3 .taken) in omega (arith, among .some)
+div-above c = let among = c .before .before .entry-among .ensures (c .before .if3 .taken) in omega (arith, among .some)
 
 div-above-2 : tie.Need-div-above-2
-div-above-2 c = omega (arith, c .before .before .before .before .before .before .before .pre .1 .0 .some-radix)
+div-above-2 c = search needs
 
 over-entries-requires : tie.Need-over-entries-requires
 over-entries-requires c κs =
-    let a = c .before .before .before .before .before .before .before .before in
+    let a = c .before .before .before .before .before .before .before .before .before .before .before in
     let x = a .args in
-    let among = c .before .before .before .entry-among .ensures (c .before .before .if3 .taken) in
-    let (some, near, there) = a .pre .1 .1 .1 in
-    (a .pre .0, ((omega (arith, a .pre .1 .1 .0 .1 .low), among .some), (some, near, a .pre .1 .0 .small, entries-low (x .plan .radix) (x .home) (x .code) (x .weight) (x .w) (x .spot .level) (x .count) (x .plan .size) among there)))
+    let among = c .before .before .before .before .entry-among .ensures (c .before .before .before .if3 .taken) in
+    (a .pre .0, (omega (arith, a .pre .1 .1 .low), among .some, entries-low (x .plan) (x .undo) (x .home) (x .code) among (a .pre .1 .0)))
 
 same-length-2 : tie.Need-same-length-2
 same-length-2 c = search needs
 
 returns-3 : tie.Need-returns-3
 returns-3 c =
-    let a = c .before .before .before .before .before .before .before .before .before .before .before in
+    let a = c .before .before .before .before .before .before .before .before .before .before .before .before .before .before in
     let x = a .args in
-    let among = c .before .before .before .before .before .before .entry-among .ensures (c .before .before .before .before .before .if3 .taken) in
-    step-as _ (c .before .before .over-entries .ensures) (same-entries (x .plan .radix) (x .spot) (x .d) (x .home) (x .code) (x .weight) (x .w) (a .pre .1 .1 .0 .1) (x .count) among _)
+    let among = c .before .before .before .before .before .before .before .entry-among .ensures (c .before .before .before .before .before .before .if3 .taken) in
+    step-as _ (c .before .before .over-entries .ensures) (same-entries (x .plan) (x .undo) (x .home) (x .code) (a .pre .1 .1) among _)
 
 over-each-requires-2 : tie.Need-over-each-requires-2
-over-each-requires-2 c κs = let a = c .before .before .before .before .before .before .before in (a .pre .0, (a .pre .1 .0, (a .pre .1 .1 .0 .0, a .pre .1 .1 .1)))
+over-each-requires-2 c κs = search needs
 
 same-length-3 : tie.Need-same-length-3
 same-length-3 c = search needs
 
 returns-4 : tie.Need-returns-4
-returns-4 c = c .before .before .over-each2 .ensures
+returns-4 c = search needs
 
 pub over-same-spec : {M : Type 1} → statement M
 over-same-spec =

@@ -3,37 +3,37 @@ use mathlib.Core.Path.{sym, subst}
 use Prim.Native.Nat.{_-_, _/_, _≤_, _<_}
 use native.Mathlib.Omega.{arith}
 use lib.ListN.{getD}
-use Rattle.request.specs.Layout.{Laid}
 use Rattle.search.specs.Loops.{turns}
 use Rattle.states.specs.Area.{Under}
 use Rattle.states.proofs.Changes.{under-start, loop-turn, loop-end}
-use Rattle.ways.specs.Stacked.{stackedTurn}
 use Rattle.ways.proofs.Lanes.{under-word}
+use Rattle.expanding.specs.Undoing.{wordUndone}
+use Rattle.expanding.proofs.Undone.{undoing-under}
 use borrow.Author.Needs.{needs}
 use Rattle.expanding.proofs.over_stacked.Statement.{statement}
 use Rattle.expanding.proofs.over_stacked.Tie as tie
 
 abbrev Inv-loop : tie.InvT-loop
-Inv-loop work₀ plan spot target d c count lo hi tail t₀ p₀ work t p = (lo ≤ p) × (p ≤ hi) × Under (plan .base) (plan .size) (turns (λ q. stackedTurn plan spot target d c count (getD work₀ q 0)) lo (hi - lo)) tail work₀ (turns (λ q. stackedTurn plan spot target d c count (getD work₀ q 0)) p (hi - p)) t work
+Inv-loop work₀ plan undo c lo hi tail t₀ p₀ work t p =
+    (lo ≤ p)
+    × (p ≤ hi)
+    × Under (plan .base) (plan .size) (turns (λ q. wordUndone plan undo c (getD work₀ q 0)) lo (hi - lo)) tail work₀ (turns (λ q. wordUndone plan undo c (getD work₀ q 0)) p (hi - p)) t work
 
 abbrev μ-loop : tie.MeasureT-loop
-μ-loop work₀ plan spot target d c count lo hi tail t₀ p₀ work t p = hi - p
+μ-loop work₀ plan undo c lo hi tail t₀ p₀ work t p = hi - p
 
 loop-holds : tie.Need-loop-holds Inv-loop μ-loop
-loop-holds c = (omega arith, c .before .pre .1 .1 .0 .rising, under-start _ (c .before .pre .0))
+loop-holds c = (omega arith, c .before .pre .1 .0 .rising, under-start _ (c .before .pre .0 .ready))
 
 one-stacked-requires : tie.Need-one-stacked-requires Inv-loop μ-loop
 one-stacked-requires c κs =
     let a = c .before .before .before .before in
-    let x = a .args in
     let (from, up-to, u) = c .before .before .loop .inv in
     let p = c .before .before .loop .p in
-    let (laid, sane) = a .pre .1 .0 in
-    let enough = a .pre .1 .1 .0 in
-    let (some, near, low, fits) = a .pre .1 .1 .1 in
-    let same = under-word u p (omega (arith, u .ready .fits, enough .behind, from)) in
-    let placed = subst (λ e. e / 8192 < x .plan .places) (sym same) (enough .starts p from (omega arith)) in
-    (u .ready, ((subst (Laid (x .plan)) (sym (u .long)) laid, sane), ((omega (arith, u .long, enough .inside), placed), (some, omega (arith, near, u .grows), low, fits))))
+    let words = a .pre .1 .0 in
+    let same = under-word u p (omega (arith, u .ready .fits, words .behind, from)) in
+    let placed = subst (λ e. e / 8192 < a .args .plan .places) (sym same) (words .starts p from (omega arith)) in
+    (undoing-under u (a .pre .0), ((omega (arith, u .long, words .inside), placed), a .pre .1 .1))
 
 add-p : tie.Need-add-p Inv-loop μ-loop
 add-p c = search needs
@@ -46,7 +46,7 @@ loop-again c =
     let a = c .before .before .before .before .before .before .before in
     let (from, up-to, u) = c .before .before .before .before .before .loop .inv in
     let p = c .before .before .before .before .before .loop .p in
-    let same = under-word u p (omega (arith, u .ready .fits, a .pre .1 .1 .0 .behind, from)) in
+    let same = under-word u p (omega (arith, u .ready .fits, a .pre .1 .0 .behind, from)) in
     let step = rw same at (c .before .before .one-stacked .ensures) in
     (omega arith, omega arith, loop-turn _ _ _ u (omega arith) step)
 

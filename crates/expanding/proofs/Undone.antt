@@ -1,0 +1,90 @@
+-- Case by case: what is undone by a line and by a word of the sorted lines; that it is what all lines do, for a target and a position; and
+-- that what it goes by stays.
+use mathlib.Core.Path.{_≡_, refl, sym, subst}
+use mathlib.Core.List.{List}
+use Prim.Native.Nat.{ℕ, suc, _+_, _*_, _-_, _^_, _/_, _%_, _<_, _≤_}
+use native.Mathlib.Omega.{arith}
+use lib.ListN.{length, getD}
+use borrow.Author.Tests.{eq-eqb, ne-eqb}
+use Rattle.request.specs.Layout.{Laid}
+use Rattle.request.specs.declared.Plan.{Plan}
+use Rattle.search.specs.Front.{stateIn}
+use Rattle.search.specs.Loaded.{codeAt, wordAt}
+use Rattle.search.specs.Loops.{turns, turns-same}
+use Rattle.search.specs.Table.{Search}
+use Rattle.states.specs.Area.{Under}
+use Rattle.states.specs.Pairs.{ReadyBack}
+use Rattle.states.specs.Spots.{lineTurn, Stacks}
+use Rattle.states.specs.declared.Spot.{Spot}
+use Rattle.states.specs.declared.Target.{Target}
+use Rattle.states.proofs.Bounds.{power-small, stacks-fit, state-low}
+use Rattle.ways.specs.Stacked.{stackedTurn}
+use Rattle.ways.specs.Ways.{Before}
+use Rattle.expanding.specs.Undoing.{linesBack, undoOf, undone, lineUndone, wordUndone, Undoing, InStates, LeadsTo}
+use Rattle.expanding.specs.declared.Undo.{Undo}
+
+-- ---- what it goes by
+
+-- from the state with the empty stack at a place on, every stack tried is a state
+pub home-in : (plan : Plan) (u : Undo) {area : ℕ} → Laid plan area → (q c home : ℕ) → q < plan .places → LeadsTo plan u c → home ≡ stateIn plan q c 0 → InStates plan u home
+home-in plan u laid q c home low leads is x less =
+    omega (arith, state-low (plan .places) (plan .done + 1) (plan .stacks) (plan .size) q c (x * u .weight + u .stack) (laid .size-is) low (omega (arith, leads .low)) (leads .fits x less), is)
+
+-- in a loop of phase one it stays
+pub undoing-under : {plan : Plan} {u : Undo} {F : Search → Search} {t₀ : ℕ} {w₀ : List ℕ} {G : Search → Search} {t : ℕ} {w : List ℕ}
+    → Under (plan .base) (plan .size) F t₀ w₀ G t w → Undoing plan u t₀ w₀ → Undoing plan u t w
+undoing-under {plan = plan} l h =
+    record { ready = l .ready; laid = subst (Laid plan) (sym (l .long)) (h .laid); sane = h .sane; some = h .some; near = omega (arith, h .near, l .grows) }
+
+-- ---- a line, with the word p
+
+module _ (plan : Plan) (u : Undo) (g : List ℕ) (place c i : ℕ) (st : Search) (p : ℕ) (e : p ≡ wordAt plan g i) where
+  pub line-elsewhere : (p / 16 % 1024 ≡ place → ⊥) → lineUndone plan u g place c i st ≡ st
+  unfolding lineUndone
+  line-elsewhere h = rw (← e, ne-eqb _ _ h)
+
+  module _ (h : p / 16 % 1024 ≡ place) where
+    pub line-other-kind : (p % 16 ≡ u .spot .kind → ⊥) → lineUndone plan u g place c i st ≡ st
+    unfolding lineUndone
+    line-other-kind k = rw (← e, eq-eqb _ _ h, ne-eqb _ _ k)
+
+    pub line-taken : p % 16 ≡ u .spot .kind → (x home : ℕ) → x ≡ codeAt plan g i → home ≡ stateIn plan (p / 16384) c 0 → lineUndone plan u g place c i st ≡ undone plan u home x st
+    unfolding lineUndone
+    line-taken k x home ex eh = rw (← ex, ← e, ← eh, eq-eqb _ _ h, eq-eqb _ _ k)
+
+-- ---- a word of the sorted lines, read as r
+
+pub word-is : (plan : Plan) (u : Undo) (c e : ℕ) (st : Search) (r : ℕ) → r ≡ e → (home : ℕ) → home ≡ stateIn plan (r / 8192) c 0 → wordUndone plan u c e st ≡ undone plan u home (r % 8192) st
+unfolding wordUndone
+word-is plan u c e st r er home eh = rw (eh, er)
+
+-- ---- a target and a position
+
+module _ (plan : Plan) (s : Spot) (t : Target) (d c leaves : ℕ) (st : Search) where
+  pub by-line : (g : List ℕ) → linesBack plan g s t d c leaves st ≡ turns (lineUndone plan (undoOf plan s t d leaves) g (t .place) c) 0 (plan .lines) st
+  by-line g = turns-same (lineTurn plan g s t d c (plan .radix ^ (leaves - t .depth))) (lineUndone plan (undoOf plan s t d leaves) g (t .place) c) one 0 (plan .lines) st
+    where
+      one : (i : ℕ) (b : Search) → lineTurn plan g s t d c (plan .radix ^ (leaves - t .depth)) i b ≡ lineUndone plan (undoOf plan s t d leaves) g (t .place) c i b
+      one i b = unfold lineTurn lineUndone in refl
+
+  pub by-word : (w : List ℕ) (lo n : ℕ)
+      → turns (λ p. stackedTurn plan s t d c (plan .radix ^ (leaves - t .depth)) (getD w p 0)) lo n st ≡ turns (λ p. wordUndone plan (undoOf plan s t d leaves) c (getD w p 0)) lo n st
+  by-word w lo n = turns-same (λ p. stackedTurn plan s t d c (plan .radix ^ (leaves - t .depth)) (getD w p 0)) (λ p. wordUndone plan (undoOf plan s t d leaves) c (getD w p 0)) (λ p b. one (getD w p 0) b) lo n st
+    where
+      one : (e : ℕ) (b : Search) → stackedTurn plan s t d c (plan .radix ^ (leaves - t .depth)) e b ≡ wordUndone plan (undoOf plan s t d leaves) c e b
+      one e b = unfold stackedTurn wordUndone in refl
+
+-- the stacks of a target and a position: what going over them goes by
+module _ {plan : Plan} {s : Spot} {t : Target} {c leaves : ℕ} (b : Before plan s t c leaves) where
+  pub undo-power : (0 < plan .radix) × (plan .radix ^ (leaves - t .depth) ≤ 1048576)
+  undo-power = (b .laid .some-radix, power-small (b .laid) _ (omega (arith, b .leaves-low)))
+
+  pub undo-fits : Stacks (plan .radix ^ (leaves - t .depth)) (t .weight) (t .stack) (plan .stacks)
+  undo-fits = stacks-fit (b .laid) t (b .aimed) leaves _ (b .leaves-low) refl
+
+  module _ {d : ℕ} {u : Undo} (is : u ≡ undoOf plan s t d leaves) where
+    pub undo-leads : LeadsTo plan u c
+    undo-leads = subst (λ z. LeadsTo plan z c) (sym is) (record { low = b .position-low; fits = undo-fits })
+
+    pub undo-goes : {tail : ℕ} {w : List ℕ} → ReadyBack plan tail w → Laid plan (length w) → 0 < d → d ≤ suc tail → Undoing plan u tail w
+    undo-goes {tail} {w} ready laid some near = subst (λ z. Undoing plan z tail w) (sym is) (record { ready = ready; laid = laid; sane = b .sane; some = some; near = near })

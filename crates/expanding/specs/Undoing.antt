@@ -1,0 +1,62 @@
+-- Going back from a state that is expanded to a position: the stacks after the position that are undone, by one line, by each line, and by
+-- the words of the sorted lines.
+use mathlib.Core.Bool.{cond, _&&_}
+use mathlib.Core.List.{List}
+use Prim.Native.Nat.{ℕ, suc, _+_, _*_, _-_, _^_, _/_, _%_, _≤_, _<_}
+use lib.Dec.{eqb}
+use lib.ListN.{length}
+use Rattle.request.specs.Layout.{Laid, fromIn, toIn, kindIn}
+use Rattle.request.specs.declared.Plan.{Plan}
+use Rattle.search.specs.Front.{stateIn}
+use Rattle.search.specs.Loaded.{codeAt, wordAt}
+use Rattle.search.specs.Loops.{turns}
+use Rattle.search.specs.Table.{Search}
+use Rattle.states.specs.Pairs.{ReadyBack}
+use Rattle.states.specs.Spots.{Sane, stackTurn, lineTurn, Stacks}
+use Rattle.states.specs.declared.Spot.{Spot}
+use Rattle.states.specs.declared.Target.{Target}
+use Rattle.expanding.specs.declared.Undo.{Undo}
+
+-- all lines, for the stacks of the depth `leaves` after the position c that are the target's when they are cut to its depth
+abbrev pub linesBack : Plan → List ℕ → Spot → Target → ℕ → ℕ → ℕ → Search → Search
+linesBack plan g s t d c leaves = turns (lineTurn plan g s t d c (plan .radix ^ (leaves - t .depth))) 0 (plan .lines)
+
+-- those stacks
+abbrev pub undoOf : Plan → Spot → Target → ℕ → ℕ → Undo
+undoOf plan s t d leaves = record { spot = s; weight = t .weight; stack = t .stack; count = plan .radix ^ (leaves - t .depth); d = d }
+
+module _ (plan : Plan) (u : Undo) where
+  -- ---- what is done
+
+  -- by a line with the boat number x; `home` is the state with the empty stack at its start
+  abbrev pub undone : ℕ → ℕ → Search → Search
+  undone home x = turns (stackTurn (plan .radix) (u .spot) (u .d) home x (u .weight) (u .stack)) 0 (u .count)
+
+  -- by line i, if it leads to the place and is of the position's kind, back to the position c
+  unfoldable pub lineUndone : List ℕ → ℕ → ℕ → ℕ → Search → Search
+  lineUndone g place c i st =
+      cond (eqb (toIn (wordAt plan g i)) place && eqb (kindIn (wordAt plan g i)) (u .spot .kind))
+      (undone (stateIn plan (fromIn (wordAt plan g i)) c 0) (codeAt plan g i) st)
+      st
+
+  -- by the word e of the sorted lines, back to the position c
+  unfoldable pub wordUndone : ℕ → ℕ → Search → Search
+  wordUndone c e = undone (stateIn plan (e / 8192) c 0) (e % 8192)
+
+  -- ---- what it goes by
+
+  pub record Undoing (tail : ℕ) (w : List ℕ) : Type 0 where
+    pub ready : ReadyBack plan tail w
+    pub laid : Laid plan (length w)
+    pub sane : Sane (u .spot)
+    pub some : 0 < u .d
+    pub near : u .d ≤ suc tail
+
+  -- from `home` on, every stack tried is a state
+  abbrev pub InStates : ℕ → Type 0
+  InStates home = (x : ℕ) → x < u .count → home + (x * u .weight + u .stack) < plan .size
+
+  -- the position c is a position, and every stack tried is one of the stacks
+  pub record LeadsTo (c : ℕ) : Type 0 where
+    pub low : c ≤ plan .done
+    pub fits : Stacks (u .count) (u .weight) (u .stack) (plan .stacks)
