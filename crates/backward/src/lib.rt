@@ -84,5 +84,5 @@ pub fn distances(
         states::state_at(plan, to, plan.done, 0),
         0,
     );
-    search_back(work, plan, filed, program, begin, from, t)
+    search_back(work, plan, program, begin, from, t)
 }
