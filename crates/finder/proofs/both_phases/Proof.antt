@@ -1,8 +1,9 @@
 -- `finder::both_phases` meets its contract: what phase one leaves in the area is what phase two goes by. Assumes nothing.
-use mathlib.Core.Path.{_≡_, _∙_}
+use mathlib.Core.Path.{_≡_, sym, _∙_, subst}
 use mathlib.Core.List.{List}
 use Prim.Native.Nat.{ℕ}
 use native.Mathlib.Omega.{arith}
+use Rattle.request.specs.Layout.{Laid}
 use Rattle.search.specs.Loaded.{settingIn}
 use Rattle.search.specs.Moves.{expand}
 use Rattle.search.specs.Product.{Setting}
@@ -54,7 +55,10 @@ searched : (k : tie.After-distances) → Stopped (first k .args .plan .base) (fi
 searched k = rw (front-same (k .before .before .before .before)) at (k .distances .ensures)
 
 nearest-requires : tie.Need-nearest-requires
-nearest-requires c κs = search needs
+nearest-requires c κs =
+    let k = c .before .before .before in
+    let a = first k in
+    (subst (Laid (a .args .plan)) (sym (searched k .step .long ∙ k .before .before .before .before .file-lines .ensures .1 .long)) (a .pre .0 .laid), a .pre .1 .0)
 
 same-length : tie.Need-same-length
 same-length c = search needs
