@@ -1,31 +1,25 @@
 -- Case by case: what undoing a stack, a line and a position does; and that what the loops go by stays.
-use mathlib.Core.Path.{_≡_, refl, sym, subst}
-use mathlib.Core.Bool.{Bool, true, false}
+use mathlib.Core.Path.{_≡_}
+use mathlib.Core.Bool.{true, false}
 use mathlib.Core.List.{List}
-use Prim.Native.Nat.{ℕ, _+_, _*_, _-_, _^_, _/_, _%_, _<_, _≤_}
-use native.Mathlib.Nat.{mod-lt, div-lt-iff-lt-mul}
+use Prim.Native.Nat.{ℕ, _+_, _-_, _^_, _≤_}
 use native.Mathlib.Omega.{arith}
-use lib.Dec.{eqb}
-use lib.ListN.{length, getD, drop}
+use lib.ListN.{drop}
 use borrow.Author.Tests.{eq-eqb, ne-eqb}
 use Rattle.automaton.specs.Program.{bitOf, followAt, leavesAt}
-use Rattle.request.specs.Layout.{Laid, toIn}
 use Rattle.request.specs.declared.Plan.{Plan}
 use Rattle.search.specs.Loops.{turns}
 use Rattle.search.specs.Table.{Search, push}
-use Rattle.search.specs.Loaded.{codeAt, wordAt}
 use Rattle.states.specs.Area.{Under}
 use Rattle.sorting.specs.Runs.{sorted-same}
 use Rattle.sorting.specs.declared.Order.{Order}
 use Rattle.sorting.specs.declared.Order.the-variants as Order
 use Rattle.thinning.specs.Runs.{thin-same}
-use Rattle.ways.specs.Stacked.{stackedTurn}
 use Rattle.ways.specs.Ways.{laneTurn, runTurn, Told, Runs}
 use Rattle.ways.specs.declared.Lane.{Lane}
 use Rattle.ways.proofs.Right.{turns-alike}
 use Rattle.expanding.specs.Backing.{Backing}
-use Rattle.search.specs.Front.{stateIn}
-use Rattle.states.specs.Spots.{front, Starts, Fit, spotIn, off, on, okay, stackAt, stackTurn, lineTurn, targetIn, Aimed, spotTurn}
+use Rattle.states.specs.Spots.{front, Fit, spotIn, off, on, okay, stackAt, lineTurn, spotTurn}
 use Rattle.states.specs.declared.Spot.{Spot}
 use Rattle.states.specs.declared.Target.{Target}
 use Rattle.states.proofs.Changes.{under-front, under-back}

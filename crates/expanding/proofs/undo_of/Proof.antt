@@ -1,5 +1,4 @@
 -- `expanding::undo_of` meets its contract: there are as many stacks as the depth says. Assumes nothing.
-use Rattle.expanding.specs.declared.Undo.{Undo}
 use borrow.Author.Needs.{needs}
 use Rattle.expanding.proofs.undo_of.Statement.{statement}
 use Rattle.expanding.proofs.undo_of.Tie as tie

@@ -1,5 +1,4 @@
 -- `ways::thin_lane` meets its contract: without weight, and one number left out. Assumes nothing.
-use mathlib.Core.Path.{_≡_, ap}
 use mathlib.Core.Bool.{false≢true}
 use borrow.Author.Tests.{eqb-true}
 use Rattle.states.specs.Served.{all-but}
