@@ -5,9 +5,18 @@
 
    bench [ROW...]                    the table, or these rows of it, numbered from 0
    bench --slowest                   the slowest requests, one call each
-   bench --call ROW PROGRAM TIMES    calls alone, for a profiler; programs are 0 library, 1 C, 2 C grouped, 3 second */
+   bench --call ROW PROGRAM TIMES    calls alone, for a profiler; programs are 0 library, 1 C, 2 C grouped, 3 second
+
+   Linked with an earlier build of the library, whose functions are then old_chains_*, it times that and the present one alone:
+
+   bench [--differ] [ROW...]         the table, or these rows; the slowest requests are numbered after its rows
+   bench [--differ] --slowest        the table and the slowest requests
+   bench --call ROW PROGRAM TIMES    as above; 4 is the earlier build
+
+   It stops at a row where the replies of the two differ; with --differ it says what the reply was and goes on. */
 #include "hand.h"
 
+#include <math.h>
 #include <stdio.h>
 #include <stdlib.h>
 #include <string.h>
@@ -17,20 +26,33 @@ uint64_t chains_words(const uint8_t *, size_t, const uint8_t *, size_t);
 uint64_t chains_find(const uint8_t *, size_t, const uint8_t *, size_t, uint16_t, uint16_t, uint32_t *, size_t, uint16_t *, size_t);
 uint64_t chains_check(const uint8_t *, size_t, const uint8_t *, size_t, uint16_t, uint16_t, const uint16_t *, size_t, uint32_t *,
                       size_t);
+__attribute__((weak)) uint64_t old_chains_words(const uint8_t *, size_t, const uint8_t *, size_t);
+__attribute__((weak)) uint64_t old_chains_find(const uint8_t *, size_t, const uint8_t *, size_t, uint16_t, uint16_t, uint32_t *,
+                                               size_t, uint16_t *, size_t);
+__attribute__((weak)) uint64_t old_chains_check(const uint8_t *, size_t, const uint8_t *, size_t, uint16_t, uint16_t,
+                                                const uint16_t *, size_t, uint32_t *, size_t);
 uint64_t second_find(const uint8_t *, size_t, const uint8_t *, size_t, uint16_t, uint16_t, uint32_t *, size_t, uint16_t *, size_t);
 uint64_t second_check(const uint8_t *, size_t, const uint8_t *, size_t, uint16_t, uint16_t, const uint16_t *, size_t, uint32_t *,
                       size_t);
 size_t second_proposition_3_day(uint16_t n, uint8_t *buf);
 size_t second_proposition_3_pattern(uint8_t keeps, uint8_t *buf);
 
-enum { MOST_BYTES = 40964, MOST_WORDS = 4 * 1048576 + 8192, MOST_CHAIN = 1048576, MOST_SAMPLES = 15 };
+enum { MOST_BYTES = 40964, MOST_WORDS = 4 * 1048576 + 8192, MOST_CHAIN = 1048576, MOST_SAMPLES = 401 };
 
 static const double BATCH = 0.004; /* seconds of one program's calls in a sample */
 static const double LONG = 1.5;    /* seconds of one call that is not repeated */
 
+/* The same for before and after, and seconds of all samples of a row: short samples, and many, for ratios near 1. */
+static const double BATCH_BEFORE = 0.001, ROW_BEFORE = 10;
+
+static const uint64_t NO_CHAIN = 4294967295u;
+
 /* ---- programs */
 
-enum { LIBRARY, HAND, GROUPED, SECOND, PROGRAMS };
+enum { LIBRARY, HAND, GROUPED, SECOND, BEFORE, PROGRAMS };
+
+/* Is an earlier build of the library linked; and may its replies differ from the present one's? */
+static int before, differ;
 
 static uint32_t work[MOST_WORDS];
 static uint16_t out[MOST_CHAIN];
@@ -43,30 +65,35 @@ struct request {
     uint16_t from, to;
     int check;
     uint16_t *chain;
-    size_t chain_len, words;
+    size_t chain_len, words[PROGRAMS];
     unsigned left_out;
 };
 
 static uint64_t call(const struct request *r, int program, uint32_t *reached)
 {
+    size_t words = r->words[program];
     if (r->check)
         switch (program) {
         case LIBRARY:
-            return chains_check(r->rec, r->rec_len, r->pat, r->pat_len, r->from, r->to, r->chain, r->chain_len, work, r->words);
+            return chains_check(r->rec, r->rec_len, r->pat, r->pat_len, r->from, r->to, r->chain, r->chain_len, work, words);
         case HAND:
-            return hand_check(r->rec, r->rec_len, r->pat, r->pat_len, r->from, r->to, r->chain, r->chain_len, work, r->words);
+            return hand_check(r->rec, r->rec_len, r->pat, r->pat_len, r->from, r->to, r->chain, r->chain_len, work, words);
+        case BEFORE:
+            return old_chains_check(r->rec, r->rec_len, r->pat, r->pat_len, r->from, r->to, r->chain, r->chain_len, work, words);
         default:
-            return second_check(r->rec, r->rec_len, r->pat, r->pat_len, r->from, r->to, r->chain, r->chain_len, work, r->words);
+            return second_check(r->rec, r->rec_len, r->pat, r->pat_len, r->from, r->to, r->chain, r->chain_len, work, words);
         }
     switch (program) {
     case LIBRARY:
-        return chains_find(r->rec, r->rec_len, r->pat, r->pat_len, r->from, r->to, work, r->words, out, MOST_CHAIN);
+        return chains_find(r->rec, r->rec_len, r->pat, r->pat_len, r->from, r->to, work, words, out, MOST_CHAIN);
     case HAND:
-        return hand_find(r->rec, r->rec_len, r->pat, r->pat_len, r->from, r->to, work, r->words, out, MOST_CHAIN, reached);
+        return hand_find(r->rec, r->rec_len, r->pat, r->pat_len, r->from, r->to, work, words, out, MOST_CHAIN, reached);
     case GROUPED:
-        return hand_find_grouped(r->rec, r->rec_len, r->pat, r->pat_len, r->from, r->to, work, r->words, out, MOST_CHAIN, reached);
+        return hand_find_grouped(r->rec, r->rec_len, r->pat, r->pat_len, r->from, r->to, work, words, out, MOST_CHAIN, reached);
+    case BEFORE:
+        return old_chains_find(r->rec, r->rec_len, r->pat, r->pat_len, r->from, r->to, work, words, out, MOST_CHAIN);
     default:
-        return second_find(r->rec, r->rec_len, r->pat, r->pat_len, r->from, r->to, work, r->words, out, MOST_CHAIN);
+        return second_find(r->rec, r->rec_len, r->pat, r->pat_len, r->from, r->to, work, words, out, MOST_CHAIN);
     }
 }
 
@@ -94,7 +121,7 @@ static void read_clock_cost(void)
 
 static double timed(const struct request *r, int program, uint64_t *reply, uint32_t *reached)
 {
-    memset(work, 0xA5, sizeof work[0] * r->words);
+    memset(work, 0xA5, sizeof work[0] * r->words[program]);
     if (!r->check)
         memset(out, 0xA5, sizeof out[0] * (r->chain_len + 16));
     double start = now();
@@ -110,35 +137,71 @@ static int by_size(const void *a, const void *b)
     return (x > y) - (x < y);
 }
 
+/* Sorts the samples, too. */
+static double median(double *sample, unsigned samples)
+{
+    qsort(sample, samples, sizeof sample[0], by_size);
+    return (sample[(samples - 1) / 2] + sample[samples / 2]) / 2;
+}
+
 static void fail(const struct request *r, const char *what)
 {
     printf("%s: %s\n", r->name, what);
     exit(1);
 }
 
-/* One call of each program, the replies and lent words compared. Gives each one's time. */
-static void compared(struct request *r, uint64_t *reply, uint32_t *reached, double time[PROGRAMS])
+/* The words to lend each program: what chains_words says, none where that refuses. */
+static void lend(struct request *r)
+{
+    for (int p = 0; p < PROGRAMS; p++) {
+        uint64_t words = (p == BEFORE && before ? old_chains_words : chains_words)(r->rec, r->rec_len, r->pat, r->pat_len);
+        if (words >> 32 != 0 && !differ)
+            fail(r, "refused");
+        r->words[p] = words >> 32 != 0 ? 0 : words;
+        if (r->words[p] > MOST_WORDS)
+            fail(r, "too many words");
+    }
+    if (r->words[BEFORE] != r->words[LIBRARY] && !differ)
+        fail(r, "the words differ");
+}
+
+/* One call of each program, the replies and lent words compared. Gives each one's reply and time, and whether they differ. */
+static int compared(struct request *r, uint64_t reply[PROGRAMS], uint32_t *reached, double time[PROGRAMS])
 {
     static uint16_t expected[MOST_CHAIN];
-    size_t length = 0;
+    int first = -1, differing = 0;
     *reached = 0;
     for (int p = PROGRAMS - 1; p >= 0; p--) {
         if (r->left_out >> p & 1)
             continue;
-        uint64_t got;
-        time[p] = timed(r, p, &got, reached);
-        for (size_t i = 0; i < r->words; i++)
+        time[p] = timed(r, p, &reply[p], reached);
+        for (size_t i = 0; i < r->words[p]; i++)
             if (work[i] != 0)
                 fail(r, "the work area is not cleared");
-        if (length == 0) { /* the first program called */
-            *reply = got;
-            length = r->check || got >= 4294967295u ? 1 : got + 1;
-            if (!r->check && got < 4294967295u)
-                memcpy(expected, out, sizeof out[0] * got);
-            r->chain_len = r->check ? r->chain_len : length - 1;
-        } else if (got != *reply || (!r->check && memcmp(out, expected, sizeof out[0] * (length - 1)) != 0))
+        size_t length = r->check || reply[p] >= NO_CHAIN ? 0 : reply[p];
+        if (first < 0) {
+            first = p;
+            memcpy(expected, out, sizeof out[0] * length);
+        } else if (reply[p] != reply[first] || memcmp(out, expected, sizeof out[0] * length) != 0)
+            differing = 1;
+        if (differing && !differ)
             fail(r, "the programs differ");
+        if (!r->check && length > r->chain_len)
+            r->chain_len = length;
     }
+    return differing;
+}
+
+static void say(char said[24], const struct request *r, uint64_t reply)
+{
+    if (reply >> 32 != 0)
+        snprintf(said, 24, "refused %u", (unsigned)(reply >> 32));
+    else if (r->check)
+        snprintf(said, 24, "%s", reply == 1 ? "yes" : "no");
+    else if (reply == NO_CHAIN)
+        snprintf(said, 24, "none");
+    else
+        snprintf(said, 24, "found %u", (unsigned)reply);
 }
 
 static void show_ratio(double x)
@@ -152,27 +215,28 @@ static void show_ratio(double x)
 static void measure(struct request *r)
 {
     double time[PROGRAMS] = {0}, sample[PROGRAMS][MOST_SAMPLES], least[PROGRAMS] = {0}, middle[PROGRAMS] = {0};
-    uint64_t reply;
+    uint64_t reply[PROGRAMS];
     uint32_t reached;
-    unsigned calls[PROGRAMS] = {0}, most = 0, samples = MOST_SAMPLES;
-    uint64_t words = chains_words(r->rec, r->rec_len, r->pat, r->pat_len);
-    if (words >> 32 != 0)
-        fail(r, "refused");
-    r->words = words;
+    unsigned calls[PROGRAMS] = {0}, most = 0, samples = 15;
+    lend(r);
     if (r->check)
         r->left_out |= 1 << GROUPED;
-    compared(r, &reply, &reached, time);
+    int differing = compared(r, reply, &reached, time);
     double round = 0;
     for (int p = 0; p < PROGRAMS; p++) {
         if (r->left_out >> p & 1)
             continue;
-        calls[p] = time[p] >= BATCH ? 1 : (unsigned)(BATCH / time[p]) + 2;
+        /* Before and after have as many calls each, by turns. */
+        double batch = before ? BATCH_BEFORE : BATCH, lasts = before ? fmax(time[LIBRARY], time[BEFORE]) : time[p];
+        calls[p] = lasts >= batch ? 1 : (unsigned)(batch / lasts) + 2;
         most = calls[p] > most ? calls[p] : most;
         round += time[p] >= LONG ? 0 : calls[p] * time[p];
     }
     /* Long rounds are few, and a program that takes seconds is not called again. */
     if (round > 0.3)
         samples = 5;
+    if (before)
+        samples = fmax(5, fmin(MOST_SAMPLES, ROW_BEFORE / round));
     for (int p = 0; p < PROGRAMS; p++)
         for (unsigned n = 0; n < samples; n++)
             sample[p][n] = time[p] >= LONG ? time[p] : 0;
@@ -183,23 +247,31 @@ static void measure(struct request *r)
                 if (time[p] >= LONG || (uint64_t)i * calls[p] / most == (uint64_t)(i + 1) * calls[p] / most)
                     continue;
                 sample[p][n] += timed(r, p, &got, &reached);
-                if (got != reply)
+                if (got != reply[p])
                     fail(r, "the reply changed");
             }
     }
+    /* Whatever disturbs a sample disturbs both of its times: their ratio strays less than the ratio of the medians. */
+    double ratio[MOST_SAMPLES];
+    for (unsigned n = 0; before && n < samples; n++)
+        ratio[n] = sample[LIBRARY][n] / sample[BEFORE][n];
     for (int p = 0; p < PROGRAMS; p++)
         if (calls[p] != 0) {
-            qsort(sample[p], samples, sizeof sample[p][0], by_size);
+            middle[p] = median(sample[p], samples) / calls[p];
             least[p] = sample[p][0] / calls[p];
-            middle[p] = (sample[p][(samples - 1) / 2] + sample[p][samples / 2]) / 2 / calls[p];
         }
-    char said[32];
-    if (r->check)
-        snprintf(said, sizeof said, "%s", reply == 1 ? "yes" : "no");
-    else if (reply == 4294967295u)
-        snprintf(said, sizeof said, "none");
-    else
-        snprintf(said, sizeof said, "found %llu", (unsigned long long)reply);
+    char said[24], was[24], both[56];
+    say(said, r, reply[LIBRARY]);
+    if (before) {
+        say(was, r, reply[BEFORE]);
+        snprintf(both, sizeof both, "%s, was %s", said, strcmp(said, was) == 0 ? "another" : was);
+        printf("| %-52s | %-11s | %10.1f", r->name, differing ? both : said, least[BEFORE] * 1e6);
+        show_ratio(least[LIBRARY] / least[BEFORE]);
+        show_ratio(median(ratio, samples));
+        printf(" |\n");
+        fflush(stdout);
+        return;
+    }
     char states[16] = "-";
     if (!r->check)
         snprintf(states, sizeof states, "%u", reached);
@@ -216,12 +288,12 @@ static void measure(struct request *r)
 static void measure_once(struct request *r)
 {
     double time[PROGRAMS] = {0};
-    uint64_t reply;
+    uint64_t reply[PROGRAMS];
     uint32_t reached;
-    r->words = chains_words(r->rec, r->rec_len, r->pat, r->pat_len);
-    compared(r, &reply, &reached, time);
-    printf("| %-52s | %s | %7u | %9.2f | %9.2f | %9.2f |\n", r->name, reply == 4294967295u ? "none" : "found", reached, time[HAND],
-           time[GROUPED], time[LIBRARY]);
+    lend(r);
+    compared(r, reply, &reached, time);
+    printf("| %-52s | %s | %7u | %9.2f | %9.2f | %9.2f |\n", r->name, reply[LIBRARY] == NO_CHAIN ? "none" : "found", reached,
+           time[HAND], time[GROUPED], time[LIBRARY]);
     fflush(stdout);
 }
 
@@ -288,6 +360,7 @@ static struct request *fresh(const char *name)
 {
     struct request *r = calloc(1, sizeof *r);
     snprintf(r->name, sizeof r->name, "%s", name);
+    r->left_out = before ? 1 << HAND | 1 << GROUPED | 1 << SECOND : 1 << BEFORE;
     seed = 1;
     return r;
 }
@@ -546,13 +619,13 @@ static struct request *slowest(const char *name, unsigned boats, unsigned keeps)
     if (keeps == 2) /* to have 63 commands */
         byte(r, REPEAT);
     others(r, (63 - keeps) / 2, 1, keeps);
-    r->left_out = 1 << SECOND;
+    r->left_out |= 1 << SECOND;
     return r;
 }
 
 /* ---- the runs */
 
-enum { CASES = 10, ROWS = CASES + 16 };
+enum { CASES = 10, ROWS = CASES + 16, SLOWEST = 2 };
 
 static struct request *row(unsigned i)
 {
@@ -577,6 +650,10 @@ static struct request *row(unsigned i)
         return long_check();
     case 9:
         return wide_check();
+    case ROWS:
+        return slowest("one place, 4,096 lines, 4,096 boats, one keep", 4096, 1);
+    case ROWS + 1:
+        return slowest("one place, 4,096 lines, 127 boats, two keeps", 127, 2);
     }
     unsigned step = (i - CASES) % 4;
     switch ((i - CASES) / 4) {
@@ -597,7 +674,7 @@ static int profiled(char **argument)
     int program = atoi(argument[1]), times = atoi(argument[2]);
     uint64_t reply = 0;
     uint32_t reached = 0;
-    r->words = chains_words(r->rec, r->rec_len, r->pat, r->pat_len);
+    lend(r);
     while (times-- > 0)
         timed(r, program, &reply, &reached);
     printf("%s: reply %llu\n", r->name, (unsigned long long)reply);
@@ -609,22 +686,37 @@ static int profiled(char **argument)
 int main(int count, char **argument)
 {
     read_clock_cost();
-    if (count == 5 && strcmp(argument[1], "--call") == 0)
+    before = old_chains_find != NULL;
+    int rows = before ? ROWS + SLOWEST : ROWS, all = ROWS;
+    if (before && count > 1 && strcmp(argument[1], "--differ") == 0) {
+        differ = 1;
+        count--;
+        argument++;
+    }
+    if (count == 5 && strcmp(argument[1], "--call") == 0 && (unsigned)atoi(argument[3]) < BEFORE + (unsigned)before)
         return profiled(argument + 2);
     if (count == 2 && strcmp(argument[1], "--slowest") == 0) {
-        printf("| case | reply | states reached | C, s | C grouped, s | library, s |\n|---|---|---|---|---|---|\n");
-        measure_once(slowest("one place, 4,096 lines, 4,096 boats, one keep", 4096, 1));
-        measure_once(slowest("one place, 4,096 lines, 127 boats, two keeps", 127, 2));
-        return 0;
+        if (!before) {
+            printf("| case | reply | states reached | C, s | C grouped, s | library, s |\n|---|---|---|---|---|---|\n");
+            for (int i = ROWS; i < ROWS + SLOWEST; i++)
+                measure_once(row(i));
+            return 0;
+        }
+        all = rows;
+        count = 1;
     }
     for (int i = 1; i < count; i++)
-        if (strspn(argument[i], "0123456789") != strlen(argument[i]) || atoi(argument[i]) >= ROWS) {
-            fprintf(stderr, "bench [ROW... | --slowest | --call ROW PROGRAM TIMES], rows 0 to %d\n", ROWS - 1);
+        if (strspn(argument[i], "0123456789") != strlen(argument[i]) || atoi(argument[i]) >= rows) {
+            fprintf(stderr, "bench %s[ROW... | --slowest | --call ROW PROGRAM TIMES], rows 0 to %d\n", before ? "[--differ] " : "",
+                    rows - 1);
             return 2;
         }
-    printf("| case | reply | states reached | C, us | library / C | the same, medians | C grouped / C | second / C |\n");
-    printf("|---|---|---|---|---|---|---|---|\n");
-    for (int i = 0; i < (count > 1 ? count - 1 : ROWS); i++) {
+    if (before)
+        printf("| case | reply | before, us | after / before | the same, medians |\n|---|---|---|---|---|\n");
+    else
+        printf("| case | reply | states reached | C, us | library / C | the same, medians | C grouped / C | second / C |\n"
+               "|---|---|---|---|---|---|---|---|\n");
+    for (int i = 0; i < (count > 1 ? count - 1 : all); i++) {
         struct request *r = row(count > 1 ? atoi(argument[i + 1]) : i);
         measure(r);
         free(r->chain);
