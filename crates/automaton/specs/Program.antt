@@ -126,6 +126,15 @@ pub kind-few : (a : List ℕ) (c : ℕ) → rowAt a c .kind ≤ 15
 unfolding rowAt unpacked
 kind-few a c = omega (arith, mod-lt (getD a (2 * c) 0) {m = 16} (omega arith))
 
+-- levels and depths are at most three
+pub level-few : (a : List ℕ) (c : ℕ) → rowAt a c .level ≤ 3
+unfolding rowAt unpacked
+level-few a c = omega (arith, mod-lt (getD a (2 * c) 0 / 256) {m = 4} (omega arith))
+
+pub depth-few : (a : List ℕ) (c : ℕ) → depthAt a c ≤ 3
+unfolding rowAt unpacked
+depth-few a c = omega (arith, mod-lt (getD a (2 * c) 0 / 1024) {m = 4} (omega arith))
+
 abbrev pub testIn : Rule → ℕ → Test
 testIn Rule.Never j = never
 testIn Rule.Always j = always

@@ -77,8 +77,8 @@ module _ (plan : Plan) (s : Spot) (t : Target) (d c leaves : ℕ) (st : Search) 
 
 -- the stacks of a target and a position: what going over them goes by
 module _ {plan : Plan} {s : Spot} {t : Target} {c leaves : ℕ} (b : Before plan s t c leaves) where
-  pub undo-power : (0 < plan .radix) × (plan .radix ^ (leaves - t .depth) ≤ 1048576)
-  undo-power = (b .laid .some-radix, power-small (b .laid) _ (omega (arith, b .leaves-low)))
+  pub undo-power : (0 < plan .radix) × (leaves ≤ 3) × (plan .radix ^ (leaves - t .depth) ≤ 1048576)
+  undo-power = (b .laid .some-radix, omega (arith, b .leaves-low, b .laid .few-keeps), power-small (b .laid) _ (omega (arith, b .leaves-low)))
 
   pub undo-fits : Stacks (plan .radix ^ (leaves - t .depth)) (t .weight) (t .stack) (plan .stacks)
   undo-fits = stacks-fit (b .laid) t (b .aimed) leaves _ (b .leaves-low) refl

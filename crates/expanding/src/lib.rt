@@ -274,7 +274,7 @@ fn over_lines(
 
 // How many stacks of depth `deep` there are over one of depth `e`: radix^(deep - e), and 1 where `e` is not below.
 fn stacks_over(radix: usize, deep: usize, e: usize) -> usize
-    requires { ⌜ (0 < radix) × (radix ^ (deep - e) ≤ 1048576) ⌝ }
+    requires { ⌜ (0 < radix) × (deep ≤ 3) × (radix ^ (deep - e) ≤ 1048576) ⌝ }
     ensures { λ r. ⌜ r ≡ radix ^ (deep - e) ⌝ }
 {
     if e < deep {
@@ -286,7 +286,7 @@ fn stacks_over(radix: usize, deep: usize, e: usize) -> usize
 
 // The stacks of the depth `leaves` after a position that are the state's when they are cut to its depth.
 fn undo_of(plan: Plan, spot: Spot, target: Target, d: u32, leaves: usize) -> Undo
-    requires { ⌜ (0 < plan .radix) × (plan .radix ^ (leaves - target .depth) ≤ 1048576) ⌝ }
+    requires { ⌜ (0 < plan .radix) × (leaves ≤ 3) × (plan .radix ^ (leaves - target .depth) ≤ 1048576) ⌝ }
     ensures { λ r. ⌜ r ≡ undoOf plan spot target d leaves ⌝ }
 {
     let count = stacks_over(plan.radix, leaves, target.depth);

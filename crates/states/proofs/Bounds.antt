@@ -17,19 +17,15 @@ use Rattle.states.specs.Spots.{front, Starts, Fit, spotIn, Sane, off, of
 use Rattle.states.specs.declared.Spot.{Spot}
 use Rattle.states.specs.declared.Target.{Target}
 
--- one more factor
-pub pow-turn : (R e i p : ℕ) → 0 < R → i < e → R ^ e ≤ largest → p ≡ R ^ i → (p * R ≤ largest) × (p * R ≡ R ^ (i + 1))
-pow-turn R e i p pos h k q =
-    let next : i + 1 ≡ suc i = omega arith in
-    let t : p * R ≡ R ^ (i + 1) = ap (_* R) q ∙ (sym (pow-suc R i) ∙ ap (R ^_) (sym next)) in
-    (rw t (le-trans (pow-le-pow-right pos (omega arith)) k), t)
-
 -- the first powers
 pub pow-one : (R e : ℕ) → e ≡ 1 → R ≡ R ^ e
 pow-one R e h = sym (ap (R ^_) h ∙ (pow-suc R 0 ∙ (ap (_* R) (pow-zero R) ∙ one-mul R)))
 
 pub pow-two : (R e : ℕ) → e ≡ 2 → R * R ≡ R ^ e
 pow-two R e h = sym (ap (R ^_) h ∙ (pow-suc R 1 ∙ ap (_* R) (sym (pow-one R 1 refl))))
+
+pub pow-three : (R e : ℕ) → e ≡ 3 → R * R * R ≡ R ^ e
+pow-three R e h = sym (ap (R ^_) h ∙ (pow-suc R 2 ∙ ap (_* R) (sym (pow-two R 2 refl))))
 
 pub product-small : (x y : ℕ) → x < 4294967296 → y ≤ largest → x * y ≤ 4503599626321920
 product-small x y h k = let a : x ≤ 4294967295 = omega arith in mul-le-mul a k

@@ -164,23 +164,9 @@ pub fn wide(x: u8) -> usize
     x as usize
 }
 
-// radix^e, one factor after the other.
-fn product(radix: usize, e: usize) -> usize
-    requires { ⌜ (0 < radix) × (radix ^ e ≤ largest) ⌝ }
-    ensures { λ r. ⌜ r ≡ radix ^ e ⌝ }
-{
-    let mut p = 1;
-    let mut i = 0;
-    while i < e {
-        p = p * radix;
-        i += 1;
-    }
-    p
-}
-
-// radix^e. Most stacks are at most two deep, so those powers are answered without a loop.
+// radix^e. No stack is deeper than three.
 pub fn power(radix: usize, e: usize) -> usize
-    requires { ⌜ (0 < radix) × (radix ^ e ≤ largest) ⌝ }
+    requires { ⌜ (0 < radix) × (e ≤ 3) × (radix ^ e ≤ 1048576) ⌝ }
     ensures { λ r. ⌜ r ≡ radix ^ e ⌝ }
 {
     if e == 0 {
@@ -192,7 +178,7 @@ pub fn power(radix: usize, e: usize) -> usize
     if e == 2 {
         return radix * radix;
     }
-    product(radix, e)
+    radix * radix * radix
 }
 
 // Position `c`.

@@ -11,7 +11,7 @@ sub-power : tie.Need-sub-power
 sub-power c = search needs
 
 power-requires : tie.Need-power-requires
-power-requires c κs = search needs
+power-requires c κs = let a = c .before in (a .pre .0, omega (arith, a .pre .1), a .pre .2)
 
 returns : tie.Need-returns
 returns c = search needs

@@ -16,7 +16,7 @@ depth-at-requires c κs = omega (arith, c .before .pre .1 .1 .1, c .before .pre 
 power-requires : tie.Need-power-requires
 power-requires c κs =
     let laid = c .before .before .pre .1 .0 in
-    (laid .some-radix, power-small laid (c .depth-at .result) (omega (arith, c .depth-at .ensures, c .before .before .pre .1 .1 .2)))
+    (laid .some-radix, omega (arith, c .depth-at .ensures, c .before .before .pre .1 .1 .2, laid .few-keeps), power-small laid (c .depth-at .result) (omega (arith, c .depth-at .ensures, c .before .before .pre .1 .1 .2)))
 
 cut-requires : tie.Need-cut-requires
 cut-requires c κs = omega (arith, c .power .ensures, power-pos (c .before .before .before .pre .1 .0) (c .before .depth-at .result))

@@ -2,6 +2,7 @@
 use Prim.Native.Nat.{_+_, _/_, _%_, _≤_}
 use native.Mathlib.Nat.{mod-lt, one-le-pow}
 use native.Mathlib.Omega.{arith}
+use Rattle.automaton.specs.Program.{depth-few}
 use Rattle.states.specs.Spots.{targetIn}
 use borrow.Author.Needs.{needs}
 use Rattle.states.proofs.target_of.Statement.{statement}
@@ -23,7 +24,7 @@ depth-at-requires : tie.Need-depth-at-requires
 depth-at-requires c κs = omega (arith, low (c .before .before), c .before .before .pre .2)
 
 power-requires : tie.Need-power-requires
-power-requires c κs = rw (c .depth-at .ensures) (c .before .before .before .pre .1, c .before .before .before .pre .3 _ (low (c .before .before .before)))
+power-requires c κs = rw (c .depth-at .ensures) (c .before .before .before .pre .1, depth-few _ _, c .before .before .before .pre .3 _ (low (c .before .before .before)))
 
 rem-cut : tie.Need-rem-cut
 rem-cut c = search needs
