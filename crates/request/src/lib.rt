@@ -28,7 +28,7 @@ pub struct Plan {
     pub lines: usize,
     // The pattern's commands: positions are 0 up to this one, the end.
     pub done: usize,
-    pub keeps: usize,
+    pub keeps: u8,
     // The different boats and one.
     pub radix: usize,
     // radix to the power of keeps: how many stacks of kept boats there are.
@@ -38,7 +38,7 @@ pub struct Plan {
     // The search size: places, positions and stacks.
     pub size: usize,
     // What is loaded: the boats, of which no words stand here yet, each line's boat number, and the lines. All tables stand from `boats` on.
-    pub boats: usize,
+    pub boats: u32,
     pub codes: usize,
     pub words: usize,
     // The search's pairs of stretches of `size` words: phase one's distances and its queue from `base` on, phase two's marks and its
@@ -47,13 +47,13 @@ pub struct Plan {
     pub marks: usize,
     // Phase one's sorted lines, after its pair: by place and kind, by place and boat, and those by kind that are enough where only the
     // place that a line comes from matters; and two words for each place, by which these are made. `filed` says that there is room.
-    pub bykind: usize,
-    pub byboat: usize,
+    pub bykind: u32,
+    pub byboat: u32,
     pub thin: usize,
     pub stamps: usize,
     pub filed: bool,
     // Phase two's sorted lines, after its pair: by the place that they come from. `ordered` says that there is room.
-    pub bystart: usize,
+    pub bystart: u32,
     pub ordered: bool,
 }
 
@@ -219,22 +219,22 @@ fn planned(
         places,
         lines,
         done,
-        keeps,
+        keeps: keeps as u8,
         radix,
         stacks,
         inverse,
         size,
-        boats: at,
+        boats: at as u32,
         codes: at,
         words,
         base,
         marks,
-        bykind,
-        byboat,
+        bykind: bykind as u32,
+        byboat: byboat as u32,
         thin,
         stamps,
         filed: filed_end <= area,
-        bystart,
+        bystart: bystart as u32,
         ordered: ordered_end <= area,
     }
 }

@@ -120,15 +120,37 @@ returns c =
         marks-at = refl;
         room = p .room;
         kinds-at = refl;
-        boats-at = cc;
-        thin-at = cc;
-        stamps-at = cc;
+        boats-at = omega (arith, kinds);
+        thin-at = omega (arith, boats);
+        stamps-at = omega (arith, thin);
         filed-is = refl;
         starts-at = omega arith;
         ordered-is = cc;
       },
       (refl, refl, refl, refl, refl, refl),
     )
+
+-- the tables end far below 2^32
+low-end : (c : tie.After-table-words4) → let a = c .before .before .before .before .args in
+    a .at + a .lines + a .lines + 2 * a .size + c .before .before .before .table-words .result + c .before .before .table-words2 .result + c .before .table-words3 .result ≤ 16777216
+low-end c =
+    let s = c .before .before .before .before in
+    omega (arith, few-keys s, s .pre .few-words, s .pre .few-lines, s .pre .few-places, s .pre .small, c .before .before .before .table-words .ensures, c .before .before .table-words2 .ensures, c .before .table-words3 .ensures)
+
+cast-t23 : tie.Need-cast-t23
+cast-t23 c = search needs
+
+cast-t24 : tie.Need-cast-t24
+cast-t24 c = search needs
+
+cast-t25 : tie.Need-cast-t25
+cast-t25 c = omega (arith, low-end c)
+
+cast-t26 : tie.Need-cast-t26
+cast-t26 c = omega (arith, low-end c)
+
+cast-t28 : tie.Need-cast-t28
+cast-t28 c = search needs
 
 pub planned-spec : {M : Type 1} → statement M
 planned-spec =
@@ -158,4 +180,9 @@ planned-spec =
     add-bystart
     table-words-requires-4
     add-ordered-end
+    cast-t23
+    cast-t24
+    cast-t25
+    cast-t26
+    cast-t28
     returns)
