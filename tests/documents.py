@@ -27,7 +27,7 @@ failed = []
 specs = "\n".join(text(path) for path in glob.glob("crates/*/specs/**/*.antt", recursive=True))
 for path in NAMING:
     for name in sorted(named(path)):
-        is_path = re.fullmatch(r"[\w.*-]+(/[\w.*-]+)*/?", name) and "/" in name and not name.startswith("target/")
+        is_path = re.fullmatch(r"[\w.*-]+(/[\w.*-]+)*/?", name) and "/" in name and "target/" not in name
         is_definition = path == "docs/TRUST.md" and re.fullmatch(r"[a-z]+[A-Z]\w*|Demand\d|[a-z]+(-[a-z]+)+", name)
         if is_path and not there(name): failed.append("%s names %s, which is not there" % (path, name))
         if is_definition and not re.search(r"(?<![\w-])%s(?![\w-])" % re.escape(name), specs): failed.append("%s names %s, which no specs have" % (path, name))
