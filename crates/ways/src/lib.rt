@@ -5,6 +5,7 @@ ghost use lib.ListN.{length, getD};
 ghost use Rattle.request.specs.Layout.{largest, Laid, filedEnd};
 ghost use Rattle.search.specs.Loops.{turns};
 ghost use Rattle.states.specs.Area.{Ready, Step};
+ghost use Rattle.states.specs.Pairs.{StepBack};
 ghost use Rattle.ways.specs.Ways.{laneState, takenBy, laneTurn, LaneTo, Narrow, ThinLane, Within, runTurn, Told, Gives, Single, Right, Before};
 ghost use mathlib.Core.Bool.{true, not};
 ghost use lib.Dec.{eqb};
@@ -237,7 +238,7 @@ pub fn over_run(
     requires { ⌜ Laid plan (length (now work)) × (k < keys order plan) ⌝ }
     requires { ⌜ Sorted order plan (tableAt order plan) (now work) × (tableEnd order plan ≤ length (now work)) ⌝ }
     requires { ⌜ Narrow lane × Gives order plan (front plan (now work)) k lane × (0 < d) × (d ≤ suc tail) ⌝ }
-    ensures { λ r. ⌜ Step (plan .base) (plan .size) (turns (runTurn order plan (front plan (now (work .entry))) k (laneTurn d lane)) 0 (plan .lines)) tail (now (work .entry)) r (now (work .exit)) ⌝ }
+    ensures { λ r. ⌜ StepBack plan (turns (runTurn order plan (front plan (now (work .entry))) k (laneTurn d lane)) 0 (plan .lines)) tail (now (work .entry)) r (now (work .exit)) ⌝ }
 {
     let run = sorting::run_of(work, plan, order, k);
     over_words(work, plan.base, plan.size, lane, d, run.lo, run.hi, tail)
@@ -258,7 +259,7 @@ pub fn over_thin(work: &mut [u32], plan: Plan, k: usize, lane: Lane, d: u32, tai
     requires { ⌜ Ready (plan .base) (plan .size) tail (now work) ⌝ }
     requires { ⌜ Laid plan (length (now work)) × Filed plan (now work) × (k < keys Orders.Kind plan) ⌝ }
     requires { ⌜ Narrow lane × Gives Orders.Kind plan (front plan (now work)) k lane × ThinLane lane × (0 < d) × (d ≤ suc tail) ⌝ }
-    ensures { λ r. ⌜ Step (plan .base) (plan .size) (turns (runTurn Orders.Kind plan (front plan (now (work .entry))) k (laneTurn d lane)) 0 (plan .lines)) tail (now (work .entry)) r (now (work .exit)) ⌝ }
+    ensures { λ r. ⌜ StepBack plan (turns (runTurn Orders.Kind plan (front plan (now (work .entry))) k (laneTurn d lane)) 0 (plan .lines)) tail (now (work .entry)) r (now (work .exit)) ⌝ }
 {
     let run = thinning::thin_of(work, plan, k);
     over_words(work, plan.base, plan.size, lane, d, run.lo, run.hi, tail)
