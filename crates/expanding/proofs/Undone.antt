@@ -6,7 +6,7 @@ use Prim.Native.Nat.{ℕ, suc, _+_, _*_, _-_, _^_, _/_, _%_, _<_, _≤_}
 use native.Mathlib.Omega.{arith}
 use lib.ListN.{length, getD}
 use borrow.Author.Tests.{eq-eqb, ne-eqb}
-use Rattle.request.specs.Layout.{Laid, fromIn, toIn, kindIn}
+use Rattle.request.specs.Layout.{largest, Laid, fromIn, toIn, kindIn}
 use Rattle.sorting.specs.Sorting.{packBy}
 use Rattle.request.specs.declared.Plan.{Plan}
 use Rattle.search.specs.Front.{stateIn}
@@ -77,7 +77,7 @@ module _ (plan : Plan) (s : Spot) (t : Target) (d c leaves : ℕ) (st : Search) 
 
 -- the stacks of a target and a position: what going over them goes by
 module _ {plan : Plan} {s : Spot} {t : Target} {c leaves : ℕ} (b : Before plan s t c leaves) where
-  pub undo-power : (0 < plan .radix) × (leaves ≤ 3) × (plan .radix ^ (leaves - t .depth) ≤ 1048576)
+  pub undo-power : (0 < plan .radix) × (leaves ≤ 3) × (plan .radix ^ (leaves - t .depth) ≤ largest)
   undo-power = (b .laid .some-radix, omega (arith, b .leaves-low, b .laid .few-keeps), power-small (b .laid) _ (omega (arith, b .leaves-low)))
 
   pub undo-fits : Stacks (plan .radix ^ (leaves - t .depth)) (t .weight) (t .stack) (plan .stacks)

@@ -5,7 +5,7 @@ ghost use Prim.Native.Nat.{suc, _+_, _*_, _-_, _^_, _/_, _%_, _≤_, _<_};
 ghost use lib.ListN.{length, getD};
 ghost use Rattle.automaton.specs.Program.{bitOf, followAt};
 ghost use Rattle.automaton.specs.Shape.{deeper};
-ghost use Rattle.request.specs.Layout.{Laid};
+ghost use Rattle.request.specs.Layout.{largest, Laid};
 ghost use Rattle.search.specs.Loops.{turns};
 ghost use Rattle.search.specs.Table.{push};
 ghost use Rattle.states.specs.Pairs.{ReadyBack, StepBack};
@@ -100,7 +100,7 @@ fn over_low(
     tail: usize,
 ) -> usize
     requires { ⌜ ReadyBack plan tail (now work) ⌝ }
-    requires { ⌜ (0 < d) × (d ≤ suc tail) × (plan .size ≤ 1048576) × Steps first weight many (plan .size) ⌝ }
+    requires { ⌜ (0 < d) × (d ≤ suc tail) × (plan .size ≤ largest) × Steps first weight many (plan .size) ⌝ }
     ensures { λ r. ⌜ StepBack plan (turns (λ l. push d (first + l * weight)) 0 many) tail (now (work .entry)) r (now (work .exit)) ⌝ }
 {
     let mut t = tail;
@@ -274,7 +274,7 @@ fn over_lines(
 
 // How many stacks of depth `deep` there are over one of depth `e`: radix^(deep - e), and 1 where `e` is not below.
 fn stacks_over(radix: usize, deep: usize, e: usize) -> usize
-    requires { ⌜ (0 < radix) × (deep ≤ 3) × (radix ^ (deep - e) ≤ 1048576) ⌝ }
+    requires { ⌜ (0 < radix) × (deep ≤ 3) × (radix ^ (deep - e) ≤ largest) ⌝ }
     ensures { λ r. ⌜ r ≡ radix ^ (deep - e) ⌝ }
 {
     if e < deep {
@@ -286,7 +286,7 @@ fn stacks_over(radix: usize, deep: usize, e: usize) -> usize
 
 // The stacks of the depth `leaves` after a position that are the state's when they are cut to its depth.
 fn undo_of(plan: Plan, spot: Spot, target: Target, d: u32, leaves: usize) -> Undo
-    requires { ⌜ (0 < plan .radix) × (leaves ≤ 3) × (plan .radix ^ (leaves - target .depth) ≤ 1048576) ⌝ }
+    requires { ⌜ (0 < plan .radix) × (leaves ≤ 3) × (plan .radix ^ (leaves - target .depth) ≤ largest) ⌝ }
     ensures { λ r. ⌜ r ≡ undoOf plan spot target d leaves ⌝ }
 {
     let count = stacks_over(plan.radix, leaves, target.depth);

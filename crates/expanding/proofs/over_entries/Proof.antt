@@ -2,6 +2,7 @@
 use Prim.Native.Nat.{_+_, _*_, _-_, _≤_, _<_}
 use native.Mathlib.Nat.{zero-mul}
 use native.Mathlib.Omega.{arith}
+use Rattle.request.specs.Layout.{largest}
 use Rattle.search.specs.Loops.{turns}
 use Rattle.states.specs.Area.{Under}
 use Rattle.states.proofs.Changes.{loop-start, loop-turn, loop-end}
@@ -25,7 +26,7 @@ loop-holds c = (omega arith, loop-start _ _ (c .before .pre .0 .ready))
 parts : (c : tie.After-struct-known Inv-loop μ-loop)
     → let x = c .before .before .before .before .args in
     let n = c .before .before .loop .h * x .plan .radix + x .code in
-    (x .home + (n * x .below * x .undo .weight + x .undo .stack) < 1048576) × (n ≤ n * x .below) × (n * x .below ≤ n * x .below * x .undo .weight)
+    (x .home + (n * x .below * x .undo .weight + x .undo .stack) < largest) × (n ≤ n * x .below) × (n * x .below ≤ n * x .below * x .undo .weight)
 parts c =
     let a = c .before .before .before .before in
     let (some, few, there) = a .pre .1 in
