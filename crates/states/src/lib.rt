@@ -164,15 +164,15 @@ pub fn wide(x: u8) -> usize
     x as usize
 }
 
-// radix^e. No stack is deeper than three.
+// radix^e. No stack is deeper than three. Asked in halves, so that it is compiled to comparisons and not to a jump by a table.
 pub fn power(radix: usize, e: usize) -> usize
     requires { ⌜ (0 < radix) × (e ≤ 3) × (radix ^ e ≤ 1048576) ⌝ }
     ensures { λ r. ⌜ r ≡ radix ^ e ⌝ }
 {
-    if e == 0 {
-        return 1;
-    }
-    if e == 1 {
+    if e < 2 {
+        if e == 0 {
+            return 1;
+        }
         return radix;
     }
     if e == 2 {

@@ -8,24 +8,24 @@ use Rattle.states.proofs.power.Statement.{statement}
 use Rattle.states.proofs.power.Tie as tie
 
 returns : tie.Need-returns
-returns c = let R = c .before .args .radix in sym (ap (R ^_) (c .if1 .taken) ∙ pow-zero R)
+returns c = let R = c .before .before .args .radix in sym (ap (R ^_) (c .if2 .taken) ∙ pow-zero R)
 
 returns-2 : tie.Need-returns-2
-returns-2 c = pow-one (c .before .before .args .radix) (c .before .before .args .e) (c .if2 .taken)
+returns-2 c = let a = c .before .before .args in pow-one (a .radix) (a .e) (omega (arith, c .before .if1 .taken, c .if2 .left))
 
 mul-result : tie.Need-mul-result
-mul-result c = let a = c .before .before .before in omega (arith, a .pre .2, pow-two (a .args .radix) (a .args .e) (c .if3 .taken))
+mul-result c = let a = c .before .before in omega (arith, a .pre .2, pow-two (a .args .radix) (a .args .e) (c .if3 .taken))
 
 returns-3 : tie.Need-returns-3
-returns-3 c = let a = c .before .before .before .args in pow-two (a .radix) (a .e) (c .if3 .taken)
+returns-3 c = let a = c .before .before .args in pow-two (a .radix) (a .e) (c .if3 .taken)
 
 -- the exponent that is left is three
-three : (c : tie.Else3) → c .before .before .before .args .e ≡ 3
-three c = omega (arith, c .before .before .before .pre .1, c .before .before .if1 .left, c .before .if2 .left, c .if3 .left)
+three : (c : tie.Else3) → c .before .before .args .e ≡ 3
+three c = omega (arith, c .before .before .pre .1, c .before .if1 .left, c .if3 .left)
 
-small : (c : tie.Else3) → let R = c .before .before .before .args .radix in (R * R ≤ 1048576) × (R * R * R ≤ 1048576)
+small : (c : tie.Else3) → let R = c .before .before .args .radix in (R * R ≤ 1048576) × (R * R * R ≤ 1048576)
 small c =
-    let a = c .before .before .before in
+    let a = c .before .before in
     let R = a .args .radix in
     let cube : R * R * R ≤ 1048576 = omega (arith, a .pre .2, pow-three R (a .args .e) (three c)) in
     (omega (arith, cube, le-mul-of-pos-right (R * R) (a .pre .0)), cube)
@@ -37,7 +37,7 @@ mul-result-3 : tie.Need-mul-result-3
 mul-result-3 c = omega (arith, small c .1)
 
 returns-4 : tie.Need-returns-4
-returns-4 c = let a = c .before .before .before .args in pow-three (a .radix) (a .e) (three c)
+returns-4 c = let a = c .before .before .args in pow-three (a .radix) (a .e) (three c)
 
 pub power-spec : {M : Type 1} → statement M
 power-spec = tie.close (tie.spec returns returns-2 mul-result returns-3 mul-result-2 mul-result-3 returns-4)
