@@ -17,7 +17,7 @@
  * refusal is not taken for an answer.
  *
  * Stack. A call takes less than 64 KB of the thread's stack (CHAINS_STACK bytes), whatever it is given. The hungriest, chains_find
- * with 62 repeats inside each other, takes about 47,000 bytes as the library is built.
+ * with 62 repeats inside each other, takes about 45,000 bytes as the library is built.
  *
  * No function fails in another way, whatever bytes and numbers it is given; none allocates, keeps a pointer or has a state, so
  * calls from several threads are safe as long as they do not share a buffer that is written to.
