@@ -10,7 +10,7 @@ use lib.ListN.{getD, getElem?, take, length}
 use Rattle.meaning.specs.Record.{Boat}
 use Rattle.meaning.specs.Pattern.{Rule, Pattern, nothing, line, test, either, then, repeat, keep, commands}
 use Rattle.meaning.specs.Language.{Letter, Word, Compared, compared, meets}
-use Rattle.automaton.specs.Listed.{anyOf, when}
+use Rattle.lists.specs.Listed.{anyOf, when}
 
 -- ---- a node: what stands at a position
 

@@ -9,7 +9,7 @@ use lib.ListN.{length}
 use Rattle.meaning.specs.Record.{Boat}
 use Rattle.meaning.specs.Pattern.{Pattern, commands}
 use Rattle.meaning.specs.Language.{Word, Valuation, bind, Star, stop, more, L}
-use Rattle.automaton.specs.Listed.{_∈_, when, when-sound, when-complete}
+use Rattle.lists.specs.Listed.{_∈_, when, when-sound, when-complete}
 use Rattle.automaton.specs.Automaton.{Node, nullable, heads, enter, byBoat}
 use Rattle.automaton.specs.Runs.{From, from-more, from-cut, step-complete}
 use Rattle.automaton.specs.Scope.{Holds, holds-inside, passes-meets}

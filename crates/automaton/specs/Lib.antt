@@ -1,7 +1,4 @@
-pub mod Listed
 pub mod Automaton
-pub mod Program
-pub mod Masks
 pub mod Runs
 pub mod Scope
 pub mod Placed
@@ -9,6 +6,5 @@ pub mod Sound
 pub mod Complete
 pub mod Words
 pub mod Shape
-pub mod Limits
 pub mod Readings
 pub mod Rows

@@ -11,7 +11,7 @@ use native.Mathlib.Omega.{arith}
 use lib.ListN.{drop, getD, length, length-append, List·getD-eq-default}
 use lib.Seq.{drop-drop, drop-at, getD-drop}
 use Rattle.meaning.specs.Pattern.{Rule, Pattern, nothing, line, test, either, then, repeat, keep, commands}
-use Rattle.automaton.specs.Listed.{_∈_, none-in, when-sound}
+use Rattle.lists.specs.Listed.{_∈_, none-in, when-sound}
 use Rattle.automaton.specs.Runs.{Stands}
 use Rattle.automaton.specs.Automaton.{Node, silent, taking, always, testOf, levelOf, nullable, heads, enter, compile, nodes, nodeAt}
 

@@ -9,7 +9,7 @@ use lib.Dec.{eqb}
 use lib.ListN.{getElem?, take}
 use Rattle.meaning.specs.Pattern.{Rule}
 use Rattle.meaning.specs.Language.{meets}
-use Rattle.automaton.specs.Listed.{_∈_, none-in, anyOf-same}
+use Rattle.lists.specs.Listed.{_∈_, none-in, anyOf-same}
 use Rattle.automaton.specs.Automaton.{Node, Test, never, always, against, Reading, pushed, met, passes, takes, acceptsAt, acceptsFrom}
 
 -- ---- a stack read member by member

@@ -11,7 +11,7 @@ use lib.Dec.{eqb}
 use lib.ListN.{take, length}
 use lib.Seq.{take-all, take-append-le}
 use borrow.Author.Tests.{eqb-true, eq-eqb}
-use Rattle.automaton.specs.Listed.{_∈_, none-in, anyOf-sound, anyOf-complete, when, when-sound}
+use Rattle.lists.specs.Listed.{_∈_, none-in, anyOf-sound, anyOf-complete, when, when-sound}
 use Rattle.automaton.specs.Automaton.{Node, Reading, passes, takes, pushed, acceptsAt, acceptsFrom}
 
 -- the node N stands at b, before the end

@@ -12,7 +12,7 @@ use native.Mathlib.Omega.{arith}
 use native.Mathlib.Decide.{decLt}
 use lib.ListN.{length, length-append}
 use Rattle.meaning.specs.Pattern.{Rule, Pattern, commands, keeps}
-use Rattle.automaton.specs.Listed.{_∈_, none-in, getD-in}
+use Rattle.lists.specs.Listed.{_∈_, none-in, getD-in}
 use Rattle.automaton.specs.Automaton.{Node, Test, never, always, against, silent, testOf, levelOf, enter, compile, start, nodes, nodeAt}
 use Rattle.automaton.specs.Scope.{Below, level-below}
 use Rattle.automaton.specs.Placed.{Placed, is-nothing, is-line, is-test, is-either, is-then, is-repeat, is-keep, Within, within-heads, within-enter, within-inside, within-deeper, nodes-length, nodes-placed, end-silent, end-within}

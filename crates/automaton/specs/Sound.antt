@@ -11,7 +11,7 @@ use lib.ListN.{length, length-append}
 use Rattle.meaning.specs.Record.{Boat}
 use Rattle.meaning.specs.Pattern.{Pattern, nothing, line, test, either, then, repeat, keep}
 use Rattle.meaning.specs.Language.{Letter, Word, Valuation, bind, Star, stop, more, L}
-use Rattle.automaton.specs.Listed.{when}
+use Rattle.lists.specs.Listed.{when}
 use Rattle.automaton.specs.Automaton.{Node, Test, always, taking, nullable, heads, enter, byBoat}
 use Rattle.automaton.specs.Runs.{From, Taken, from-cases, from-when, from-none, from-cut, step-sound}
 use Rattle.automaton.specs.Scope.{Holds, holds-inside, passes-meets}

@@ -11,14 +11,14 @@ use lib.ListN.{getD, drop, drop-of-length-le}
 use lib.Seq.{drop-cons}
 use borrow.Author.Tests.{eq-eqb, ne-eqb, leb-true}
 use Rattle.search.specs.Along.{goal}
-use Rattle.search.specs.Early.{Ended}
-use Rattle.search.specs.Loops.{loop}
-use Rattle.search.specs.PhaseOne.{Progress, waiting, begun, advanceBy, advance-next, advance-add}
-use Rattle.search.specs.PhaseTwo.{nearestWord}
+use Rattle.graph.specs.Early.{Ended}
+use Rattle.graph.specs.Loops.{loop}
+use Rattle.graph.specs.PhaseOne.{Progress, waiting, begun, advanceBy, advance-next, advance-add}
+use Rattle.graph.specs.PhaseTwo.{nearestWord}
 use Rattle.search.specs.Product.{Setting}
-use Rattle.search.specs.Table.{Search, blank, push}
-use Rattle.states.specs.Area.{stretch, found, Ready, Step}
-use Rattle.states.proofs.Changes.{step-as, step-none, step-then, ready-long}
+use Rattle.graph.specs.Table.{Search, blank, push}
+use Rattle.area.specs.Area.{stretch, found, Ready, Step}
+use Rattle.area.proofs.Changes.{step-as, step-none, step-then, ready-long}
 use Rattle.backward.specs.Stopped.{opened, tableAfter, Stopped, metBy}
 
 -- ---- the test

@@ -5,12 +5,12 @@ use Prim.Native.Nat.{ℕ}
 use lib.Dec.{eqb, leb}
 use Rattle.search.specs.Along.{goal}
 use Rattle.request.specs.declared.Plan.{Plan}
-use Rattle.search.specs.Early.{Ended}
+use Rattle.graph.specs.Early.{Ended}
 use Rattle.search.specs.Moves.{expand}
-use Rattle.search.specs.PhaseOne.{Progress, begun, advanceBy}
+use Rattle.graph.specs.PhaseOne.{Progress, begun, advanceBy}
 use Rattle.search.specs.Product.{Setting}
-use Rattle.search.specs.Table.{Search}
-use Rattle.states.specs.Area.{found, Step}
+use Rattle.graph.specs.Table.{Search}
+use Rattle.area.specs.Area.{found, Step}
 use Rattle.forward.specs.Firsts.{firstStates}
 
 -- ---- where phase one begins

@@ -4,7 +4,7 @@ ghost use Prim.Native.Nat.{_<_};
 ghost use lib.ListN.{length};
 ghost use Rattle.request.specs.Layout.{Laid};
 ghost use Rattle.search.specs.Loaded.{settingAt};
-ghost use Rattle.search.specs.PhaseTwo.{nearestWord};
+ghost use Rattle.graph.specs.PhaseTwo.{nearestWord};
 ghost use Rattle.states.specs.Pairs.{distances, ReadyBack};
 ghost use Rattle.forward.specs.Firsts.{firstStates};
 ghost use Rattle.expanding.specs.Backing.{Backing};
@@ -47,8 +47,8 @@ pub fn search_back(
     let mut head = 0;
     let mut last = 0;
     while head < t {
-        let s = states::waiting(work, plan.base, plan.size, t, head);
-        let d = states::dist_at(work, plan.base, plan.size, t, s);
+        let s = area::waiting(work, plan.base, plan.size, t, head);
+        let d = area::dist_at(work, plan.base, plan.size, t, s);
         if first_met(work, plan, begin, from, d, last) {
             return t;
         }
@@ -75,8 +75,8 @@ pub fn distances(
 {
     let base = plan.base;
     let size = plan.size;
-    states::clear_stretch(work, base, size);
-    let t = states::push_if_new(
+    area::clear_stretch(work, base, size);
+    let t = area::push_if_new(
         work,
         base,
         size,

@@ -14,7 +14,7 @@ use borrow.Author.Tests.{eq-eqb, ne-eqb}
 use Rattle.meaning.specs.Record.{Boat, Line, agree, among, boatsAfter, boats}
 use Rattle.meaning.specs.Writing.{noLine, lineAt}
 use Rattle.meaning.specs.Language.{Compared, same-boat, other-boat, compared}
-use Rattle.automaton.specs.Listed.{_∈_, none-in}
+use Rattle.lists.specs.Listed.{_∈_, none-in}
 use Rattle.boats.specs.Boats.{agree-same, agree-self, noted, after-append, firstWith, firstSame}
 
 -- ---- the definitions

@@ -11,23 +11,23 @@ use lib.Dec.{ltb}
 use lib.ListN.{length, getD, set, take, drop, replicate, length-set, length-drop}
 use lib.Seq.{take-set-le, drop-set-lt, getD-drop, getD-take, take-suc, take-take, drop-cons, drop-length}
 use borrow.Author.Tests.{ltb-true}
-use Rattle.automaton.specs.Listed.{_∈_}
-use Rattle.automaton.specs.Program.{members}
+use Rattle.lists.specs.Listed.{_∈_}
+use Rattle.positions.specs.Program.{members}
 use Rattle.request.specs.declared.Plan.{Plan}
-use Rattle.search.specs.Plain.{flat, memb}
-use Rattle.search.specs.Sets.{in-memb}
+use Rattle.graph.specs.Plain.{flat, memb}
+use Rattle.graph.specs.Sets.{in-memb}
 use Rattle.search.specs.Check.{exist, moved, moved-members}
 use Rattle.search.specs.Along.{goal, starting}
-use Rattle.search.specs.Loops.{loop, turns, loop-append, loop-flat, loop-same}
-use Rattle.search.specs.Table.{Search, blank, push}
-use Rattle.states.specs.Area.{stretch, found, outside, Outside, Ready, Step, Under}
+use Rattle.graph.specs.Loops.{loop, turns, loop-append, loop-flat, loop-same}
+use Rattle.graph.specs.Table.{Search, blank, push}
+use Rattle.area.specs.Area.{stretch, found, outside, Outside, Ready, Step, Under}
 use Rattle.search.specs.Product.{Setting, succs}
 use Rattle.search.specs.Loaded.{settingIn}
 use Rattle.search.specs.Moves.{visit, onward, push-law}
 use Rattle.forward.specs.Firsts.{firstStates}
 use Rattle.states.specs.Spots.{front, Fit, nextTurn}
-use Rattle.states.proofs.Stretches.{stretch-none, stretch-get, stretch-set, stretch-below, stretch-above, stretch-push}
-use Rattle.states.proofs.Changes.{blank-good, under-front, ready-state, ready-long, cleared, step-cleared}
+use Rattle.area.proofs.Stretches.{stretch-none, stretch-get, stretch-set, stretch-below, stretch-above, stretch-push}
+use Rattle.area.proofs.Changes.{blank-good, under-front, ready-state, ready-long, cleared, step-cleared}
 use Rattle.checker.specs.Walk.{seeded, stepped, walked, marks, Alive, Advanced, frontierAt, frontier, asideOf, wiped, Aside, Listed, listTurn, Within}
 use Rattle.checker.proofs.Sets.{seeded-wiped, step-low, walked-marks, memb-not}
 use Rattle.checker.proofs.Steps.{succs-low, begin-seeded, begins-are, begins-low, goal-low}

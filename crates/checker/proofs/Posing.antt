@@ -7,10 +7,10 @@ use Prim.Native.Nat.{ℕ}
 use native.Mathlib.Omega.{arith}
 use lib.ListN.{length}
 use Rattle.meaning.specs.Request.{Asked}
-use Rattle.automaton.specs.Program.{members, Compiled}
-use Rattle.automaton.specs.Limits.{compiled-start}
+use Rattle.positions.specs.Program.{members, Compiled}
+use Rattle.positions.specs.Limits.{compiled-start}
 use Rattle.request.specs.declared.Plan.{Plan}
-use Rattle.search.specs.Plain.{memb}
+use Rattle.graph.specs.Plain.{memb}
 use Rattle.search.specs.Product.{Setting, succs}
 use Rattle.search.specs.Along.{goal, starting}
 use Rattle.search.specs.Loaded.{settingIn}

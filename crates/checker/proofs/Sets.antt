@@ -11,12 +11,12 @@ use lib.Dec.{ltb}
 use lib.ListN.{length, getD, set, replicate, length-set, length-replicate, getD-replicate}
 use lib.Seq.{getD-set-same, ext-getD}
 use borrow.Author.Tests.{ltb-true}
-use Rattle.automaton.specs.Listed.{_∈_, none-in}
-use Rattle.search.specs.Plain.{stateOf, look, news, memb, nub, flat}
-use Rattle.search.specs.Sets.{memb-in, nub-in, flat-in}
-use Rattle.search.specs.Entries.{under, look-some, look-none}
-use Rattle.search.specs.Loops.{loop}
-use Rattle.search.specs.Table.{Search, blank, mark, Holds, blank-holds, loop-holds}
+use Rattle.lists.specs.Listed.{_∈_, none-in}
+use Rattle.graph.specs.Plain.{stateOf, look, news, memb, nub, flat}
+use Rattle.graph.specs.Sets.{memb-in, nub-in, flat-in}
+use Rattle.graph.specs.Entries.{under, look-some, look-none}
+use Rattle.graph.specs.Loops.{loop}
+use Rattle.graph.specs.Table.{Search, blank, mark, Holds, blank-holds, loop-holds}
 use Rattle.search.specs.Check.{exist, moved, moved-members}
 use Rattle.checker.specs.Walk.{seeded, stepped, walked, wiped}
 

@@ -10,13 +10,13 @@ use lib.Dec.{eqb}
 use lib.ListN.{length}
 use Rattle.meaning.specs.Record.{Line}
 use Rattle.meaning.specs.Writing.{lineAt}
-use Rattle.automaton.specs.Listed.{_∈_, when-sound}
-use Rattle.automaton.specs.Program.{bitOf, members, nodeIn, depthAt}
+use Rattle.lists.specs.Listed.{_∈_, when-sound}
+use Rattle.positions.specs.Program.{bitOf, members, nodeIn, depthAt}
 use Rattle.request.specs.declared.Plan.{Plan}
-use Rattle.search.specs.Plain.{memb, count}
-use Rattle.search.specs.Sets.{filt-in, count-in}
-use Rattle.search.specs.Loops.{turns, turns-same}
-use Rattle.search.specs.Table.{Search, blank, push}
+use Rattle.graph.specs.Plain.{memb, count}
+use Rattle.graph.specs.Sets.{filt-in, count-in}
+use Rattle.graph.specs.Loops.{turns, turns-same}
+use Rattle.graph.specs.Table.{Search, blank, push}
 use Rattle.search.specs.Product.{Setting, state, placeOf, stackOf, posOf, cut, takes, pushed, following, succs}
 use Rattle.search.specs.Along.{goal, starting}
 use Rattle.search.specs.Loaded.{settingIn}

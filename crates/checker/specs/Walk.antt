@@ -6,14 +6,14 @@ use mathlib.Core.List.{List, [], _∷_}
 use Prim.Native.Nat.{ℕ, _+_, _≤_, _<_}
 use lib.ListN.{length, getD, set, take, drop}
 use Rattle.meaning.specs.Request.{Asked}
-use Rattle.automaton.specs.Listed.{_∈_}
-use Rattle.automaton.specs.Program.{members}
+use Rattle.lists.specs.Listed.{_∈_}
+use Rattle.positions.specs.Program.{members}
 use Rattle.request.specs.declared.Plan.{Plan}
 use Rattle.search.specs.Along.{goal, starting}
-use Rattle.search.specs.Plain.{flat, memb}
-use Rattle.search.specs.Loops.{loop}
-use Rattle.search.specs.Table.{Search, blank, push}
-use Rattle.states.specs.Area.{stretch, found, Ready}
+use Rattle.graph.specs.Plain.{flat, memb}
+use Rattle.graph.specs.Loops.{loop}
+use Rattle.graph.specs.Table.{Search, blank, push}
+use Rattle.area.specs.Area.{stretch, found, Ready}
 use Rattle.forward.specs.Posed.{Posed}
 use Rattle.search.specs.Product.{Setting, succs}
 use Rattle.search.specs.Check.{moved, check}

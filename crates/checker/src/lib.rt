@@ -7,8 +7,8 @@ ghost use lib.ListN.{length};
 ghost use Rattle.meaning.specs.Outcome.{told};
 ghost use Rattle.meaning.specs.Request.{askRequest, workAfter};
 ghost use Rattle.request.specs.Layout.{Laid};
-ghost use Rattle.search.specs.Loops.{turns};
-ghost use Rattle.states.specs.Area.{Ready, Step};
+ghost use Rattle.graph.specs.Loops.{turns};
+ghost use Rattle.area.specs.Area.{Ready, Step};
 ghost use Rattle.search.specs.Product.{succs};
 ghost use Rattle.search.specs.Loaded.{settingAt};
 ghost use Rattle.states.specs.Spots.{Fit};
@@ -48,9 +48,9 @@ fn set_aside(work: &mut [u32], plan: Plan, i: usize)
     requires { ⌜ (i < plan .size) × (frontierAt plan (now work) i < plan .size) ⌝ }
     ensures { λ _. ⌜ now (work .exit) ≡ asideOf plan i (now (work .entry)) ⌝ }
 {
-    let s = states::word(work, plan.marks + plan.size + i);
-    states::write(work, plan.base, plan.size, i, s);
-    states::write(work, plan.marks, plan.size, s as usize, 0);
+    let s = area::word(work, plan.marks + plan.size + i);
+    area::write(work, plan.base, plan.size, i, s);
+    area::write(work, plan.marks, plan.size, s as usize, 0);
 }
 
 // All states of the frontier come into the list, and nothing is marked.
@@ -73,7 +73,7 @@ fn gather(work: &mut [u32], plan: Plan, program: &[u64; 128], line: usize, count
 {
     let mut t = 0;
     for j in 0..count {
-        let s = states::word(work, plan.base + j) as usize;
+        let s = area::word(work, plan.base + j) as usize;
         t = forward::from_state(work, plan, program, 0, line, s, t);
     }
     t
@@ -130,11 +130,11 @@ fn leads(
     requires { ⌜ (from < plan .places) × (to < plan .places) × (exist (plan .lines) (now chain) ≡ true) ⌝ }
     ensures { λ r. ⌜ r ≡ ends (settingAt (now (program .entry)) plan (now (work .entry))) begin from to (now (chain .entry)) ⌝ }
 {
-    states::clear_stretch(work, plan.marks, plan.size);
+    area::clear_stretch(work, plan.marks, plan.size);
     let starts = forward::over_next(work, plan, program, begin, 0, from, 0, 0);
     let tail = run_chain(work, plan, program, chain, starts);
     let end = states::state_at(plan, to, plan.done, 0);
-    if states::dist_at(work, plan.marks, plan.size, tail, end) == 0 {
+    if area::dist_at(work, plan.marks, plan.size, tail, end) == 0 {
         return false;
     }
     true

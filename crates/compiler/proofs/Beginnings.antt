@@ -13,7 +13,7 @@ use lib.Pow.{pow-lt}
 use borrow.Author.Tests.{eq-eqb, ne-eqb}
 use Rattle.meaning.specs.Pattern.{Pattern, nothing, line, test, same, other, either, then, repeat, keep, commands, leaf, around, joined, Part}
 use Rattle.automaton.specs.Automaton.{heads, nullable, enter}
-use Rattle.automaton.specs.Masks.{Marks, marks-none, marks-append, marks-when}
+use Rattle.positions.specs.Masks.{Marks, marks-none, marks-append, marks-when}
 use Rattle.compiler.specs.declared.Begin.{Begin}
 use Rattle.compiler.specs.Compiling.{OnePattern, Begins}
 

@@ -10,8 +10,8 @@ use Rattle.meaning.specs.Pattern.{Pattern, commands, Part, depthIn, readPattern
 use Rattle.pattern.specs.Passed.{inside-small}
 use Rattle.automaton.specs.Automaton.{Node, silent, compile, nodes, nodeAt}
 use Rattle.automaton.specs.Placed.{compile-length}
-use Rattle.automaton.specs.Program.{nodeIn, Compiled}
-use Rattle.automaton.specs.Masks.{Marks}
+use Rattle.positions.specs.Program.{nodeIn, Compiled}
+use Rattle.positions.specs.Masks.{Marks}
 use Rattle.compiler.specs.declared.Step.{Step}
 use Rattle.compiler.specs.declared.Begin.{Begin}
 use Rattle.compiler.specs.declared.Task.{Task}

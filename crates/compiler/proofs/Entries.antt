@@ -11,9 +11,9 @@ use lib.ListN.{length}
 use borrow.Author.Tests.{ne-eqb}
 use Rattle.meaning.specs.Pattern.{Rule, Pattern, nothing, line, test, same, other, either, then, commands, leaf, around, joined}
 use Rattle.automaton.specs.Automaton.{Node, Test, always, against, silent, taking, heads, enter, levelOf, testOf, compile}
-use Rattle.automaton.specs.Program.{testIn}
-use Rattle.automaton.specs.declared.Rule.the-variants as Asked
-use Rattle.automaton.specs.Masks.{Marks, marks-none}
+use Rattle.positions.specs.Program.{testIn}
+use Rattle.positions.specs.declared.Rule.the-variants as Asked
+use Rattle.positions.specs.Masks.{Marks, marks-none}
 use Rattle.automaton.specs.Scope.{Below, level-below}
 use Rattle.compiler.specs.Compiling.{OnePattern, mark, scopeIn, afterIn, afterFirst, Says, firstNode, askedRule}
 use Rattle.compiler.specs.declared.Entry.{Entry}

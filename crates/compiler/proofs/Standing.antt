@@ -9,7 +9,7 @@ use lib.ListN.{length, getD}
 use Rattle.meaning.specs.Pattern.{Pattern, commands}
 use Rattle.automaton.specs.Automaton.{Node, silent, nodes, nodeAt}
 use Rattle.automaton.specs.Placed.{nodes-length, end-silent}
-use Rattle.automaton.specs.Program as Program
+use Rattle.positions.specs.Program as Program
 use Rattle.compiler.specs.Compiling.{entryAt, Says, Stand, Put, Written}
 use Rattle.compiler.specs.declared.Entry.{Entry}
 

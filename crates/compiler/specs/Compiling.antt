@@ -12,11 +12,11 @@ use Rattle.meaning.specs.Outcome.{passed}
 use Rattle.meaning.specs.Pattern.{Pattern, commands, Command, isKeep, commandAt, leaf, around, joined, depthIn, Part, readPattern, noneGiven}
 use Rattle.pattern.specs.Reading.{patternAt}
 use Rattle.automaton.specs.Automaton.{Node, Test, taking, nullable, heads, enter, levelOf, compile, nodeAt}
-use Rattle.automaton.specs.Program.{rowAt, followAt, testIn, said, Alike, Compiled}
-use Rattle.automaton.specs.Masks.{Marks}
-use Rattle.automaton.specs.declared.Row.{Row}
-use Rattle.automaton.specs.declared.Rule.{Rule}
-use Rattle.automaton.specs.declared.Rule.the-variants as Rule
+use Rattle.positions.specs.Program.{rowAt, followAt, testIn, said, Alike, Compiled}
+use Rattle.positions.specs.Masks.{Marks}
+use Rattle.positions.specs.declared.Row.{Row}
+use Rattle.positions.specs.declared.Rule.{Rule}
+use Rattle.positions.specs.declared.Rule.the-variants as Rule
 use Rattle.compiler.specs.declared.Step.{Step}
 use Rattle.compiler.specs.declared.Begin.{Begin}
 use Rattle.compiler.specs.declared.Task.{Task}

@@ -4,11 +4,11 @@ ghost use Prim.Native.Nat.{_<_};
 ghost use mathlib.Core.Path.{_≡_};
 ghost use mathlib.Core.List.{[], _∷_};
 ghost use Rattle.automaton.specs.Automaton.{silent};
-ghost use Rattle.automaton.specs.Masks.{Marks};
+ghost use Rattle.positions.specs.Masks.{Marks};
 ghost use Rattle.compiler.specs.Compiling.{Passes, Reads, Commands, StepAt, leafOf, Begins, BeginsAt, BeginsAround, BeginsJoined, Entered, Ready, Allowed, AfterFirst, Inner, First, Second, Says, Small, Put, askedRule, TakingSaid, LeafSaid, AroundSaid, CompiledAt, CompiledFrom, SmallUpTo};
-use automaton::Row;
-use automaton::Rule;
 use pattern::Shape;
+use positions::Row;
+use positions::Rule;
 
 // ---- one command
 
@@ -339,7 +339,7 @@ fn put(program: &mut [u64; 128], i: usize, x: Entry)
     ensures { λ _. ⌜ (Small (x .row) → Put i x (now (program .entry)) (now (program .exit))) ⌝ }
 {
     let row = x.row;
-    automaton::put_row(program, i, row, x.follow);
+    positions::put_row(program, i, row, x.follow);
 }
 
 // ---- a pattern

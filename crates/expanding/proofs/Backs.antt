@@ -6,15 +6,15 @@ use Prim.Native.Nat.{ℕ, _+_, _-_, _^_, _≤_}
 use native.Mathlib.Omega.{arith}
 use lib.ListN.{drop}
 use borrow.Author.Tests.{eq-eqb, ne-eqb}
-use Rattle.automaton.specs.Program.{bitOf, followAt, leavesAt}
+use Rattle.positions.specs.Program.{bitOf, followAt, leavesAt}
 use Rattle.request.specs.declared.Plan.{Plan}
-use Rattle.search.specs.Loops.{turns}
-use Rattle.search.specs.Table.{Search, push}
-use Rattle.states.specs.Area.{Under}
-use Rattle.sorting.specs.Runs.{sorted-same}
-use Rattle.sorting.specs.declared.Order.{Order}
-use Rattle.sorting.specs.declared.Order.the-variants as Order
-use Rattle.thinning.specs.Runs.{thin-same}
+use Rattle.graph.specs.Loops.{turns}
+use Rattle.graph.specs.Table.{Search, push}
+use Rattle.area.specs.Area.{Under}
+use Rattle.sorted.specs.Runs.{sorted-same}
+use Rattle.sorted.specs.declared.Order.{Order}
+use Rattle.sorted.specs.declared.Order.the-variants as Order
+use Rattle.thinned.specs.Runs.{thin-same}
 use Rattle.ways.specs.Ways.{laneTurn, runTurn, Told, Runs}
 use Rattle.ways.specs.declared.Lane.{Lane}
 use Rattle.ways.proofs.Right.{turns-alike}
@@ -22,7 +22,7 @@ use Rattle.expanding.specs.Backing.{Backing}
 use Rattle.states.specs.Spots.{front, Fit, spotIn, off, on, okay, stackAt, lineTurn, spotTurn}
 use Rattle.states.specs.declared.Spot.{Spot}
 use Rattle.states.specs.declared.Target.{Target}
-use Rattle.states.proofs.Changes.{under-front, under-back}
+use Rattle.area.proofs.Changes.{under-front, under-back}
 use Rattle.states.proofs.Bounds.{fit-same}
 
 -- ---- a stack undone, to u

@@ -8,14 +8,14 @@ use native.Mathlib.Nat.{add-zero, mod-lt}
 use native.Mathlib.Omega.{arith}
 use lib.Dec.{eqb}
 use Rattle.meaning.specs.Writing.{lineAt}
-use Rattle.automaton.specs.Program.{bitOf, rowAt, followAt, depthAt, nodeIn}
+use Rattle.positions.specs.Program.{bitOf, rowAt, followAt, depthAt, nodeIn}
 use Rattle.automaton.specs.Shape.{leaves}
 use Rattle.request.specs.Layout.{fromIn}
 use Rattle.request.specs.declared.Plan.{Plan}
-use Rattle.search.specs.Plain.{memb}
+use Rattle.graph.specs.Plain.{memb}
 use Rattle.search.specs.Digits.{pushOn, popOff}
-use Rattle.search.specs.Loops.{turns, turns-within}
-use Rattle.search.specs.Table.{Search, push}
+use Rattle.graph.specs.Loops.{turns, turns-within}
+use Rattle.graph.specs.Table.{Search, push}
 use Rattle.search.specs.Product.{Setting, stacks, state, placeOf, posOf, stackOf, popped, undoes}
 use Rattle.search.specs.Front.{stateIn, lines-many, line-at}
 use Rattle.search.specs.Loaded.{codeAt, wordAt, settingIn}

@@ -9,8 +9,8 @@ use lib.Arith.{digits-lt, digits-div, digits-mod}
 use lib.Dec.{eqb}
 use borrow.Author.Tests.{ne-eqb}
 use Rattle.request.specs.declared.Plan.{Plan}
-use Rattle.search.specs.Loops.{turns, turns-idle}
-use Rattle.search.specs.Table.{Search, push}
+use Rattle.graph.specs.Loops.{turns, turns-idle}
+use Rattle.graph.specs.Table.{Search, push}
 use Rattle.states.specs.Spots.{stackTurn}
 use Rattle.ways.proofs.Right.{at-x, turns-one, turns-alike, tested-stands}
 use Rattle.expanding.specs.Stepping.{entryState, entriesTurn, Entries, WantsSame, EntryBelow, EntryAmong}

@@ -7,13 +7,13 @@ use native.Mathlib.Omega.{arith}
 use lib.ListN.{length, getD}
 use borrow.Author.Tests.{eq-eqb, ne-eqb}
 use Rattle.request.specs.Layout.{largest, Laid, fromIn, toIn, kindIn}
-use Rattle.sorting.specs.Sorting.{packBy}
+use Rattle.sorted.specs.Sorting.{packBy}
 use Rattle.request.specs.declared.Plan.{Plan}
 use Rattle.search.specs.Front.{stateIn}
 use Rattle.search.specs.Loaded.{codeAt, wordAt}
-use Rattle.search.specs.Loops.{turns, turns-same}
-use Rattle.search.specs.Table.{Search}
-use Rattle.states.specs.Area.{Under}
+use Rattle.graph.specs.Loops.{turns, turns-same}
+use Rattle.graph.specs.Table.{Search}
+use Rattle.area.specs.Area.{Under}
 use Rattle.states.specs.Pairs.{ReadyBack}
 use Rattle.states.specs.Spots.{lineTurn, Stacks}
 use Rattle.states.specs.declared.Spot.{Spot}

@@ -3,8 +3,8 @@ use mathlib.Core.Path.{_≡_}
 use mathlib.Core.Bool.{false}
 use Prim.Native.Nat.{ℕ, _+_, _*_, _/_, _<_}
 use Rattle.request.specs.declared.Plan.{Plan}
-use Rattle.search.specs.Loops.{turns}
-use Rattle.search.specs.Table.{Search, push}
+use Rattle.graph.specs.Loops.{turns}
+use Rattle.graph.specs.Table.{Search, push}
 use Rattle.states.specs.Spots.{OnlyKept}
 use Rattle.expanding.specs.declared.Undo.{Undo}
 

@@ -9,9 +9,9 @@ use Rattle.request.specs.Layout.{Laid, fromIn, toIn, kindIn}
 use Rattle.request.specs.declared.Plan.{Plan}
 use Rattle.search.specs.Front.{stateIn}
 use Rattle.search.specs.Loaded.{codeAt, wordAt}
-use Rattle.search.specs.Loops.{turns}
-use Rattle.search.specs.Table.{Search}
-use Rattle.sorting.specs.Sorting.{packBy}
+use Rattle.graph.specs.Loops.{turns}
+use Rattle.graph.specs.Table.{Search}
+use Rattle.sorted.specs.Sorting.{packBy}
 use Rattle.states.specs.Pairs.{ReadyBack}
 use Rattle.states.specs.Spots.{Sane, stackTurn, lineTurn, Stacks}
 use Rattle.states.specs.declared.Spot.{Spot}

@@ -3,16 +3,16 @@ ghost use mathlib.Core.Path.{_≡_};
 ghost use mathlib.Core.Bool.{true};
 ghost use Prim.Native.Nat.{suc, _+_, _*_, _-_, _^_, _/_, _%_, _≤_, _<_};
 ghost use lib.ListN.{length, getD};
-ghost use Rattle.automaton.specs.Program.{bitOf, followAt};
+ghost use Rattle.positions.specs.Program.{bitOf, followAt};
 ghost use Rattle.automaton.specs.Shape.{deeper};
 ghost use Rattle.request.specs.Layout.{largest, Laid};
-ghost use Rattle.search.specs.Loops.{turns};
-ghost use Rattle.search.specs.Table.{push};
+ghost use Rattle.graph.specs.Loops.{turns};
+ghost use Rattle.graph.specs.Table.{push};
 ghost use Rattle.states.specs.Pairs.{ReadyBack, StepBack};
 ghost use Rattle.search.specs.Loaded.{settingAt};
 ghost use Rattle.search.specs.Moves.{expand};
-ghost use Rattle.sorting.specs.Sorting.{keys, packBy};
-ghost use Rattle.sorting.specs.declared.Order.the-variants as Orders;
+ghost use Rattle.sorted.specs.Sorting.{keys, packBy};
+ghost use Rattle.sorted.specs.declared.Order.the-variants as Orders;
 ghost use Rattle.ways.specs.Ways.{laneTurn, Narrow, runTurn, Told, Gives, Before};
 ghost use Rattle.ways.specs.Filed.{Filed};
 ghost use Rattle.ways.specs.Stacked.{Words};
@@ -21,8 +21,8 @@ ghost use Rattle.expanding.specs.Stepping.{Steps, Entries, entriesTurn, 
 ghost use Rattle.expanding.specs.Undoing.{undone, lineUndone, wordUndone, linesBack, undoOf, Undoing, InStates, LeadsTo};
 ghost use Rattle.states.specs.Spots.{front, Sane, stackAt, Aimed, Starts, spotTurn};
 use request::Plan;
-use sorting::Order;
-use sorting::PACK;
+use sorted::Order;
+use sorted::PACK;
 use states::Spot;
 use states::Target;
 use ways::Lane;
@@ -50,7 +50,7 @@ fn one_stack(
     let u = states::take_off(spot, v);
     if states::put_on(spot, u, code) == v {
         if states::passes(plan.radix, spot, code, u) {
-            return states::push_if_new(work, plan.base, plan.size, d, home + u, tail);
+            return area::push_if_new(work, plan.base, plan.size, d, home + u, tail);
         }
     }
     tail
@@ -105,7 +105,7 @@ fn over_low(
 {
     let mut t = tail;
     for l in 0..many {
-        t = states::push_if_new(work, plan.base, plan.size, d, first + l * weight, t);
+        t = area::push_if_new(work, plan.base, plan.size, d, first + l * weight, t);
     }
     t
 }
@@ -238,11 +238,11 @@ fn one_line(
     requires { ⌜ LeadsTo plan undo c ⌝ }
     ensures { λ r. ⌜ StepBack plan (lineUndone plan undo (front plan (now (work .entry))) place c i) tail (now (work .entry)) r (now (work .exit)) ⌝ }
 {
-    let line = states::word(work, plan.words + i);
+    let line = area::word(work, plan.words + i);
     let spot = undo.spot;
     if request::to_of(line) == place {
         if request::kind_of(line) == spot.kind {
-            let code = states::word(work, plan.codes + i);
+            let code = area::word(work, plan.codes + i);
             let home = states::state_at(plan, request::from_of(line), c, 0);
             return over_stacks(work, plan, undo, home, code, tail);
         }
@@ -329,7 +329,7 @@ fn one_stacked(work: &mut [u32], plan: Plan, undo: Undo, c: usize, p: usize, tai
     requires { ⌜ LeadsTo plan undo c ⌝ }
     ensures { λ r. ⌜ StepBack plan (wordUndone plan undo c (getD (now (work .entry)) p 0)) tail (now (work .entry)) r (now (work .exit)) ⌝ }
 {
-    let e = states::word(work, p);
+    let e = area::word(work, p);
     let home = states::state_at(plan, (e / PACK) as usize, c, 0);
     over_stacks(work, plan, undo, home, e % PACK, tail)
 }
@@ -443,7 +443,7 @@ pub fn one_spot(
     ensures { λ r. ⌜ StepBack plan (spotTurn (now (program .entry)) plan (front plan (now (work .entry))) target d c) tail (now (work .entry)) r (now (work .exit)) ⌝ }
 {
     let spot = states::spot_at(program, plan.radix, c);
-    let leaves = leaves_of(automaton::depth_at(program, c), spot.push);
+    let leaves = leaves_of(positions::depth_at(program, c), spot.push);
     if plan.filed {
         return over_way(work, plan, spot, target, d, c, leaves, tail);
     }
@@ -468,7 +468,7 @@ pub fn expand_state(
     let done = plan.done;
     let mut u = tail;
     for c in 0..done {
-        if (automaton::follow_at(program, c) >> target.position) % 2 == 1 {
+        if (positions::follow_at(program, c) >> target.position) % 2 == 1 {
             u = one_spot(work, plan, program, target, d, c, u);
         }
     }

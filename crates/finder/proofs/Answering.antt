@@ -7,8 +7,8 @@ use native.Mathlib.Omega.{arith}
 use lib.ListN.{length}
 use Rattle.meaning.specs.Outcome.{refused, passed}
 use Rattle.meaning.specs.Request.{Asked, askRequest}
-use Rattle.automaton.specs.Program.{Compiled}
-use Rattle.automaton.specs.Limits.{compiled-start}
+use Rattle.positions.specs.Program.{Compiled}
+use Rattle.positions.specs.Limits.{compiled-start}
 use Rattle.request.specs.declared.Plan.{Plan}
 use Rattle.search.specs.Answer.{answer}
 use Rattle.search.specs.Loaded.{settingIn}

@@ -8,12 +8,12 @@ use native.Mathlib.Omega.{arith}
 use lib.ListN.{length, drop}
 use borrow.Author.Tests.{le-leb, lt-leb}
 use Rattle.request.specs.declared.Plan.{Plan}
-use Rattle.search.specs.Loops.{loop}
-use Rattle.search.specs.Table.{Search, blank}
-use Rattle.search.specs.PhaseTwo.{nearestWord, put, walk, forwardBy, forward}
+use Rattle.graph.specs.Loops.{loop}
+use Rattle.graph.specs.Table.{Search, blank}
+use Rattle.graph.specs.PhaseTwo.{nearestWord, put, walk, forwardBy, forward}
 use Rattle.search.specs.Product.{Setting}
 use Rattle.search.specs.Moves.{expand, fromState}
-use Rattle.states.specs.Area.{stretch, found, Outside, outside}
+use Rattle.area.specs.Area.{stretch, found, Outside, outside}
 use Rattle.states.specs.Spots.{front}
 use Rattle.backward.specs.Stopped.{fromGoal, tableAfter, Stopped}
 use Rattle.finder.specs.Searching.{Searched, reachedIn, SearchedIn}

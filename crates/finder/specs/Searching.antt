@@ -13,9 +13,9 @@ use Rattle.request.specs.declared.Plan.{Plan}
 use Rattle.search.specs.Answer.{answer}
 use Rattle.search.specs.Along.{goal}
 use Rattle.search.specs.Moves.{expand, fromState}
-use Rattle.search.specs.Early.{Ended}
-use Rattle.search.specs.PhaseOne.{Progress, begun, advanceBy}
-use Rattle.search.specs.PhaseTwo.{forward}
+use Rattle.graph.specs.Early.{Ended}
+use Rattle.graph.specs.PhaseOne.{Progress, begun, advanceBy}
+use Rattle.graph.specs.PhaseTwo.{forward}
 use Rattle.search.specs.Product.{Setting}
 use Rattle.forward.specs.Posed.{Posed}
 use Rattle.finder.specs.Reply.{chain, too-long, settled, Said, found, none-found, refusal, said, outAfter}

@@ -8,12 +8,12 @@ use native.Mathlib.Omega.{arith}
 use lib.Dec.{eqb}
 use borrow.Author.Tests.{eq-eqb, ne-eqb}
 use Rattle.meaning.specs.Writing.{lineAt}
-use Rattle.automaton.specs.Program.{rowAt, followAt, depthAt, nodeIn}
+use Rattle.positions.specs.Program.{rowAt, followAt, depthAt, nodeIn}
 use Rattle.request.specs.Layout.{fromIn, toIn, kindIn}
 use Rattle.request.specs.declared.Plan.{Plan}
-use Rattle.search.specs.Plain.{memb}
-use Rattle.search.specs.Loops.{turns, turns-within}
-use Rattle.search.specs.Table.{Search}
+use Rattle.graph.specs.Plain.{memb}
+use Rattle.graph.specs.Loops.{turns, turns-within}
+use Rattle.graph.specs.Table.{Search}
 use Rattle.search.specs.Product.{Setting, stacks, state, placeOf, posOf, stackOf, cut, pushed}
 use Rattle.search.specs.Front.{line-at}
 use Rattle.search.specs.Loaded.{codeAt, wordAt, settingIn}

@@ -5,12 +5,12 @@ use mathlib.Core.List.{List, [], _∷_, _++_, map, append-nil, List·Memᴰ·hea
 use Prim.Native.Nat.{ℕ, zero, suc, _+_, _-_, _≤_}
 use native.Mathlib.Omega.{arith}
 use lib.Dec.{eqb}
-use Rattle.automaton.specs.Listed.{_∈_}
-use Rattle.automaton.specs.Program.{bitOf, membersFrom, members}
+use Rattle.lists.specs.Listed.{_∈_}
+use Rattle.positions.specs.Program.{bitOf, membersFrom, members}
 use Rattle.request.specs.Layout.{Laid}
 use Rattle.request.specs.declared.Plan.{Plan}
-use Rattle.search.specs.Plain.{filt, count}
-use Rattle.search.specs.Sets.{filt-in, count-in}
+use Rattle.graph.specs.Plain.{filt, count}
+use Rattle.graph.specs.Sets.{filt-in, count-in}
 use Rattle.search.specs.Along.{starting}
 use Rattle.search.specs.Loaded.{settingIn}
 use Rattle.search.specs.Front.{stateIn, starting-in}

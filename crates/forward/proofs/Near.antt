@@ -4,9 +4,9 @@ use mathlib.Core.List.{List}
 use Prim.Native.Nat.{ℕ, min}
 use lib.ListN.{getD}
 use borrow.Author.Tests.{eq-eqb, ne-eqb}
-use Rattle.automaton.specs.Program.{bitOf}
+use Rattle.positions.specs.Program.{bitOf}
 use Rattle.request.specs.declared.Plan.{Plan}
-use Rattle.search.specs.PhaseTwo.{lesserWord}
+use Rattle.graph.specs.PhaseTwo.{lesserWord}
 use Rattle.search.specs.Front.{stateIn}
 use Rattle.forward.specs.Firsts.{nearTurn}
 

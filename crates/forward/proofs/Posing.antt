@@ -12,9 +12,9 @@ use Rattle.meaning.specs.Pattern.{Pattern, commands}
 use Rattle.meaning.specs.Request.{Asked, askRequest}
 use Rattle.record.specs.Fit.{record-fits}
 use Rattle.record.specs.Whole.{linesIn, linesOf}
-use Rattle.automaton.specs.Program.{rowAt, Compiled}
+use Rattle.positions.specs.Program.{rowAt, Compiled}
 use Rattle.compiler.specs.Compiling.{Small}
-use Rattle.automaton.specs.Limits.{compiled-depth}
+use Rattle.positions.specs.Limits.{compiled-depth}
 use Rattle.boats.specs.Codes.{codes, code-low, codes-length}
 use Rattle.request.specs.Layout.{Laid, Planned, lineWord, fromIn, toIn, loadedOf}
 use Rattle.request.specs.Told.{Parts, Told}

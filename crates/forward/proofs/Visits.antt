@@ -8,15 +8,15 @@ use native.Mathlib.Omega.{arith}
 use lib.ListN.{getD}
 use lib.Pow.{shr-shr}
 use borrow.Author.Tests.{eq-eqb, ne-eqb}
-use Rattle.automaton.specs.Program.{bitOf, depthAt}
+use Rattle.positions.specs.Program.{bitOf, depthAt}
 use Rattle.request.specs.declared.Plan.{Plan}
-use Rattle.search.specs.Loops.{turns, turns-idle}
-use Rattle.search.specs.Table.{Search, push}
+use Rattle.graph.specs.Loops.{turns, turns-idle}
+use Rattle.graph.specs.Table.{Search, push}
 use Rattle.search.specs.Moves.{visit}
 use Rattle.search.specs.Front.{stateIn}
 use Rattle.states.specs.Spots.{nextTurn, Lowest}
 use Rattle.states.proofs.Masks.{bit-from}
-use Rattle.states.proofs.Changes.{turns-next}
+use Rattle.area.proofs.Changes.{turns-next}
 
 module _ (D : List ℕ) (w t : ℕ) (st : Search) where
   pub visit-all : w ≡ 0 → visit D w t st ≡ push 1 t st

@@ -8,12 +8,12 @@ use native.Mathlib.Nat.{zero-mod}
 use native.Mathlib.Omega.{arith}
 use lib.Dec.{eqb}
 use lib.ListN.{getD}
-use Rattle.automaton.specs.Program.{bitOf, depthAt}
+use Rattle.positions.specs.Program.{bitOf, depthAt}
 use Rattle.request.specs.declared.Plan.{Plan}
-use Rattle.search.specs.Plain.{filt, count}
-use Rattle.search.specs.Loops.{loop, turns, loop-map, loop-filt, loop-count, turns-same}
-use Rattle.search.specs.Table.{Search}
-use Rattle.search.specs.PhaseTwo.{lesserWord, nearestWord, put}
+use Rattle.graph.specs.Plain.{filt, count}
+use Rattle.graph.specs.Loops.{loop, turns, loop-map, loop-filt, loop-count, turns-same}
+use Rattle.graph.specs.Table.{Search}
+use Rattle.graph.specs.PhaseTwo.{lesserWord, nearestWord, put}
 use Rattle.search.specs.Moves.{visit, visit-put}
 use Rattle.search.specs.Front.{stateIn}
 use Rattle.states.specs.Spots.{nextTurn}

@@ -3,13 +3,13 @@
 ghost use mathlib.Core.Path.{_≡_};
 ghost use Prim.Native.Nat.{ℕ, _+_, _^_, _%_, _≤_, _<_};
 ghost use lib.ListN.{length};
-ghost use Rattle.automaton.specs.Program.{depthAt};
+ghost use Rattle.positions.specs.Program.{depthAt};
 ghost use Rattle.request.specs.Layout.{Laid};
 ghost use Rattle.search.specs.Front.{stateIn};
 ghost use Rattle.search.specs.Loaded.{settingAt};
-ghost use Rattle.search.specs.Loops.{turns};
+ghost use Rattle.graph.specs.Loops.{turns};
 ghost use Rattle.search.specs.Moves.{onward};
-ghost use Rattle.search.specs.PhaseTwo.{lesserWord, nearestWord};
+ghost use Rattle.graph.specs.PhaseTwo.{lesserWord, nearestWord};
 ghost use Rattle.states.specs.Pairs.{distances, ReadyForth, StepForth, seen};
 ghost use Rattle.states.specs.Spots.{Fit, nextTurn};
 ghost use Rattle.forward.specs.Firsts.{firstStates, nearTurn};
@@ -22,10 +22,10 @@ pub fn visit_state(work: &mut [u32], plan: Plan, want: u32, t: usize, tail: usiz
     ensures { λ r. ⌜ StepForth plan (seen plan (now (work .entry)) want t) tail (now (work .entry)) r (now (work .exit)) ⌝ }
 {
     if want == 0 {
-        return states::push_if_new(work, plan.marks, plan.size, 1, t, tail);
+        return area::push_if_new(work, plan.marks, plan.size, 1, t, tail);
     }
-    if states::word(work, plan.base + t) == want {
-        return states::push_if_new(work, plan.marks, plan.size, 1, t, tail);
+    if area::word(work, plan.base + t) == want {
+        return area::push_if_new(work, plan.marks, plan.size, 1, t, tail);
     }
     tail
 }
@@ -46,7 +46,7 @@ pub fn one_next(
     requires { ⌜ (to < plan .places) × (k ≤ plan .done) × (depthAt (now program) k ≤ plan .keeps) ⌝ }
     ensures { λ r. ⌜ StepForth plan (seen plan (now (work .entry)) want (stateIn plan to k (v % plan .radix ^ depthAt (now (program .entry)) k))) tail (now (work .entry)) r (now (work .exit)) ⌝ }
 {
-    let weight = states::power(plan.radix, automaton::depth_at(program, k));
+    let weight = states::power(plan.radix, positions::depth_at(program, k));
     let t = states::state_at(plan, to, k, states::cut(v, weight));
     visit_state(work, plan, want, t, tail)
 }
@@ -98,17 +98,17 @@ pub fn from_state(
     requires { ⌜ (i < plan .lines) × (s < plan .size) ⌝ }
     ensures { λ r. ⌜ StepForth plan (onward (settingAt (now (program .entry)) plan (now (work .entry))) (seen plan (now (work .entry)) want) i s) tail (now (work .entry)) r (now (work .exit)) ⌝ }
 {
-    let line = states::word(work, plan.words + i);
+    let line = area::word(work, plan.words + i);
     let from = request::from_of(line);
     if states::stands_at(plan, s, from) {
         let here = states::standing_at(plan, s, from);
         let at = here.position;
-        if request::kind_of(line) == automaton::kind_at(program, at) {
+        if request::kind_of(line) == positions::kind_at(program, at) {
             let spot = states::spot_at(program, plan.radix, at);
-            let code = states::word(work, plan.codes + i);
+            let code = area::word(work, plan.codes + i);
             if states::passes(plan.radix, spot, code, here.stack) {
                 let u = states::put_on(spot, here.stack, code);
-                let follow = automaton::follow_at(program, at);
+                let follow = positions::follow_at(program, at);
                 let to = request::to_of(line);
                 return over_next(work, plan, program, follow, want, to, u, tail);
             }
@@ -140,7 +140,7 @@ fn one_first(work: &[u32], plan: Plan, begin: u64, from: usize, k: usize, v: u32
 {
     if (begin >> k) % 2 == 1 {
         let s = states::state_at(plan, from, k, 0);
-        return lesser(v, states::word(work, plan.base + s));
+        return lesser(v, area::word(work, plan.base + s));
     }
     v
 }

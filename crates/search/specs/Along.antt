@@ -14,12 +14,12 @@ use Rattle.meaning.specs.Record.{Line}
 use Rattle.meaning.specs.Writing.{lineAt}
 use Rattle.meaning.specs.Language.{Letter}
 use Rattle.meaning.specs.Chain.{Exist, Leads, word}
-use Rattle.automaton.specs.Listed.{_∈_, none-in, anyOf-sound, anyOf-complete}
+use Rattle.lists.specs.Listed.{_∈_, none-in, anyOf-sound, anyOf-complete}
 use Rattle.automaton.specs.Automaton.{Node, Test, never, always, against, Reading, byBoat, met, acceptsAt, acceptsFrom, pushed as onto, passes as passesList}
 use Rattle.automaton.specs.Placed.{Within}
 use Rattle.automaton.specs.Shape.{deeper, Reads}
 use Rattle.automaton.specs.Readings.{AllOf, all-take, all-pushed, Alike, same-accepted}
-use Rattle.search.specs.Plain.{Run}
+use Rattle.graph.specs.Plain.{Run}
 use Rattle.search.specs.Digits.{pushOn, Low, num, num-lt, num-get, num-take, num-pushed, pow-pos}
 use Rattle.search.specs.Product.{Setting, stacks, state, cut, passes, pushed, succs}
 use Rattle.search.specs.Steps.{Sound, Ok, Move, fits, succs-sound, succs-complete, state-inj}

@@ -13,13 +13,14 @@ use Rattle.meaning.specs.Writing.{lineAt}
 use Rattle.meaning.specs.Pattern.{Pattern, commands, keeps}
 use Rattle.meaning.specs.Chain.{word, Accepted, LowerAtFirstDifference, Before, First}
 use Rattle.meaning.specs.Request.{searchSize}
-use Rattle.automaton.specs.Listed.{_∈_}
+use Rattle.lists.specs.Listed.{_∈_}
 use Rattle.automaton.specs.Automaton.{nodes, nodeAt, start}
 use Rattle.automaton.specs.Words.{same-words}
 use Rattle.automaton.specs.Shape.{shape, start-within}
-use Rattle.search.specs.Plain.{solve, Lex, Answer}
-use Rattle.search.specs.Forward.{solve-spec}
-use Rattle.search.specs.Order.{lex-read, answer-unique, answer-members}
+use Rattle.graph.specs.Plain.{solve, Lex, Answer}
+use Rattle.graph.specs.Forward.{solve-spec}
+use Rattle.graph.specs.Order.{answer-unique, answer-members}
+use Rattle.search.specs.Order.{lex-read}
 use Rattle.boats.specs.Codes.{codes, telling, code-low, code-compared}
 use Rattle.search.specs.Digits.{pow-pos}
 use Rattle.search.specs.Product.{Setting, stacks, state, succs, preds}

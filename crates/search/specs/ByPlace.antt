@@ -13,14 +13,14 @@ use lib.ListN.{length, getD, length-append}
 use lib.Seq.{getD-append-add}
 use borrow.Author.Tests.{eqb-true, eq-eqb}
 use Rattle.meaning.specs.Writing.{lineAt}
-use Rattle.automaton.specs.Listed.{_∈_, none-in, getD-in, when-sound}
-use Rattle.search.specs.Plain.{memb, filt, count}
-use Rattle.search.specs.Sets.{filt-in, count-in}
+use Rattle.lists.specs.Listed.{_∈_, none-in, getD-in, when-sound}
+use Rattle.graph.specs.Plain.{memb, filt, count}
+use Rattle.graph.specs.Sets.{filt-in, count-in}
 use Rattle.search.specs.Digits.{pow-pos}
-use Rattle.search.specs.Loops.{loop, turns, turns-idle}
-use Rattle.search.specs.Table.{Search, push}
-use Rattle.search.specs.Grows.{Grows, grows-none, grows-then}
-use Rattle.search.specs.PhaseTwo.{put, Tried, gather, try, try-next, try-here, from-grows}
+use Rattle.graph.specs.Loops.{loop, turns, turns-idle}
+use Rattle.graph.specs.Table.{Search, push}
+use Rattle.graph.specs.Grows.{Grows, grows-none, grows-then}
+use Rattle.graph.specs.PhaseTwo.{put, Tried, gather, try, try-next, try-here, from-grows}
 use Rattle.search.specs.Product.{Setting, stacks, state, placeOf, posOf, stackOf, cut, takes, pushed, following, succs}
 use Rattle.search.specs.Steps.{read-state}
 use Rattle.search.specs.Moves.{onward, fromState, from-law}

@@ -12,9 +12,9 @@ use borrow.Author.Tests.{ltb-true, lt-ltb}
 use Rattle.meaning.specs.Record.{Line}
 use Rattle.meaning.specs.Pattern.{Pattern}
 use Rattle.meaning.specs.Chain.{Exist, Accepted}
-use Rattle.automaton.specs.Listed.{_∈_}
-use Rattle.search.specs.Plain.{Run, memb, nub, flat}
-use Rattle.search.specs.Sets.{memb-in, in-memb, nub-in, flat-in}
+use Rattle.lists.specs.Listed.{_∈_}
+use Rattle.graph.specs.Plain.{Run, memb, nub, flat}
+use Rattle.graph.specs.Sets.{memb-in, in-memb, nub-in, flat-in}
 use Rattle.search.specs.Product.{succs}
 use Rattle.search.specs.Along.{goal}
 use Rattle.search.specs.Answer.{setting, starts, LinesWithin, runs}

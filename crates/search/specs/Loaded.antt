@@ -4,7 +4,7 @@ use Prim.Native.Nat.{ℕ, zero, suc, _+_}
 use lib.ListN.{getD, take}
 use Rattle.meaning.specs.Record.{Line}
 use Rattle.meaning.specs.Writing.{noLine}
-use Rattle.automaton.specs.Program.{nodeIn}
+use Rattle.positions.specs.Program.{nodeIn}
 use Rattle.boats.specs.Codes.{telling}
 use Rattle.request.specs.Layout.{fromIn, toIn, kindIn}
 use Rattle.request.specs.declared.Plan.{Plan}

@@ -9,10 +9,10 @@ use lib.Dec.{eqb, eqb·suc-zero}
 use lib.ListN.{length, getD}
 use Rattle.meaning.specs.Writing.{lineAt}
 use Rattle.automaton.specs.Shape.{leaves}
-use Rattle.search.specs.Plain.{memb, filt, flat, count}
-use Rattle.search.specs.Loops.{loop, turns, loop-map, loop-filt, loop-when, loop-count, loop-same, loop-for}
-use Rattle.search.specs.Table.{Search, push}
-use Rattle.search.specs.PhaseTwo.{put}
+use Rattle.graph.specs.Plain.{memb, filt, flat, count}
+use Rattle.graph.specs.Loops.{loop, turns, loop-map, loop-filt, loop-when, loop-count, loop-same, loop-for}
+use Rattle.graph.specs.Table.{Search, push}
+use Rattle.graph.specs.PhaseTwo.{put}
 use Rattle.search.specs.Product.{Setting, state, placeOf, posOf, stackOf, cut, takes, pushed, popped, succs, uncut, undoes, linesInto, sources, preds}
 
 module _ (S : Setting) where

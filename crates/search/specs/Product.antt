@@ -9,10 +9,10 @@ use lib.ListN.{length}
 use Rattle.meaning.specs.Record.{Line}
 use Rattle.meaning.specs.Writing.{lineAt}
 use Rattle.meaning.specs.Language.{Compared, meets}
-use Rattle.automaton.specs.Listed.{when}
+use Rattle.lists.specs.Listed.{when}
 use Rattle.automaton.specs.Automaton.{Node, Test, never, always, against}
 use Rattle.automaton.specs.Shape.{leaves}
-use Rattle.search.specs.Plain.{memb, filt, flat, count}
+use Rattle.graph.specs.Plain.{memb, filt, flat, count}
 use Rattle.search.specs.Digits.{entry, pushOn, popOff}
 
 -- what a search goes by: the lines, the number of each line's boat (below `radix`), what comparing two numbers tells,

@@ -13,19 +13,19 @@ use Rattle.meaning.specs.Writing.{noLine, lineAt}
 use Rattle.meaning.specs.Pattern.{Pattern, commands, keeps}
 use Rattle.meaning.specs.Request.{Asked, searchSize}
 use Rattle.record.specs.Fit.{Fit}
-use Rattle.automaton.specs.Listed.{_∈_}
+use Rattle.lists.specs.Listed.{_∈_}
 use Rattle.automaton.specs.Automaton.{nodes, nodeAt, start}
-use Rattle.automaton.specs.Program.{Compiled, members}
+use Rattle.positions.specs.Program.{Compiled, members}
 use Rattle.boats.specs.Codes.{codes, codes-length}
 use Rattle.request.specs.Layout.{Laid, Planned, lineWord, line-from, line-to, line-kind, loadedOf}
 use Rattle.request.specs.declared.Plan.{Plan}
-use Rattle.search.specs.Plain.{memb, solve}
-use Rattle.search.specs.Sets.{memb-same}
-use Rattle.search.specs.Loops.{loop}
-use Rattle.search.specs.Table.{Search, push}
-use Rattle.search.specs.PhaseOne.{begun, advanceBy}
-use Rattle.search.specs.PhaseTwo.{put, forward}
-use Rattle.search.specs.Early.{Ended, ended-is}
+use Rattle.graph.specs.Plain.{memb, solve}
+use Rattle.graph.specs.Sets.{memb-same}
+use Rattle.graph.specs.Loops.{loop}
+use Rattle.graph.specs.Table.{Search, push}
+use Rattle.graph.specs.PhaseOne.{begun, advanceBy}
+use Rattle.graph.specs.PhaseTwo.{put, forward}
+use Rattle.graph.specs.Early.{Ended, ended-is}
 use Rattle.search.specs.Product.{Setting, state, passes, succs, preds}
 use Rattle.search.specs.Along.{goal, starting}
 use Rattle.search.specs.Answer.{setting, starts, answer, starts-ok, goal-ok, sound, below-size, answer-any}

@@ -8,7 +8,7 @@ use Prim.Native.Nat.{ℕ}
 use lib.Dec.{eqb}
 use Rattle.meaning.specs.Record.{Line, boatsAfter}
 use Rattle.meaning.specs.Pattern.{Pattern, nothing, line, test, same, other, either, then, repeat, keep}
-use Rattle.search.specs.Plain.{solve, found, news, look, bfs, chosen, pick, first, next, level, nearest, lesser, isAt, memb, nub, filt, flat, count}
+use Rattle.graph.specs.Plain.{solve, found, news, look, bfs, chosen, pick, first, next, level, nearest, lesser, isAt, memb, nub, filt, flat, count}
 use Rattle.boats.specs.Codes.{codes}
 use Rattle.search.specs.Product.{stacks, state, placeOf, posOf, stackOf, succs, preds}
 use Rattle.meaning.specs.Request.{searchSize}

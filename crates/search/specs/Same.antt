@@ -13,12 +13,12 @@ use lib.ListN.{length}
 use borrow.Author.Tests.{ltb-true}
 use Rattle.meaning.specs.Writing.{lineAt}
 use Rattle.meaning.specs.Language.{meets}
-use Rattle.automaton.specs.Listed.{_∈_, when}
+use Rattle.lists.specs.Listed.{_∈_, when}
 use Rattle.automaton.specs.Automaton.{Test, never, always, against}
 use Rattle.automaton.specs.Shape.{deeper}
-use Rattle.automaton.specs.Program.{Alike}
-use Rattle.search.specs.Plain.{memb, nub, filt, flat, count, level, next, first, pick, nearest, chosen, found, look, solve}
-use Rattle.search.specs.Sets.{memb-same, filt-in, count-in}
+use Rattle.positions.specs.Program.{Alike}
+use Rattle.graph.specs.Plain.{memb, nub, filt, flat, count, level, next, first, pick, nearest, chosen, found, look, solve}
+use Rattle.graph.specs.Sets.{memb-same, filt-in, count-in}
 use Rattle.search.specs.Digits.{entry, pushOn, popOff}
 use Rattle.search.specs.Product.{Setting, stacks, state, placeOf, posOf, stackOf, cut, passes, takes, pushed, popped, following, succs, uncut, undoes, positions, linesInto, sources, preds}
 use Rattle.search.specs.Along.{goal, starting}

@@ -14,10 +14,10 @@ use lib.ListN.{length}
 use borrow.Author.Tests.{eqb-true, eq-eqb}
 use Rattle.meaning.specs.Writing.{lineAt}
 use Rattle.meaning.specs.Language.{compared}
-use Rattle.automaton.specs.Listed.{_∈_, when-sound, when-complete}
+use Rattle.lists.specs.Listed.{_∈_, when-sound, when-complete}
 use Rattle.automaton.specs.Shape.{deeper, leaves, Shape}
-use Rattle.search.specs.Plain.{memb, filt, count}
-use Rattle.search.specs.Sets.{memb-in, in-memb, filt-in, flat-in, count-in}
+use Rattle.graph.specs.Plain.{memb, filt, count}
+use Rattle.graph.specs.Sets.{memb-in, in-memb, filt-in, flat-in, count-in}
 use Rattle.search.specs.Digits.{pow-pos, pow-split, pop-push, push-lt, pop-lt}
 use Rattle.search.specs.Product.{Setting, stacks, state, placeOf, posOf, stackOf, cut, passes, pushed, popped, following, succs, uncut, undoes, positions, linesInto, sources, preds}
 

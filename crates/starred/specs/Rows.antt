@@ -10,7 +10,7 @@ use Rattle.meaning.specs.Record.{boatsAfter, entryAt, linesFrom, readRecord}
 use Rattle.meaning.specs.Pattern.{readPattern, readAt, commandAt, shapeOf}
 use Rattle.meaning.specs.Request.{searchSize, askRequest}
 use Rattle.boats.specs.Codes.{codes}
-use Rattle.search.specs.Plain.{solve, found, news, look, bfs, chosen, pick, first, next, level, nearest, lesser, isAt, memb, nub, filt, flat, count}
+use Rattle.graph.specs.Plain.{solve, found, news, look, bfs, chosen, pick, first, next, level, nearest, lesser, isAt, memb, nub, filt, flat, count}
 use Rattle.search.specs.Product.{stacks, state, placeOf, posOf, stackOf, succs, preds}
 use Rattle.search.specs.Answer.{setting, starts, answer}
 use Rattle.search.specs.Check.{exist, moved, check}

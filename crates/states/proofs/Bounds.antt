@@ -9,7 +9,7 @@ use lib.Arith.{digits-lt}
 use lib.ListN.{length, getD, take}
 use lib.Pow.{pow-add}
 use lib.Seq.{getD-take}
-use Rattle.automaton.specs.Program.{rowAt, depthAt}
+use Rattle.positions.specs.Program.{rowAt, depthAt}
 use Rattle.request.specs.Layout.{largest, Laid, toIn}
 use Rattle.request.specs.declared.Plan.{Plan}
 use Rattle.search.specs.Loaded.{codeAt, wordAt}

@@ -8,12 +8,12 @@ use native.Mathlib.Decide.{ℕ-discrete}
 use native.Mathlib.Omega.{arith}
 use lib.Dec.{eqb}
 use borrow.Author.Tests.{eq-eqb, ne-eqb}
-use Rattle.automaton.specs.Program.{bitOf, membersFrom, members, rowAt, testIn}
-use Rattle.automaton.specs.declared.Rule.{Rule}
-use Rattle.automaton.specs.declared.Rule.the-variants as Rule
+use Rattle.positions.specs.Program.{bitOf, membersFrom, members, rowAt, testIn}
+use Rattle.positions.specs.declared.Rule.{Rule}
+use Rattle.positions.specs.declared.Rule.the-variants as Rule
 use Rattle.boats.specs.Codes.{telling}
 use Rattle.request.specs.declared.Plan.{Plan}
-use Rattle.search.specs.Plain.{memb}
+use Rattle.graph.specs.Plain.{memb}
 use Rattle.search.specs.Digits.{pushOn, popOff}
 use Rattle.search.specs.Product.{passes}
 use Rattle.search.specs.Loaded.{settingIn}

@@ -6,8 +6,8 @@ use lib.Dec.{eqb}
 use borrow.Author.Tests.{eq-eqb, ne-eqb}
 use Rattle.meaning.specs.Language.{Compared, same-boat, other-boat, meets}
 use Rattle.meaning.specs.Pattern.{same, other}
-use Rattle.automaton.specs.declared.Rule.{Rule}
-use Rattle.automaton.specs.declared.Rule.the-variants as Rule
+use Rattle.positions.specs.declared.Rule.{Rule}
+use Rattle.positions.specs.declared.Rule.the-variants as Rule
 use Rattle.boats.specs.Codes.{telling}
 use Rattle.states.specs.Spots.{toldShown, sameShown, metBy, okay}
 use Rattle.states.specs.declared.Spot.{Spot}

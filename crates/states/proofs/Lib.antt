@@ -1,5 +1,3 @@
-pub mod Stretches
-pub mod Changes
 pub mod Bounds
 pub mod Comparing
 pub mod Standing

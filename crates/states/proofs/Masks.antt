@@ -5,7 +5,7 @@ use native.Mathlib.Nat.{div-one, div-lt-iff-lt-mul, pow-suc, div-add-mod', mod-l
 use native.Mathlib.Omega.{arith}
 use lib.Count.{trailingZeros, under}
 use lib.Pow.{shr-shr}
-use Rattle.automaton.specs.Program.{bitOf}
+use Rattle.positions.specs.Program.{bitOf}
 use Rattle.states.specs.Spots.{Lowest}
 
 -- the digits from digit k on

@@ -1,4 +1,3 @@
-pub mod Area
 pub mod Spots
 pub mod Served
 pub mod Pairs

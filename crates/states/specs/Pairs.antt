@@ -4,8 +4,8 @@ use mathlib.Core.List.{List}
 use Prim.Native.Nat.{ℕ}
 use Rattle.request.specs.declared.Plan.{Plan}
 use Rattle.search.specs.Moves.{visit}
-use Rattle.search.specs.Table.{Search}
-use Rattle.states.specs.Area.{stretch, found, Ready, Step}
+use Rattle.graph.specs.Table.{Search}
+use Rattle.area.specs.Area.{stretch, found, Ready, Step}
 
 -- ---- phase one
 

@@ -1,5 +1,5 @@
 -- Which lines can stand for which. Where of a line only the place that it comes from matters, and whether its boat passes, a few lines from
--- each place do for all. `Served` is the rule: for which sets of boats that pass this is to hold. Crate thinning keeps lines enough for
+-- each place do for all. `Served` is the rule: for which sets of boats that pass this is to hold. Crate thinned keeps lines enough for
 -- every set that is served (`Covered`), and crate ways goes over those alone where the boats that pass are such a set.
 use mathlib.Core.Path.{_≡_}
 use mathlib.Core.Bool.{Bool, true, false, not}

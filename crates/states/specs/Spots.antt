@@ -8,14 +8,14 @@ use lib.Dec.{eqb}
 use lib.ListN.{length, take}
 use Rattle.meaning.specs.Pattern.{same, other}
 use Rattle.meaning.specs.Language.{Compared, same-boat, other-boat, meets}
-use Rattle.automaton.specs.Program.{bitOf, rowAt, followAt, depthAt, leavesAt}
-use Rattle.automaton.specs.declared.Rule.{Rule}
-use Rattle.automaton.specs.declared.Rule.the-variants as Rule
+use Rattle.positions.specs.Program.{bitOf, rowAt, followAt, depthAt, leavesAt}
+use Rattle.positions.specs.declared.Rule.{Rule}
+use Rattle.positions.specs.declared.Rule.the-variants as Rule
 use Rattle.boats.specs.Codes.{telling}
 use Rattle.request.specs.Layout.{largest, Laid, fromIn, toIn, kindIn}
 use Rattle.request.specs.declared.Plan.{Plan}
-use Rattle.search.specs.Loops.{turns}
-use Rattle.search.specs.Table.{Search, push}
+use Rattle.graph.specs.Loops.{turns}
+use Rattle.graph.specs.Table.{Search, push}
 use Rattle.search.specs.Front.{stateIn}
 use Rattle.search.specs.Loaded.{codeAt, wordAt}
 use Rattle.states.specs.declared.Spot.{Spot}

@@ -1,108 +1,16 @@
-// The words of the lent work area, and boats, positions and states by their numbers: what each loop of the search does with one of them.
-// Each function that changes the area promises a `Step`: what the pair of stretches holds afterwards, and that every other word is as it was.
+// Boats, positions and states by their numbers: what each loop of the search does with one of them.
 ghost use mathlib.Core.Path.{_≡_};
 ghost use mathlib.Core.Bool.{true};
-ghost use Prim.Native.Nat.{ℕ, suc, _+_, _*_, _-_, _^_, _/_, _%_, _≤_, _<_};
+ghost use Prim.Native.Nat.{ℕ, _+_, _*_, _-_, _^_, _/_, _%_, _≤_, _<_};
 ghost use lib.Dec.{eqb};
-ghost use lib.ListN.{length, getD, set, replicate};
-ghost use Rattle.automaton.specs.Program.{rowAt, depthAt};
+ghost use Rattle.positions.specs.Program.{rowAt, depthAt};
 ghost use Rattle.boats.specs.Codes.{telling};
 ghost use Rattle.request.specs.Layout.{largest, scale};
-ghost use Rattle.search.specs.Table.{push};
-ghost use Rattle.states.specs.Area.{patch, found, Ready, Step};
 ghost use Rattle.states.specs.Served.{Thinnable};
 ghost use Rattle.states.specs.Spots.{toldShown, sameShown, metBy, spotIn, off, on, okay, TakenBy, OnlyKept, Lowest, targetIn};
-use automaton::Rule;
+use positions::Rule;
 use request::Plan;
 use request::SCALE;
-
-// ---- the work area
-
-// Word `i` of a part becomes `v`.
-fn put(part: &mut [u32], i: usize, v: u32)
-    requires { ⌜ i < length (now part) ⌝ }
-    ensures { λ _. ⌜ now (part .exit) ≡ set (now (part .entry)) i v ⌝ }
-{
-    part[i] = v;
-}
-
-// Word `i` of the stretch of `size` words from word `base` on becomes `v`.
-pub fn write(work: &mut [u32], base: usize, size: usize, i: usize, v: u32)
-    requires { ⌜ (base + size ≤ length (now work)) × (i < size) ⌝ }
-    ensures { λ _. ⌜ now (work .exit) ≡ set (now (work .entry)) (base + i) v ⌝ }
-{
-    put(&mut work[base..base + size], i, v);
-}
-
-// All words of `part` become 0.
-fn zero(part: &mut [u32])
-    ensures { λ _. ⌜ now (part .exit) ≡ replicate (length (now (part .entry))) 0 ⌝ }
-{
-    let mut i = 0;
-    while i < part.len() {
-        part[i] = 0;
-        i += 1;
-    }
-}
-
-// All words of the stretch of `size` words from word `base` on become 0.
-pub fn clear_stretch(work: &mut [u32], base: usize, size: usize)
-    requires { ⌜ base + size ≤ length (now work) ⌝ }
-    ensures { λ _. ⌜ now (work .exit) ≡ patch base size (replicate size 0) (now (work .entry)) ⌝ }
-{
-    zero(&mut work[base..base + size]);
-}
-
-// Word `i` of the area.
-pub fn word(work: &[u32], i: usize) -> u32
-    requires { ⌜ i < length (now work) ⌝ }
-    ensures { λ r. ⌜ r ≡ getD (now (work .entry)) i 0 ⌝ }
-{
-    work[i]
-}
-
-// The state `s` gets the word `d` and comes into the queue, unless it has a word. Returns how many are in the queue then.
-pub fn push_if_new(
-    work: &mut [u32],
-    base: usize,
-    size: usize,
-    d: u32,
-    s: usize,
-    tail: usize,
-) -> usize
-    requires { ⌜ Ready base size tail (now work) ⌝ }
-    requires { ⌜ (s < size) × (0 < d) × (d ≤ suc tail) ⌝ }
-    ensures { λ r. ⌜ Step base size (push d s) tail (now (work .entry)) r (now (work .exit)) ⌝ }
-{
-    let i = base + s;
-    if work[i] == 0 {
-        write(work, base, size, s, d);
-        write(work, base + size, size, tail, s as u32);
-        tail + 1
-    } else {
-        tail
-    }
-}
-
-// The state at place `i` of the queue.
-pub fn waiting(work: &[u32], base: usize, size: usize, tail: usize, i: usize) -> usize
-    requires { ⌜ Ready base size tail (now work) ⌝ }
-    requires { ⌜ i < tail ⌝ }
-    ensures { λ r. ⌜ (r ≡ getD (found base size tail (now (work .entry)) .queue) i 0) × (r < size) ⌝ }
-{
-    let k = base + size + i;
-    work[k] as usize
-}
-
-// The word of the state `s`.
-pub fn dist_at(work: &[u32], base: usize, size: usize, tail: usize, s: usize) -> u32
-    requires { ⌜ Ready base size tail (now work) ⌝ }
-    requires { ⌜ s < size ⌝ }
-    ensures { λ r. ⌜ (r ≡ getD (found base size tail (now (work .entry)) .dist) s 0) × (r ≤ tail) ⌝ }
-{
-    let k = base + s;
-    work[k]
-}
 
 // ---- boats
 
@@ -187,7 +95,7 @@ pub fn spot_at(program: &[u64; 128], radix: usize, c: usize) -> Spot
     requires { ⌜ (radix ^ rowAt (now program) c .level ≤ largest) × (radix ^ depthAt (now program) c ≤ largest) ⌝ }
     ensures { λ r. ⌜ r ≡ spotIn (now (program .entry)) radix c ⌝ }
 {
-    let row = automaton::row_at(program, c);
+    let row = positions::row_at(program, c);
     let level = power(radix, wide(row.level));
     let weight = power(radix, wide(row.depth));
     let rule = row.rule;
@@ -388,7 +296,7 @@ pub fn target_of(program: &[u64; 128], plan: Plan, t: usize) -> Target
     ensures { λ r. ⌜ r ≡ targetIn (now (program .entry)) plan t ⌝ }
 {
     let position = t / plan.stacks % (plan.done + 1);
-    let depth = automaton::depth_at(program, position);
+    let depth = positions::depth_at(program, position);
     let weight = power(plan.radix, depth);
     let stack = cut(t % plan.stacks, weight);
     Target {

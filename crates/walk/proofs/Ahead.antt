@@ -8,9 +8,9 @@ use lib.Dec.{eqb}
 use lib.ListN.{length, getD, set, take, drop, take-append-drop}
 use lib.Seq.{take-suc-set, drop-set-lt, drop-drop}
 use borrow.Author.Tests.{eq-eqb, ne-eqb}
-use Rattle.search.specs.Loops.{turns}
-use Rattle.search.specs.Table.{Search}
-use Rattle.search.specs.PhaseTwo.{Tried, gather, try, try-next, try-here, walk}
+use Rattle.graph.specs.Loops.{turns}
+use Rattle.graph.specs.Table.{Search}
+use Rattle.graph.specs.PhaseTwo.{Tried, gather, try, try-next, try-here, walk}
 use Rattle.search.specs.Product.{Setting}
 use Rattle.search.specs.Moves.{visit, onward, fromState, onward-from}
 use Rattle.walk.specs.Chosen.{tryTable, anything}

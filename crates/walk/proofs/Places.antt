@@ -12,29 +12,29 @@ use lib.ListN.{length, getD, take, drop}
 use lib.Seq.{drop-cons, getD-drop, take-take}
 use borrow.Author.Tests.{eq-eqb, ne-eqb, leb-true}
 use Rattle.meaning.specs.Record.{Line}
-use Rattle.automaton.specs.Listed.{_∈_, getD-in}
-use Rattle.automaton.specs.Program.{bitOf, nodeIn}
+use Rattle.lists.specs.Listed.{_∈_, getD-in}
+use Rattle.positions.specs.Program.{bitOf, nodeIn}
 use Rattle.request.specs.Layout.{Laid, orderedEnd}
 use Rattle.request.specs.declared.Plan.{Plan}
-use Rattle.search.specs.Plain.{filt, count}
-use Rattle.search.specs.Sets.{filt-in, count-in}
+use Rattle.graph.specs.Plain.{filt, count}
+use Rattle.graph.specs.Sets.{filt-in, count-in}
 use Rattle.search.specs.Same.{filt-same}
-use Rattle.search.specs.Loops.{loop}
-use Rattle.search.specs.Table.{Search, blank}
-use Rattle.search.specs.PhaseTwo.{Tried, put, gather, try}
+use Rattle.graph.specs.Loops.{loop}
+use Rattle.graph.specs.Table.{Search, blank}
+use Rattle.graph.specs.PhaseTwo.{Tried, put, gather, try}
 use Rattle.search.specs.Product.{Setting, stacks, placeOf}
 use Rattle.search.specs.Loaded.{settingIn}
 use Rattle.search.specs.Moves.{fromState}
 use Rattle.search.specs.Front.{stateIn, line-at}
 use Rattle.search.specs.ByPlace.{tryList, list-next, list-here, Stand, comesFrom, try-place, try-stand, put-stand}
-use Rattle.states.specs.Area.{stretch, found, Ready, Step, Under}
+use Rattle.area.specs.Area.{stretch, found, Ready, Step, Under}
 use Rattle.states.specs.Spots.{front, Starts, Fit}
 use Rattle.states.proofs.Bounds.{stacks-pos}
-use Rattle.states.proofs.Changes.{under-front, under-back, ready-long}
-use Rattle.states.proofs.Stretches.{stretch-get, stretch-length, stretch-take}
-use Rattle.sorting.specs.Sorting.{keys, keyIn, packIn, having, tableEnd, Run, Keyed}
-use Rattle.sorting.specs.Runs.{sorted-same}
-use Rattle.sorting.specs.declared.Order.the-variants as Order
+use Rattle.area.proofs.Changes.{under-front, under-back, ready-long}
+use Rattle.area.proofs.Stretches.{stretch-get, stretch-length, stretch-take}
+use Rattle.sorted.specs.Sorting.{keys, keyIn, packIn, having, tableEnd, Run, Keyed}
+use Rattle.sorted.specs.Runs.{sorted-same}
+use Rattle.sorted.specs.declared.Order.the-variants as Order
 use Rattle.forward.specs.Firsts.{firstStates}
 use Rattle.walk.specs.Chosen.{tryTable}
 use Rattle.walk.specs.Leading.{Ordered, Leading, placeAt, Standing, Together, leads}

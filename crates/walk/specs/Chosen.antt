@@ -1,7 +1,7 @@
 -- The table after a line is chosen, and a loop's end that is said elsewhere.
 use Prim.Native.Nat.{ℕ}
-use Rattle.search.specs.Table.{Search, blank}
-use Rattle.search.specs.PhaseTwo.{try}
+use Rattle.graph.specs.Table.{Search, blank}
+use Rattle.graph.specs.PhaseTwo.{try}
 
 -- the table after a line is chosen
 unfoldable pub tryTable : (ℕ → ℕ → ℕ → Search → Search) → ℕ → ℕ → ℕ → ℕ → Search → Search

@@ -6,15 +6,15 @@ use mathlib.Core.List.{List}
 use Prim.Native.Nat.{ℕ, _+_, _/_, _≤_, _<_}
 use lib.ListN.{getD}
 use Rattle.request.specs.declared.Plan.{Plan}
-use Rattle.search.specs.Loops.{loop}
-use Rattle.search.specs.Table.{Search, blank}
-use Rattle.search.specs.PhaseTwo.{try, put, walk}
+use Rattle.graph.specs.Loops.{loop}
+use Rattle.graph.specs.Table.{Search, blank}
+use Rattle.graph.specs.PhaseTwo.{try, put, walk}
 use Rattle.search.specs.Loaded.{settingAt}
 use Rattle.search.specs.Moves.{fromState}
 use Rattle.states.specs.Pairs.{distances, StepForth, foundForth}
 use Rattle.states.specs.Spots.{Fit}
-use Rattle.sorting.specs.Sorting.{Sorted}
-use Rattle.sorting.specs.declared.Order.the-variants as Order
+use Rattle.sorted.specs.Sorting.{Sorted}
+use Rattle.sorted.specs.declared.Order.the-variants as Order
 use Rattle.forward.specs.Firsts.{firstStates}
 use Rattle.walk.specs.Chosen.{tryTable}
 

@@ -6,12 +6,12 @@ ghost use mathlib.Core.List.{_++_};
 ghost use Prim.Native.Nat.{suc, _+_, _-_, _≤_, _<_};
 ghost use lib.ListN.{length, take, drop};
 ghost use Rattle.request.specs.Layout.{Laid};
-ghost use Rattle.search.specs.PhaseTwo.{gather};
+ghost use Rattle.graph.specs.PhaseTwo.{gather};
 ghost use Rattle.states.specs.Pairs.{ReadyForth, StepForth, foundForth};
 ghost use Rattle.states.specs.Spots.{front, Fit, Starts};
 ghost use Rattle.walk.specs.Leading.{Ordered, Leading, Standing, Together, leads, Chose, chainFrom, firstFrontier};
 use request::Plan;
-use sorting::Order;
+use sorted::Order;
 
 // ---- the lines in order of the place that they come from, after the frontiers
 
@@ -23,7 +23,7 @@ fn order_lines(work: &mut [u32], plan: Plan)
     ensures { λ _. ⌜ (take (plan .bystart) (now (work .exit)) ≡ take (plan .bystart) (now (work .entry))) × (length (now (work .exit)) ≡ length (now (work .entry))) ⌝ }
 {
     if plan.ordered {
-        sorting::sort_lines(work, plan, Order::Start);
+        sorted::sort_lines(work, plan, Order::Start);
     }
 }
 
@@ -45,7 +45,7 @@ pub fn gather_line(
     let mut t = tail;
     let mut j = lo;
     while j < tail {
-        let s = states::waiting(work, plan.marks, plan.size, t, j);
+        let s = area::waiting(work, plan.marks, plan.size, t, j);
         t = forward::from_state(work, plan, program, want, i, s, t);
         j += 1;
     }
@@ -92,7 +92,7 @@ fn place_of(work: &[u32], plan: Plan, lo: usize, tail: usize) -> usize
     ensures { λ r. ⌜ (r < plan .places) × Standing plan r lo tail (now (work .entry)) ⌝ }
 {
     if lo < tail {
-        let s = states::waiting(work, plan.marks, plan.size, tail, lo);
+        let s = area::waiting(work, plan.marks, plan.size, tail, lo);
         return s / plan.stacks / (plan.done + 1);
     }
     0
@@ -114,10 +114,10 @@ fn choose_here(
     ensures { λ r. ⌜ Chose plan (now (program .entry)) want lo tail (now (work .entry)) (r .line) (r .tail) (now (work .exit)) ⌝ }
 {
     let q = place_of(work, plan, lo, tail);
-    let run = sorting::run_of(work, plan, Order::Start, q);
+    let run = sorted::run_of(work, plan, Order::Start, q);
     let mut k = run.lo;
     while k < run.hi {
-        let i = states::word(work, k) as usize;
+        let i = area::word(work, k) as usize;
         let t = gather_line(work, plan, program, want, i, lo, tail);
         if t != tail {
             return Choice { line: i, tail: t };
@@ -193,7 +193,7 @@ pub fn chain_into(
     ensures { λ _. ⌜ now (out .exit) ≡ chainFrom (now (program .entry)) plan (nearest - 1) (firstFrontier plan begin from nearest (now (work .entry))) (now (work .entry)) ++ drop (nearest - 1) (now (out .entry)) ⌝ }
 {
     order_lines(work, plan);
-    states::clear_stretch(work, plan.marks, plan.size);
+    area::clear_stretch(work, plan.marks, plan.size);
     let tail = forward::over_next(work, plan, program, begin, nearest, from, 0, 0);
     walk_lines(work, plan, program, nearest - 1, tail, out)
 }

@@ -9,13 +9,13 @@ use lib.Dec.{eqb}
 use borrow.Author.Tests.{ne-eqb}
 use Rattle.request.specs.Layout.{largest}
 use Rattle.request.specs.declared.Plan.{Plan}
-use Rattle.search.specs.Loops.{turns}
-use Rattle.search.specs.Table.{Search, push}
+use Rattle.graph.specs.Loops.{turns}
+use Rattle.graph.specs.Table.{Search, push}
 use Rattle.states.specs.Spots.{okay, OnlyKept, stackTurn}
 use Rattle.states.specs.declared.Spot.{Spot}
 use Rattle.states.specs.declared.Target.{Target}
 use Rattle.states.proofs.Bounds.{power-fits, power-small}
-use Rattle.sorting.specs.Sorting.{packBy}
+use Rattle.sorted.specs.Sorting.{packBy}
 use Rattle.ways.specs.Ways.{Single, Before}
 use Rattle.ways.proofs.Right.{stack-plain, stack-pushed, stack-forgotten, stack-left, stack-fits}
 

@@ -12,14 +12,14 @@ use borrow.Author.Tests.{leb-true}
 use Rattle.request.specs.Layout.{Laid, filedEnd}
 use Rattle.request.specs.declared.Plan.{Plan}
 use Rattle.search.specs.Loaded.{wordAt}
-use Rattle.sorting.specs.Sorting.{keys, keyIn, packIn, sortedEnd, tableEnd, Sorted, Keyed, Kept}
-use Rattle.sorting.specs.Runs.{table-behind, kinds-end, boats-end}
-use Rattle.sorting.specs.declared.Order.{Order}
-use Rattle.sorting.specs.declared.Order.the-variants as Order
+use Rattle.sorted.specs.Sorting.{keys, keyIn, packIn, sortedEnd, tableEnd, Sorted, Keyed, Kept}
+use Rattle.sorted.specs.Runs.{table-behind, kinds-end, boats-end}
+use Rattle.sorted.specs.declared.Order.{Order}
+use Rattle.sorted.specs.declared.Order.the-variants as Order
 use Rattle.states.specs.Spots.{front}
-use Rattle.sorting.proofs.Turns.{kept-then, kept-take, kept-wider}
-use Rattle.thinning.specs.Runs.{stamps-are, from-places, sorted-kept}
-use Rattle.thinning.specs.Thinning.{FromPlaces, Thinned}
+use Rattle.sorted.proofs.Turns.{kept-then, kept-take, kept-wider}
+use Rattle.thinned.specs.Runs.{stamps-are, from-places, sorted-kept}
+use Rattle.thinned.specs.Thinning.{FromPlaces, Thinned}
 use Rattle.ways.specs.Filed.{Filed}
 use Rattle.ways.specs.Ways.{Told}
 

@@ -9,17 +9,17 @@ use native.Mathlib.Omega.{arith}
 use lib.Dec.{eqb}
 use lib.ListN.{length, getD, drop}
 use lib.Seq.{getD-drop}
-use Rattle.automaton.specs.Listed.{_∈_, getD-in}
+use Rattle.lists.specs.Listed.{_∈_, getD-in}
 use Rattle.request.specs.declared.Plan.{Plan}
-use Rattle.search.specs.Plain.{count}
-use Rattle.search.specs.Sets.{filt-in, count-in}
-use Rattle.sorting.specs.Sorting.{packBy, keyIn, packIn, having, sortedEnd, Run}
-use Rattle.sorting.specs.declared.Order.{Order}
-use Rattle.search.specs.Table.{Search, push}
-use Rattle.states.specs.Area.{stretch, found, Ready, Under}
+use Rattle.graph.specs.Plain.{count}
+use Rattle.graph.specs.Sets.{filt-in, count-in}
+use Rattle.sorted.specs.Sorting.{packBy, keyIn, packIn, having, sortedEnd, Run}
+use Rattle.sorted.specs.declared.Order.{Order}
+use Rattle.graph.specs.Table.{Search, push}
+use Rattle.area.specs.Area.{stretch, found, Ready, Under}
 use Rattle.states.specs.Spots.{front}
-use Rattle.states.proofs.Changes.{under-back}
-use Rattle.states.proofs.Stretches.{stretch-get, stretch-length}
+use Rattle.area.proofs.Changes.{under-back}
+use Rattle.area.proofs.Stretches.{stretch-get, stretch-length}
 use Rattle.ways.specs.Ways.{laneState, takenBy, laneTurn, runTurn}
 use Rattle.ways.specs.declared.Lane.{Lane}
 

@@ -14,11 +14,11 @@ use Rattle.request.specs.Layout.{largest, Laid, fromIn, toIn, kindIn}
 use Rattle.request.specs.declared.Plan.{Plan}
 use Rattle.search.specs.Front.{stateIn}
 use Rattle.search.specs.Loaded.{codeAt, wordAt}
-use Rattle.search.specs.Loops.{turns}
-use Rattle.search.specs.Table.{Search, push}
-use Rattle.sorting.specs.Runs.{turns-within}
-use Rattle.sorting.specs.Sorting.{packBy, keys, keyIn, packIn}
-use Rattle.sorting.specs.declared.Order.the-variants as Order
+use Rattle.graph.specs.Loops.{turns}
+use Rattle.graph.specs.Table.{Search, push}
+use Rattle.sorted.specs.Runs.{turns-within}
+use Rattle.sorted.specs.Sorting.{packBy, keys, keyIn, packIn}
+use Rattle.sorted.specs.declared.Order.the-variants as Order
 use Rattle.states.specs.Spots.{off, offBy, on, onBy, okay, OnlyKept, stackAt, stackTurn, lineTurn}
 use Rattle.states.specs.declared.Spot.{Spot}
 use Rattle.states.specs.declared.Target.{Target}

@@ -6,22 +6,22 @@ use Prim.Native.Nat.{ℕ, suc, _+_, _*_, _-_, _/_, _≤_, _<_}
 use native.Mathlib.Omega.{arith}
 use lib.Arith.{digits-lt}
 use lib.ListN.{length, getD}
-use Rattle.automaton.specs.Listed.{_∈_}
+use Rattle.lists.specs.Listed.{_∈_}
 use Rattle.request.specs.Layout.{Laid}
 use Rattle.request.specs.declared.Plan.{Plan}
-use Rattle.search.specs.Loops.{turns}
-use Rattle.search.specs.Table.{Search}
-use Rattle.sorting.specs.Runs.{turns-run, table-behind}
-use Rattle.sorting.specs.Sorting.{packBy, keys, packIn, Run}
-use Rattle.sorting.specs.declared.Order.the-variants as Order
-use Rattle.states.specs.Area.{stretch}
+use Rattle.graph.specs.Loops.{turns}
+use Rattle.graph.specs.Table.{Search}
+use Rattle.sorted.specs.Runs.{turns-run, table-behind}
+use Rattle.sorted.specs.Sorting.{packBy, keys, packIn, Run}
+use Rattle.sorted.specs.declared.Order.the-variants as Order
+use Rattle.area.specs.Area.{stretch}
 use Rattle.states.specs.Served.{Thinnable}
 use Rattle.states.specs.Spots.{front, lineTurn}
 use Rattle.states.specs.declared.Spot.{Spot}
 use Rattle.states.specs.declared.Target.{Target}
 use Rattle.states.proofs.Bounds.{state-low}
-use Rattle.thinning.specs.Runs.{from-places}
-use Rattle.thinning.specs.Thinning.{ThinRun}
+use Rattle.thinned.specs.Runs.{from-places}
+use Rattle.thinned.specs.Thinning.{ThinRun}
 use Rattle.ways.specs.Filed.{Filed}
 use Rattle.ways.specs.Stacked.{stackedTurn, Enough}
 use Rattle.ways.specs.Ways.{runTurn, Told}

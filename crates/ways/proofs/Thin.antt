@@ -13,20 +13,20 @@ use lib.Dec.{eqb}
 use lib.ListN.{length, getD, set, length-set}
 use lib.Seq.{getD-set-same, getD-set-other}
 use borrow.Author.Tests.{eqb-true, eqb-false, ne-eqb}
-use Rattle.automaton.specs.Listed.{_∈_, none-in}
+use Rattle.lists.specs.Listed.{_∈_, none-in}
 use Rattle.request.specs.declared.Plan.{Plan}
 use Rattle.search.specs.Front.{stateIn}
-use Rattle.search.specs.Loops.{loop, turns, loop-append, turns-same, turns-idle}
-use Rattle.search.specs.Table.{Search, push}
-use Rattle.sorting.specs.Runs.{turns-run, loop-stretch}
-use Rattle.sorting.specs.Sorting.{packBy, sortedEnd, Run}
-use Rattle.sorting.specs.declared.Order.the-variants as Order
-use Rattle.states.specs.Area.{stretch}
+use Rattle.graph.specs.Loops.{loop, turns, loop-append, turns-same, turns-idle}
+use Rattle.graph.specs.Table.{Search, push}
+use Rattle.sorted.specs.Runs.{turns-run, loop-stretch}
+use Rattle.sorted.specs.Sorting.{packBy, sortedEnd, Run}
+use Rattle.sorted.specs.declared.Order.the-variants as Order
+use Rattle.area.specs.Area.{stretch}
 use Rattle.states.specs.Served.{Served, Thinnable}
 use Rattle.states.specs.Spots.{front, okay}
 use Rattle.states.specs.declared.Spot.{Spot}
 use Rattle.states.specs.declared.Target.{Target}
-use Rattle.thinning.specs.Thinning.{Covered, Thin, empty, kept, left, ThinRun}
+use Rattle.thinned.specs.Thinning.{Covered, Thin, empty, kept, left, ThinRun}
 use Rattle.ways.specs.Stacked.{stackedTurn}
 use Rattle.ways.specs.Ways.{laneState, takenBy, laneTurn, ThinLane, runTurn, Gives}
 use Rattle.ways.specs.declared.Lane.{Lane}

@@ -5,9 +5,9 @@ use Prim.Native.Nat.{ℕ, _≤_}
 use lib.ListN.{length}
 use Rattle.request.specs.Layout.{filedEnd}
 use Rattle.request.specs.declared.Plan.{Plan}
-use Rattle.sorting.specs.Sorting.{Sorted}
-use Rattle.sorting.specs.declared.Order.the-variants as Order
-use Rattle.thinning.specs.Thinning.{Thinned}
+use Rattle.sorted.specs.Sorting.{Sorted}
+use Rattle.sorted.specs.declared.Order.the-variants as Order
+use Rattle.thinned.specs.Thinning.{Thinned}
 
 pub record Filed (plan : Plan) (w : List ℕ) : Type 0 where
   pub room : filedEnd plan ≤ length w

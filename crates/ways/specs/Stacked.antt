@@ -5,12 +5,12 @@ use Prim.Native.Nat.{ℕ, _+_, _-_, _/_, _%_, _≤_, _<_}
 use lib.ListN.{length, getD}
 use Rattle.request.specs.declared.Plan.{Plan}
 use Rattle.search.specs.Front.{stateIn}
-use Rattle.search.specs.Loops.{turns}
-use Rattle.search.specs.Table.{Search}
+use Rattle.graph.specs.Loops.{turns}
+use Rattle.graph.specs.Table.{Search}
 use Rattle.states.specs.Spots.{front, stackTurn, lineTurn, Stacks}
 use Rattle.states.specs.declared.Spot.{Spot}
 use Rattle.states.specs.declared.Target.{Target}
-use Rattle.sorting.specs.Sorting.{packBy}
+use Rattle.sorted.specs.Sorting.{packBy}
 
 -- the words from lo up to hi stand after the pair of stretches, and say places
 pub record Words (plan : Plan) (w : List ℕ) (lo hi : ℕ) : Type 0 where

@@ -10,11 +10,11 @@ use lib.ListN.{getD}
 use Rattle.request.specs.Layout.{largest, Laid, fromIn, toIn}
 use Rattle.request.specs.declared.Plan.{Plan}
 use Rattle.search.specs.Loaded.{codeAt, wordAt}
-use Rattle.search.specs.Loops.{turns}
-use Rattle.search.specs.Table.{Search, push}
-use Rattle.sorting.specs.Sorting.{packBy, keys, keyIn, packIn}
-use Rattle.sorting.specs.declared.Order.{Order}
-use Rattle.sorting.specs.declared.Order.the-variants as Order
+use Rattle.graph.specs.Loops.{turns}
+use Rattle.graph.specs.Table.{Search, push}
+use Rattle.sorted.specs.Sorting.{packBy, keys, keyIn, packIn}
+use Rattle.sorted.specs.declared.Order.{Order}
+use Rattle.sorted.specs.declared.Order.the-variants as Order
 use Rattle.states.specs.Served.{Served}
 use Rattle.states.specs.Spots.{stackTurn, lineTurn, Aimed, Sane}
 use Rattle.states.specs.declared.Spot.{Spot}

@@ -3,21 +3,21 @@ ghost use mathlib.Core.Path.{_≡_};
 ghost use Prim.Native.Nat.{ℕ, suc, _+_, _*_, _-_, _^_, _/_, _%_, _≤_, _<_};
 ghost use lib.ListN.{length, getD};
 ghost use Rattle.request.specs.Layout.{largest, Laid, filedEnd};
-ghost use Rattle.search.specs.Loops.{turns};
-ghost use Rattle.states.specs.Area.{Ready, Step};
+ghost use Rattle.graph.specs.Loops.{turns};
+ghost use Rattle.area.specs.Area.{Ready, Step};
 ghost use Rattle.states.specs.Pairs.{StepBack};
 ghost use Rattle.ways.specs.Ways.{laneState, takenBy, laneTurn, LaneTo, Narrow, ThinLane, Within, runTurn, Told, Gives, Single, Right, Before};
 ghost use mathlib.Core.Bool.{true, not};
 ghost use lib.Dec.{eqb};
-ghost use Rattle.sorting.specs.Sorting.{keys, tableAt, tableEnd, Sorted, Kept};
+ghost use Rattle.sorted.specs.Sorting.{keys, tableAt, tableEnd, Sorted, Kept};
 ghost use Rattle.ways.specs.Stacked.{Enough};
 ghost use Rattle.ways.specs.Filed.{Filed};
-ghost use Rattle.sorting.specs.declared.Order.the-variants as Orders;
+ghost use Rattle.sorted.specs.declared.Order.the-variants as Orders;
 ghost use Rattle.states.specs.Spots.{front};
 use request::Plan;
-use sorting::Bounds;
-use sorting::Order;
-use sorting::PACK;
+use sorted::Bounds;
+use sorted::Order;
+use sorted::PACK;
 use states::Spot;
 use states::Takes;
 use states::Target;
@@ -73,9 +73,9 @@ fn one_word(
     requires { ⌜ (0 < d) × (d ≤ suc tail) × (p < length (now work)) × (laneState lane (getD (now work) p 0) < size) ⌝ }
     ensures { λ r. ⌜ Step base size (laneTurn d lane (getD (now (work .entry)) p 0)) tail (now (work .entry)) r (now (work .exit)) ⌝ }
 {
-    let e = states::word(work, p);
+    let e = area::word(work, p);
     if taken(lane, (e % PACK) as usize) {
-        return states::push_if_new(work, base, size, d, lane_state(lane, e), tail);
+        return area::push_if_new(work, base, size, d, lane_state(lane, e), tail);
     }
     tail
 }
@@ -240,7 +240,7 @@ pub fn over_run(
     requires { ⌜ Narrow lane × Gives order plan (front plan (now work)) k lane × (0 < d) × (d ≤ suc tail) ⌝ }
     ensures { λ r. ⌜ StepBack plan (turns (runTurn order plan (front plan (now (work .entry))) k (laneTurn d lane)) 0 (plan .lines)) tail (now (work .entry)) r (now (work .exit)) ⌝ }
 {
-    let run = sorting::run_of(work, plan, order, k);
+    let run = sorted::run_of(work, plan, order, k);
     over_words(work, plan.base, plan.size, lane, d, run.lo, run.hi, tail)
 }
 
@@ -261,7 +261,7 @@ pub fn over_thin(work: &mut [u32], plan: Plan, k: usize, lane: Lane, d: u32, tai
     requires { ⌜ Narrow lane × Gives Orders.Kind plan (front plan (now work)) k lane × ThinLane lane × (0 < d) × (d ≤ suc tail) ⌝ }
     ensures { λ r. ⌜ StepBack plan (turns (runTurn Orders.Kind plan (front plan (now (work .entry))) k (laneTurn d lane)) 0 (plan .lines)) tail (now (work .entry)) r (now (work .exit)) ⌝ }
 {
-    let run = thinning::thin_of(work, plan, k);
+    let run = thinned::thin_of(work, plan, k);
     over_words(work, plan.base, plan.size, lane, d, run.lo, run.hi, tail)
 }
 
@@ -277,9 +277,9 @@ pub fn lines_for(work: &[u32], plan: Plan, spot: Spot, target: Target) -> Bounds
 {
     let k = target.place * 16 + spot.kind;
     if states::thinnable(spot) {
-        return thinning::thin_of(work, plan, k);
+        return thinned::thin_of(work, plan, k);
     }
-    sorting::run_of(work, plan, Order::Kind, k)
+    sorted::run_of(work, plan, Order::Kind, k)
 }
 
 // The lines are sorted by kind and by boat, and thinned, where there is room.
@@ -292,7 +292,7 @@ pub fn file_lines(work: &mut [u32], plan: Plan)
     if !plan.filed {
         return;
     }
-    sorting::sort_lines(work, plan, Order::Kind);
-    sorting::sort_lines(work, plan, Order::Boat);
-    thinning::thin_lines(work, plan);
+    sorted::sort_lines(work, plan, Order::Kind);
+    sorted::sort_lines(work, plan, Order::Boat);
+    thinned::thin_lines(work, plan);
 }

@@ -9,7 +9,7 @@ use Rattle.states.proofs.Bounds.{stacks-pos}
 use Rattle.search.specs.Front.{goal-in}
 use Rattle.expanding.proofs.Backs.{backing-under}
 use Rattle.backward.proofs.Stopping.{goal-begun, stopped-after}
-use Rattle.states.proofs.Changes.{cleared-ready, step-cleared, step-under, under-front}
+use Rattle.area.proofs.Changes.{cleared-ready, step-cleared, step-under, under-front}
 use borrow.Author.Needs.{needs}
 use Rattle.backward.proofs.distances.Statement.{statement}
 use Rattle.backward.proofs.distances.Tie as tie

@@ -9,7 +9,7 @@ use Rattle.search.specs.Moves.{expand}
 use Rattle.states.specs.Spots.{front, Fit}
 use Rattle.expanding.proofs.Backs.{backing-under}
 use Rattle.backward.proofs.Stopping.{met-near, Going, going-start, going-end, going-met, going-next}
-use Rattle.states.proofs.Changes.{step-under, under-front}
+use Rattle.area.proofs.Changes.{step-under, under-front}
 use borrow.Author.Needs.{needs}
 use Rattle.backward.proofs.search_back.Statement.{statement}
 use Rattle.backward.proofs.search_back.Tie as tie

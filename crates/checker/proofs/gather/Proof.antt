@@ -3,11 +3,11 @@ use mathlib.Core.Path.{_≡_, sym, _∙_, subst}
 use Prim.Native.Nat.{_+_, _-_, _<_, _≤_}
 use native.Mathlib.Omega.{arith}
 use lib.ListN.{length, getD}
-use Rattle.search.specs.Loops.{turns}
-use Rattle.states.specs.Area.{Under}
+use Rattle.graph.specs.Loops.{turns}
+use Rattle.area.specs.Area.{Under}
 use Rattle.search.specs.Loaded.{settingIn}
 use Rattle.states.specs.Spots.{front}
-use Rattle.states.proofs.Changes.{loop-start, loop-turn, loop-end, under-stretch, under-front}
+use Rattle.area.proofs.Changes.{loop-start, loop-turn, loop-end, under-stretch, under-front}
 use Rattle.checker.specs.Walk.{marks, listTurn}
 use Rattle.states.proofs.Bounds.{fit-same}
 use Rattle.checker.proofs.Moving.{front-word}

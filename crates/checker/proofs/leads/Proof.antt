@@ -6,9 +6,9 @@ use native.Mathlib.Omega.{arith}
 use lib.ListN.{length}
 use mathlib.Core.List.{List}
 use Prim.Native.Nat.{ℕ}
-use Rattle.automaton.specs.Program.{members}
+use Rattle.positions.specs.Program.{members}
 use Rattle.request.specs.Layout.{Laid}
-use Rattle.search.specs.Plain.{memb}
+use Rattle.graph.specs.Plain.{memb}
 use Rattle.search.specs.Product.{succs}
 use Rattle.search.specs.Along.{goal, starting}
 use Rattle.search.specs.Check.{moved}
@@ -16,7 +16,7 @@ use Rattle.search.specs.Loaded.{settingIn}
 use Rattle.states.specs.Spots.{front}
 use Rattle.search.specs.Front.{goal-in}
 use Rattle.states.proofs.Bounds.{stacks-pos}
-use Rattle.states.proofs.Changes.{cleared-under}
+use Rattle.area.proofs.Changes.{cleared-under}
 use Rattle.forward.specs.Firsts.{firstStates}
 use Rattle.checker.specs.Walk.{seeded, walked, marks, Advanced}
 use Rattle.states.proofs.Bounds.{fit-same}

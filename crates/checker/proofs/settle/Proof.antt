@@ -3,7 +3,7 @@ use mathlib.Core.Path.{_≡_, sym, subst}
 use Prim.Native.Nat.{_-_, _<_, _≤_}
 use native.Mathlib.Omega.{arith}
 use Rattle.request.specs.Layout.{Laid}
-use Rattle.states.proofs.Changes.{ready-state}
+use Rattle.area.proofs.Changes.{ready-state}
 use Rattle.checker.specs.Walk.{Aside}
 use Rattle.checker.proofs.Moving.{aside-none, aside-at, aside-turn}
 use borrow.Author.Needs.{needs}

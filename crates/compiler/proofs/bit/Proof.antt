@@ -3,7 +3,7 @@ use mathlib.Core.Path.{sym, subst}
 use mathlib.Core.List.{[], _∷_}
 use Prim.Native.Nat.{ℕ}
 use borrow.Author.Needs.{needs}
-use Rattle.automaton.specs.Masks.{Marks, marks-one}
+use Rattle.positions.specs.Masks.{Marks, marks-one}
 use Rattle.compiler.proofs.Beginnings.{shl-one}
 use Rattle.compiler.proofs.bit.Statement.{statement}
 use Rattle.compiler.proofs.bit.Tie as tie

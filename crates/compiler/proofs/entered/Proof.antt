@@ -3,7 +3,7 @@ use mathlib.Core.Path.{subst}
 use mathlib.Core.Bool.{Bool, cond}
 use lib.Bits.{bitOr}
 use Rattle.automaton.specs.Automaton.{enter}
-use Rattle.automaton.specs.Masks.{Marks}
+use Rattle.positions.specs.Masks.{Marks}
 use Rattle.compiler.proofs.Beginnings.{enter-marked}
 use Rattle.compiler.proofs.entered.Statement.{statement}
 use Rattle.compiler.proofs.entered.Tie as tie

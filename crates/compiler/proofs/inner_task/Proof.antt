@@ -5,7 +5,7 @@ use Prim.Native.Nat.{_<_}
 use lib.ListN.{length}
 use borrow.Author.Needs.{needs}
 use borrow.Author.Tests.{eq-eqb, ne-eqb}
-use Rattle.automaton.specs.Masks.{marks-append}
+use Rattle.positions.specs.Masks.{marks-append}
 use Rattle.compiler.proofs.Tasks.{levels-inside, depth-inside}
 use Rattle.compiler.proofs.inner_task.Statement.{statement}
 use Rattle.compiler.proofs.inner_task.Tie as tie

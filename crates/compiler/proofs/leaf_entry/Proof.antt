@@ -6,8 +6,8 @@ use native.Mathlib.Omega.{arith}
 use lib.ListN.{getD}
 use borrow.Author.Needs.{needs}
 use Rattle.automaton.specs.Automaton.{always, levelOf, testOf}
-use Rattle.automaton.specs.Program.{testIn}
-use Rattle.automaton.specs.declared.Rule.{Rule}
+use Rattle.positions.specs.Program.{testIn}
+use Rattle.positions.specs.declared.Rule.{Rule}
 use Rattle.compiler.specs.Compiling.{firstNode, mark, askedRule}
 use Rattle.compiler.proofs.Beginnings.{leaf-nothing}
 use Rattle.compiler.proofs.Entries.{says-as, ruleOf, node-line, node-test, level-none, level-some, level-fits}

@@ -2,9 +2,9 @@
 use mathlib.Core.Path.{sym, ap, _∙_}
 use Prim.Native.Nat.{_-_}
 use lib.ListN.{getD}
-use Rattle.search.specs.Loops.{turns}
-use Rattle.states.specs.Area.{found}
-use Rattle.states.proofs.Changes.{step-as}
+use Rattle.graph.specs.Loops.{turns}
+use Rattle.area.specs.Area.{found}
+use Rattle.area.proofs.Changes.{step-as}
 use Rattle.ways.proofs.Lanes.{found-long}
 use Rattle.expanding.specs.Undoing.{wordUndone}
 use Rattle.expanding.proofs.Undone.{by-word, undo-power, undo-leads, undo-goes, undo-fits}

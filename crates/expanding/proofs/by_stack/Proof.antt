@@ -1,9 +1,9 @@
 -- `expanding::by_stack` meets its contract: the stacks tried are those of the depth, and each is one of the stacks. Assumes nothing.
 use mathlib.Core.Path.{sym, ap, _∙_}
-use Rattle.search.specs.Loops.{turns}
-use Rattle.states.specs.Area.{found}
+use Rattle.graph.specs.Loops.{turns}
+use Rattle.area.specs.Area.{found}
 use Rattle.states.specs.Spots.{front}
-use Rattle.states.proofs.Changes.{step-as}
+use Rattle.area.proofs.Changes.{step-as}
 use Rattle.expanding.specs.Undoing.{lineUndone}
 use Rattle.expanding.proofs.Undone.{by-line, undo-power, undo-leads, undo-goes}
 use borrow.Author.Needs.{needs}

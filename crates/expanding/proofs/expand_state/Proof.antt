@@ -5,16 +5,16 @@ use mathlib.Core.List.{List}
 use Prim.Native.Nat.{ℕ, _-_, _≤_}
 use native.Mathlib.Nat.{sub-zero}
 use native.Mathlib.Omega.{arith}
-use Rattle.automaton.specs.Program.{bitOf}
-use Rattle.search.specs.Loops.{turns}
-use Rattle.states.specs.Area.{found, Under, Step}
+use Rattle.positions.specs.Program.{bitOf}
+use Rattle.graph.specs.Loops.{turns}
+use Rattle.area.specs.Area.{found, Under, Step}
 use Rattle.search.specs.Loaded.{settingIn}
 use Rattle.search.specs.Moves.{expand}
 use Rattle.states.specs.Spots.{front, Fit, spotTurn}
 use Rattle.states.proofs.Bounds.{stacks-pos, power-small, aimed}
 use Rattle.expanding.proofs.Bridge.{expand-is}
 use Rattle.expanding.proofs.Backs.{spot-passed, backing-under}
-use Rattle.states.proofs.Changes.{under-as, step-none, loop-turn, loop-end, under-front}
+use Rattle.area.proofs.Changes.{under-as, step-none, loop-turn, loop-end, under-front}
 use borrow.Author.Needs.{needs}
 use Rattle.expanding.proofs.expand_state.Statement.{statement}
 use Rattle.expanding.proofs.expand_state.Tie as tie

@@ -4,14 +4,14 @@ use mathlib.Core.List.{List}
 use Prim.Native.Nat.{ℕ, _-_, _^_, _≤_}
 use native.Mathlib.Omega.{arith}
 use lib.ListN.{length}
-use Rattle.automaton.specs.Program.{leavesAt, kind-few}
+use Rattle.positions.specs.Program.{leavesAt, kind-few}
 use Rattle.automaton.specs.Shape.{deeper}
-use Rattle.search.specs.Table.{Search}
+use Rattle.graph.specs.Table.{Search}
 use Rattle.states.specs.Spots.{front, Fit, spotIn, spotTurn}
 use Rattle.expanding.specs.Undoing.{linesBack}
 use Rattle.states.specs.declared.Spot.{Spot}
 use Rattle.states.proofs.Bounds.{power-small, spot-sane}
-use Rattle.states.proofs.Changes.{step-as}
+use Rattle.area.proofs.Changes.{step-as}
 use Rattle.expanding.proofs.Backs.{spot-taken, told-fit}
 use Rattle.ways.specs.Ways.{Before}
 use borrow.Author.Needs.{needs}

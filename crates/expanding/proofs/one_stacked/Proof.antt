@@ -2,9 +2,9 @@
 -- Assumes nothing.
 use mathlib.Core.Path.{sym, subst}
 use Prim.Native.Nat.{_/_, _<_}
-use Rattle.sorting.specs.Sorting.{packBy}
+use Rattle.sorted.specs.Sorting.{packBy}
 use Rattle.states.proofs.Bounds.{stacks-pos}
-use Rattle.states.proofs.Changes.{step-as}
+use Rattle.area.proofs.Changes.{step-as}
 use Rattle.expanding.proofs.Undone.{home-in, word-is}
 use borrow.Author.Needs.{needs}
 use Rattle.expanding.proofs.one_stacked.Statement.{statement}

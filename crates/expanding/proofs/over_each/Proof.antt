@@ -3,10 +3,10 @@ use mathlib.Core.Path.{sym, subst}
 use Prim.Native.Nat.{_-_, _≤_}
 use native.Mathlib.Omega.{arith}
 use Rattle.request.specs.Layout.{Laid}
-use Rattle.search.specs.Loops.{turns}
-use Rattle.states.specs.Area.{Under}
+use Rattle.graph.specs.Loops.{turns}
+use Rattle.area.specs.Area.{Under}
 use Rattle.states.specs.Spots.{stackTurn}
-use Rattle.states.proofs.Changes.{loop-start, loop-turn, loop-end}
+use Rattle.area.proofs.Changes.{loop-start, loop-turn, loop-end}
 use Rattle.expanding.specs.Undoing.{undone}
 use borrow.Author.Needs.{needs}
 use Rattle.expanding.proofs.over_each.Statement.{statement}

@@ -3,9 +3,9 @@ use Prim.Native.Nat.{_+_, _*_, _-_, _≤_, _<_}
 use native.Mathlib.Nat.{zero-mul}
 use native.Mathlib.Omega.{arith}
 use Rattle.request.specs.Layout.{largest}
-use Rattle.search.specs.Loops.{turns}
-use Rattle.states.specs.Area.{Under}
-use Rattle.states.proofs.Changes.{loop-start, loop-turn, loop-end}
+use Rattle.graph.specs.Loops.{turns}
+use Rattle.area.specs.Area.{Under}
+use Rattle.area.proofs.Changes.{loop-start, loop-turn, loop-end}
 use Rattle.expanding.specs.Stepping.{entriesTurn}
 use Rattle.expanding.proofs.Entries.{le-product}
 use borrow.Author.Needs.{needs}

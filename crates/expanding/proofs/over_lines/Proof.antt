@@ -2,10 +2,10 @@
 use mathlib.Core.Path.{sym, subst}
 use Prim.Native.Nat.{_-_, _≤_}
 use native.Mathlib.Omega.{arith}
-use Rattle.search.specs.Loops.{turns}
-use Rattle.states.specs.Area.{Under}
+use Rattle.graph.specs.Loops.{turns}
+use Rattle.area.specs.Area.{Under}
 use Rattle.states.specs.Spots.{front, Starts}
-use Rattle.states.proofs.Changes.{loop-start, loop-turn, loop-end, under-front}
+use Rattle.area.proofs.Changes.{loop-start, loop-turn, loop-end, under-front}
 use Rattle.expanding.specs.Undoing.{lineUndone}
 use Rattle.expanding.proofs.Undone.{undoing-under}
 use borrow.Author.Needs.{needs}

@@ -1,10 +1,10 @@
 -- `expanding::over_low` meets its contract, by what is left of its turns. Assumes nothing.
 use Prim.Native.Nat.{_+_, _*_, _-_, _≤_}
 use native.Mathlib.Omega.{arith}
-use Rattle.search.specs.Loops.{turns}
-use Rattle.search.specs.Table.{push}
-use Rattle.states.specs.Area.{Under}
-use Rattle.states.proofs.Changes.{loop-start, loop-turn, loop-end}
+use Rattle.graph.specs.Loops.{turns}
+use Rattle.graph.specs.Table.{push}
+use Rattle.area.specs.Area.{Under}
+use Rattle.area.proofs.Changes.{loop-start, loop-turn, loop-end}
 use borrow.Author.Needs.{needs}
 use Rattle.expanding.proofs.over_low.Statement.{statement}
 use Rattle.expanding.proofs.over_low.Tie as tie

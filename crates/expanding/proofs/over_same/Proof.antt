@@ -1,6 +1,6 @@
 -- `expanding::over_same` meets its contract: the entry compared is the same for all stacks, or the line's boat alone is gone over. Assumes nothing.
 use native.Mathlib.Omega.{arith}
-use Rattle.states.proofs.Changes.{step-as, step-none}
+use Rattle.area.proofs.Changes.{step-as, step-none}
 use Rattle.expanding.proofs.Entries.{same-none, same-entries, entries-low}
 use borrow.Author.Needs.{needs}
 use Rattle.expanding.proofs.over_same.Statement.{statement}

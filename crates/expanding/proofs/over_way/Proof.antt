@@ -2,8 +2,8 @@
 use mathlib.Core.Path.{subst}
 use Prim.Native.Nat.{_-_, _^_}
 use Rattle.ways.proofs.Filing.{boats-fit}
-use Rattle.sorting.specs.declared.Order.the-variants as Order
-use Rattle.states.proofs.Changes.{step-as}
+use Rattle.sorted.specs.declared.Order.the-variants as Order
+use Rattle.area.proofs.Changes.{step-as}
 use Rattle.ways.specs.Ways.{Right}
 use Rattle.expanding.proofs.Backs.{run-lines}
 use borrow.Author.Needs.{needs}

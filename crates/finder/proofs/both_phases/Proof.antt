@@ -11,7 +11,7 @@ use Rattle.states.specs.Spots.{front}
 use Rattle.forward.specs.Firsts.{firstStates}
 use Rattle.states.specs.Spots.{Fit}
 use Rattle.backward.specs.Stopped.{fromGoal, Stopped}
-use Rattle.sorting.proofs.Turns.{kept-take}
+use Rattle.sorted.proofs.Turns.{kept-take}
 use Rattle.states.proofs.Bounds.{fit-same}
 use Rattle.expanding.proofs.Backs.{told-fit}
 use Rattle.finder.proofs.Written.{tables-same, told-none, told-long, told-written}

@@ -12,7 +12,7 @@ use Rattle.request.specs.Layout.{fromIn, toIn, kindIn}
 use Rattle.search.specs.Loaded.{codeAt, wordAt}
 use Rattle.states.specs.Spots.{front, Fit, Sane}
 use Rattle.states.proofs.Bounds.{word-low, code-low, base-in, word-front, code-front, stacks-pos, power-small, block-small, stacks-small, spot-sane}
-use Rattle.states.proofs.Changes.{step-as, step-none}
+use Rattle.area.proofs.Changes.{step-as, step-none}
 use Rattle.forward.proofs.Bridge.{from-elsewhere, from-other-kind, from-refused, from-taken}
 use borrow.Author.Needs.{needs}
 use Rattle.forward.proofs.from_state.Statement.{statement}

@@ -3,10 +3,10 @@ use mathlib.Core.Path.{_≡_, sym, ap, _∙_}
 use Prim.Native.Nat.{_+_, _-_, _≤_}
 use native.Mathlib.Nat.{sub-zero}
 use native.Mathlib.Omega.{arith}
-use Rattle.search.specs.Loops.{turns}
-use Rattle.states.specs.Area.{stretch}
+use Rattle.graph.specs.Loops.{turns}
+use Rattle.area.specs.Area.{stretch}
 use Rattle.forward.specs.Firsts.{nearTurn, nearest-law}
-use Rattle.states.proofs.Changes.{turns-none, turns-next}
+use Rattle.area.proofs.Changes.{turns-none, turns-next}
 use borrow.Author.Needs.{needs}
 use Rattle.forward.proofs.nearest.Statement.{statement}
 use Rattle.forward.proofs.nearest.Tie as tie

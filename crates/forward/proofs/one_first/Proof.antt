@@ -2,7 +2,7 @@
 use mathlib.Core.Path.{sym, _∙_}
 use native.Mathlib.Omega.{arith}
 use Rattle.states.proofs.Bounds.{stacks-pos}
-use Rattle.states.proofs.Stretches.{stretch-get}
+use Rattle.area.proofs.Stretches.{stretch-get}
 use Rattle.forward.proofs.Near.{near-taken, near-passed}
 use borrow.Author.Needs.{needs}
 use Rattle.forward.proofs.one_first.Statement.{statement}

@@ -3,7 +3,7 @@ use mathlib.Core.Path.{ap, _∙_}
 use Prim.Native.Nat.{_^_, _%_}
 use native.Mathlib.Omega.{arith}
 use Rattle.states.proofs.Bounds.{power-pos, power-fits, power-small}
-use Rattle.states.proofs.Changes.{step-as}
+use Rattle.area.proofs.Changes.{step-as}
 use Rattle.search.specs.Front.{stateIn}
 use Rattle.forward.proofs.Visits.{visit-same}
 use borrow.Author.Needs.{needs}

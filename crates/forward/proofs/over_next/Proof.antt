@@ -5,11 +5,11 @@ use Prim.Native.Nat.{_+_, _-_, _/_, _^_, _≤_}
 use native.Mathlib.Nat.{div-one}
 use native.Mathlib.Omega.{arith}
 use Rattle.request.specs.Layout.{Laid}
-use Rattle.search.specs.Loops.{turns}
-use Rattle.states.specs.Area.{stretch, Under}
+use Rattle.graph.specs.Loops.{turns}
+use Rattle.area.specs.Area.{stretch, Under}
 use Rattle.search.specs.Moves.{visit}
 use Rattle.states.specs.Spots.{nextTurn}
-use Rattle.states.proofs.Changes.{loop-start, under-step, under-end, under-stretch}
+use Rattle.area.proofs.Changes.{loop-start, under-step, under-end, under-stretch}
 use Rattle.forward.proofs.Visits.{next-none, next-lowest, next-beyond, rest-after}
 use borrow.Author.Needs.{needs}
 use Rattle.forward.proofs.over_next.Statement.{statement}

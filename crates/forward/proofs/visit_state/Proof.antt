@@ -1,8 +1,8 @@
 -- `forward::visit_state` meets its contract: a push, or nothing, as the word wanted says. Assumes nothing.
 use mathlib.Core.Path.{sym, _∙_}
 use native.Mathlib.Omega.{arith}
-use Rattle.states.proofs.Stretches.{stretch-get}
-use Rattle.states.proofs.Changes.{step-as, step-none}
+use Rattle.area.proofs.Stretches.{stretch-get}
+use Rattle.area.proofs.Changes.{step-as, step-none}
 use Rattle.forward.proofs.Visits.{visit-all, visit-taken, visit-passed}
 use borrow.Author.Needs.{needs}
 use Rattle.forward.proofs.visit_state.Statement.{statement}

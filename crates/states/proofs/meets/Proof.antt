@@ -1,7 +1,7 @@
 -- `states::meets` meets its contract, rule by rule. Assumes nothing.
 use mathlib.Core.Path.{sym, ap, _∙_}
 use mathlib.Core.Bool.{not}
-use Rattle.automaton.specs.declared.Rule.{Rule}
+use Rattle.positions.specs.declared.Rule.{Rule}
 use Rattle.states.specs.Spots.{toldShown, metBy}
 use Rattle.states.proofs.Comparing.{same-met, other-met}
 use borrow.Author.Needs.{needs}

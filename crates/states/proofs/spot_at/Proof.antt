@@ -1,5 +1,5 @@
 -- `states::spot_at` meets its contract, number by number. Assumes nothing.
-use Rattle.automaton.specs.Program.{level-few, depth-few}
+use Rattle.positions.specs.Program.{level-few, depth-few}
 use Rattle.states.specs.Spots.{spotIn}
 use borrow.Author.Needs.{needs}
 use Rattle.states.proofs.spot_at.Statement.{statement}

@@ -2,7 +2,7 @@
 use Prim.Native.Nat.{_+_, _/_, _%_, _≤_}
 use native.Mathlib.Nat.{mod-lt, one-le-pow}
 use native.Mathlib.Omega.{arith}
-use Rattle.automaton.specs.Program.{depth-few}
+use Rattle.positions.specs.Program.{depth-few}
 use Rattle.states.specs.Spots.{targetIn}
 use borrow.Author.Needs.{needs}
 use Rattle.states.proofs.target_of.Statement.{statement}

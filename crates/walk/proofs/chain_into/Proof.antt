@@ -6,10 +6,10 @@ use Prim.Native.Nat.{ℕ, _+_, _-_, _≤_, _<_}
 use native.Mathlib.Omega.{arith}
 use lib.ListN.{length}
 use Rattle.request.specs.Layout.{Laid}
-use Rattle.search.specs.Table.{blank}
-use Rattle.states.specs.Area.{stretch}
+use Rattle.graph.specs.Table.{blank}
+use Rattle.area.specs.Area.{stretch}
 use Rattle.states.specs.Spots.{front, Fit}
-use Rattle.states.proofs.Changes.{cleared-under, step-cleared, step-under, under-front, under-stretch}
+use Rattle.area.proofs.Changes.{cleared-under, step-cleared, step-under, under-front, under-stretch}
 use Rattle.forward.specs.Firsts.{start-law}
 use Rattle.walk.specs.Leading.{Leading}
 use Rattle.walk.proofs.Places.{ordered-front, ordered-dist, ordered-leading, leading-under, first-together}

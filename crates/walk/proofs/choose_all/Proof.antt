@@ -4,15 +4,15 @@ use mathlib.Core.List.{List}
 use Prim.Native.Nat.{ℕ, _-_, _≤_}
 use native.Mathlib.Nat.{sub-zero}
 use native.Mathlib.Omega.{arith}
-use Rattle.states.specs.Area.{stretch, found, Under}
-use Rattle.search.specs.PhaseTwo.{Tried, try}
+use Rattle.area.specs.Area.{stretch, found, Under}
+use Rattle.graph.specs.PhaseTwo.{Tried, try}
 use Rattle.search.specs.Loaded.{settingIn}
 use Rattle.search.specs.Moves.{fromState}
 use Rattle.states.specs.Spots.{front, Fit}
 use Rattle.walk.specs.Chosen.{tryTable}
 use Rattle.states.proofs.Bounds.{fit-same}
 use Rattle.walk.proofs.Ahead.{tried-next, tried-table, tried-here, tried-none, table-of}
-use Rattle.states.proofs.Changes.{under-start, under-step, under-end, under-front, under-stretch, ready-long, step-count}
+use Rattle.area.proofs.Changes.{under-start, under-step, under-end, under-front, under-stretch, ready-long, step-count}
 use borrow.Author.Needs.{needs}
 use Rattle.walk.proofs.choose_all.Statement.{statement}
 use Rattle.walk.proofs.choose_all.Tie as tie

@@ -5,10 +5,10 @@ use mathlib.Core.List.{List}
 use Prim.Native.Nat.{ℕ, _-_, _<_, _≤_}
 use native.Mathlib.Omega.{arith}
 use lib.ListN.{length}
-use Rattle.search.specs.PhaseTwo.{Tried, try}
+use Rattle.graph.specs.PhaseTwo.{Tried, try}
 use Rattle.search.specs.ByPlace.{tryList}
-use Rattle.states.specs.Area.{stretch, found, Under}
-use Rattle.states.proofs.Changes.{under-as, under-step, under-end, under-front, under-stretch, ready-long, step-count}
+use Rattle.area.specs.Area.{stretch, found, Under}
+use Rattle.area.proofs.Changes.{under-as, under-step, under-end, under-front, under-stretch, ready-long, step-count}
 use Rattle.walk.specs.Chosen.{tryTable}
 use Rattle.walk.specs.Leading.{Leading, leads}
 use Rattle.states.proofs.Bounds.{fit-same}

@@ -2,15 +2,15 @@
 use mathlib.Core.List.{List}
 use Prim.Native.Nat.{ℕ, _-_, _≤_}
 use native.Mathlib.Omega.{arith}
-use Rattle.search.specs.Loops.{turns}
-use Rattle.states.specs.Area.{stretch, Under}
-use Rattle.search.specs.PhaseTwo.{gather}
+use Rattle.graph.specs.Loops.{turns}
+use Rattle.area.specs.Area.{stretch, Under}
+use Rattle.graph.specs.PhaseTwo.{gather}
 use Rattle.search.specs.Loaded.{settingIn}
 use Rattle.search.specs.Moves.{fromState}
 use Rattle.states.specs.Spots.{front, Fit}
 use Rattle.states.proofs.Bounds.{fit-same}
 use Rattle.walk.proofs.Ahead.{gatherTurn, gather-turns, gather-at}
-use Rattle.states.proofs.Changes.{under-as, loop-turn, loop-end, under-front, under-stretch, ready-long, step-as}
+use Rattle.area.proofs.Changes.{under-as, loop-turn, loop-end, under-front, under-stretch, ready-long, step-as}
 use borrow.Author.Needs.{needs}
 use Rattle.walk.proofs.gather_line.Statement.{statement}
 use Rattle.walk.proofs.gather_line.Tie as tie

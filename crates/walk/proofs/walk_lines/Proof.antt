@@ -5,8 +5,8 @@ use mathlib.Core.List.{List, _++_}
 use Prim.Native.Nat.{ℕ, _+_, _-_, _≤_, _<_}
 use native.Mathlib.Omega.{arith}
 use lib.ListN.{length, take, drop, length-set}
-use Rattle.states.specs.Area.{stretch, found, Under}
-use Rattle.search.specs.PhaseTwo.{walk}
+use Rattle.area.specs.Area.{stretch, found, Under}
+use Rattle.graph.specs.PhaseTwo.{walk}
 use Rattle.search.specs.Loaded.{settingIn}
 use Rattle.search.specs.Moves.{fromState}
 use Rattle.states.specs.Spots.{front}
@@ -14,7 +14,7 @@ use Rattle.walk.specs.Chosen.{anything}
 use Rattle.walk.specs.Leading.{Leading, Together}
 use Rattle.walk.proofs.Places.{leading-under, try-together}
 use Rattle.walk.proofs.Ahead.{anything-same, walk-on, walk-kept, walk-end}
-use Rattle.states.proofs.Changes.{under-start, under-step, under-front, under-stretch, ready-long}
+use Rattle.area.proofs.Changes.{under-start, under-step, under-front, under-stretch, ready-long}
 use borrow.Author.Needs.{needs}
 use Rattle.walk.proofs.walk_lines.Statement.{statement}
 use Rattle.walk.proofs.walk_lines.Tie as tie

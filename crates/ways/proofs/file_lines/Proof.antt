@@ -1,7 +1,7 @@
 -- `ways::file_lines` meets its contract: each table stands after the one before, which stays. Assumes nothing.
 use mathlib.Core.Path.{_≡_, refl, sym, _∙_}
 use mathlib.Core.Bool.{Bool, true, false, not, false≢true}
-use Rattle.sorting.proofs.Turns.{kept-none}
+use Rattle.sorted.proofs.Turns.{kept-none}
 use Rattle.ways.proofs.Filing.{kinds-asked, boats-asked, thin-asked, filed-all, filed-kept}
 use borrow.Author.Needs.{needs}
 use Rattle.ways.proofs.file_lines.Statement.{statement}

@@ -4,7 +4,7 @@ use Prim.Native.Nat.{_*_, _/_, _%_, _≤_}
 use native.Mathlib.Nat.{mul-le-mul}
 use native.Mathlib.Omega.{arith}
 use Rattle.request.specs.Layout.{largest}
-use Rattle.sorting.specs.Sorting.{packBy}
+use Rattle.sorted.specs.Sorting.{packBy}
 use Rattle.ways.specs.Ways.{laneState}
 use borrow.Author.Needs.{needs}
 use Rattle.ways.proofs.lane_state.Statement.{statement}

@@ -1,8 +1,8 @@
 -- `ways::lines_for` meets its contract: the run of the kind is enough, and its thin words are where they are taken. Assumes nothing.
 use Prim.Native.Nat.{_+_, _*_, _<_}
 use native.Mathlib.Omega.{arith}
-use Rattle.sorting.specs.Sorting.{keys}
-use Rattle.sorting.specs.declared.Order.the-variants as Order
+use Rattle.sorted.specs.Sorting.{keys}
+use Rattle.sorted.specs.declared.Order.the-variants as Order
 use Rattle.ways.proofs.Filing.{kinds-fit, thin-fit}
 use Rattle.ways.proofs.Stacked.{key-low, full-enough, thin-enough}
 use borrow.Author.Needs.{needs}

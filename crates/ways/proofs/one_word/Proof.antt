@@ -1,8 +1,8 @@
 -- `ways::one_word` meets its contract: the state that the word gives is pushed, or nothing is done. Assumes nothing.
 use mathlib.Core.Path.{sym, ap, _∙_, subst}
 use Prim.Native.Nat.{_%_, _<_}
-use Rattle.states.proofs.Changes.{step-as, step-none}
-use Rattle.sorting.specs.Sorting.{packBy}
+use Rattle.area.proofs.Changes.{step-as, step-none}
+use Rattle.sorted.specs.Sorting.{packBy}
 use Rattle.ways.specs.Ways.{laneState, takenBy}
 use Rattle.ways.proofs.Lanes.{lane-taken, lane-passed}
 use borrow.Author.Needs.{needs}

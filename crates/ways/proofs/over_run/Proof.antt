@@ -3,12 +3,12 @@ use mathlib.Core.Path.{_≡_, sym, _∙_, subst}
 use Prim.Native.Nat.{ℕ, suc, _+_, _-_, _<_, _≤_}
 use native.Mathlib.Omega.{arith}
 use lib.ListN.{getD}
-use Rattle.search.specs.Loops.{turns}
-use Rattle.search.specs.Table.{Search}
-use Rattle.sorting.specs.Runs.{turns-run, table-behind}
-use Rattle.sorting.specs.Sorting.{tableAt}
-use Rattle.states.specs.Area.{found}
-use Rattle.states.proofs.Changes.{step-as}
+use Rattle.graph.specs.Loops.{turns}
+use Rattle.graph.specs.Table.{Search}
+use Rattle.sorted.specs.Runs.{turns-run, table-behind}
+use Rattle.sorted.specs.Sorting.{tableAt}
+use Rattle.area.specs.Area.{found}
+use Rattle.area.proofs.Changes.{step-as}
 use Rattle.ways.specs.Ways.{laneState, laneTurn}
 use Rattle.ways.proofs.Lanes.{run-word, run-turn}
 use borrow.Author.Needs.{needs}

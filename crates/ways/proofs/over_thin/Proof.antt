@@ -3,10 +3,10 @@ use mathlib.Core.Path.{_≡_, sym, _∙_, subst}
 use Prim.Native.Nat.{ℕ, suc, _+_, _-_, _<_, _≤_}
 use native.Mathlib.Omega.{arith}
 use lib.ListN.{length, getD}
-use Rattle.search.specs.Loops.{turns}
-use Rattle.search.specs.Table.{Search}
-use Rattle.states.specs.Area.{found}
-use Rattle.states.proofs.Changes.{step-as}
+use Rattle.graph.specs.Loops.{turns}
+use Rattle.graph.specs.Table.{Search}
+use Rattle.area.specs.Area.{found}
+use Rattle.area.proofs.Changes.{step-as}
 use Rattle.ways.specs.Ways.{laneState, laneTurn}
 use Rattle.ways.proofs.Filing.{kinds-fit, thin-behind, thin-fit}
 use Rattle.ways.proofs.Lanes.{found-long}

@@ -3,9 +3,9 @@ use mathlib.Core.Path.{sym, subst}
 use Prim.Native.Nat.{_-_, _≤_, _<_}
 use native.Mathlib.Omega.{arith}
 use lib.ListN.{getD}
-use Rattle.search.specs.Loops.{turns}
-use Rattle.states.specs.Area.{Under}
-use Rattle.states.proofs.Changes.{under-start, loop-turn, loop-end}
+use Rattle.graph.specs.Loops.{turns}
+use Rattle.area.specs.Area.{Under}
+use Rattle.area.proofs.Changes.{under-start, loop-turn, loop-end}
 use Rattle.ways.specs.Ways.{laneState, laneTurn}
 use Rattle.ways.proofs.Lanes.{under-word}
 use borrow.Author.Needs.{needs}

@@ -1,0 +1,16 @@
+pub mod Plain
+pub mod Entries
+pub mod Sets
+pub mod Distances
+pub mod Forward
+pub mod Order
+pub mod Loops
+pub mod Queue
+pub mod Counted
+pub mod Table
+pub mod Grows
+pub mod PhaseOne
+pub mod PhaseTwo
+pub mod Phases
+pub mod Early
+pub mod SmallGraph

@@ -1,0 +1,3 @@
+pub mod Program
+pub mod Masks
+pub mod Limits

@@ -1,0 +1,87 @@
+-- What the loops of thinning go by: the marks that say of each place which of its words are kept in the run at hand, one word read,
+-- a run under way, and the keys that are done.
+use mathlib.Core.Path.{_≡_}
+use mathlib.Core.Logic.{_⊎_}
+use mathlib.Core.List.{List}
+use Prim.Native.Nat.{ℕ, suc, _+_, _*_, _-_, _/_, _%_, _≤_, _<_}
+use lib.ListN.{length, getD, set}
+use Rattle.lists.specs.Listed.{_∈_}
+use Rattle.request.specs.Layout.{Laid}
+use Rattle.request.specs.declared.Plan.{Plan}
+use Rattle.sorted.specs.Sorting.{packBy, linesFrom, sortedEnd, Sorted, Kept}
+use Rattle.sorted.specs.declared.Order.the-variants as Order
+use Rattle.area.specs.Area.{stretch}
+use Rattle.thinned.specs.Thinning.{Thin, thinEnd, ThinRun, FromPlaces}
+
+-- ---- marks: n words from word s on, and n more; t is the stamp of the run at hand, and no other run has it
+
+module _ (s n : ℕ) where
+  -- the stamp times packBy and the boat number of the first word of place f that is kept
+  abbrev pub first : ℕ → List ℕ → ℕ
+  first f w = getD w (s + f) 0
+
+  -- the stamp, where a word of place f with another boat number is kept too
+  abbrev pub other : ℕ → List ℕ → ℕ
+  other f w = getD w (s + n + f) 0
+
+  -- every stamp is below t
+  abbrev pub Stale : ℕ → List ℕ → Type 0
+  Stale t w = (f : ℕ) → f < n → (first f w / packBy < t) × (other f w < t)
+
+  -- vs are the words kept of the run: what the marks with its stamp say is so
+  pub record Marked (t : ℕ) (vs w : List ℕ) : Type 0 where
+    pub has-first : (f : ℕ) → f < n → first f w / packBy ≡ t → (y : ℕ) × (y ∈ vs) × (y / packBy ≡ f) × (y % packBy ≡ first f w % packBy)
+    pub has-other : (f : ℕ) → f < n → other f w ≡ t
+        → (first f w / packBy ≡ t) × ((y : ℕ) × (y ∈ vs) × (y / packBy ≡ f) × (y % packBy ≡ first f w % packBy → ⊥))
+    pub stale : Stale (suc t) w
+
+  -- the word x is read, and the next word kept is to stand at word i; u is where the one after it is to stand then
+  pub data Read (t x i : ℕ) (w : List ℕ) (u : ℕ) (v : List ℕ) : Type 0 where
+    new : (first (x / packBy) w / packBy ≡ t → ⊥) → u ≡ i + 1 → v ≡ set (set w (s + x / packBy) (t * packBy + x % packBy)) i x → Read t x i w u v
+    more : first (x / packBy) w / packBy ≡ t → (first (x / packBy) w % packBy ≡ x % packBy → ⊥) → u ≡ i + 1 → v ≡ set (set w (s + n + x / packBy) t) i x → Read t x i w u v
+    spare : first (x / packBy) w / packBy ≡ t → (first (x / packBy) w % packBy ≡ x % packBy) ⊎ (other (x / packBy) w ≡ t) → u ≡ i → v ≡ w → Read t x i w u v
+
+  -- the marks are words of the area
+  abbrev pub MarksFit : List ℕ → Type 0
+  MarksFit w = (s + n + n ≤ length w) × (s + n + n < 4294967296)
+
+  -- ---- one run: the words from lo up to hi, those of them that are kept to stand from word b on
+
+  pub record Ahead (t lo hi b : ℕ) (w : List ℕ) : Type 0 where
+    pub fit : MarksFit w
+    pub rising : lo ≤ hi
+    pub apart : hi ≤ b
+    pub room : b + hi ≤ s + lo
+    pub low : (p : ℕ) → lo ≤ p → p < hi → getD w p 0 / packBy < n
+    pub stale : Stale t w
+    pub stamp-low : t ≤ 16384
+
+  -- its words before word p are read, and those kept stand before word u; w₀ are the words at its start
+  pub record Going (t lo b p u : ℕ) (w₀ w : List ℕ) : Type 0 where
+    pub begun : lo ≤ p
+    pub rising : b ≤ u
+    pub few : u + lo ≤ b + p
+    pub kept : Kept b (s + n + n) w₀ w
+    pub thin : Thin (stretch lo (p - lo) w₀) (stretch b (u - b) w)
+    pub marked : Marked t (stretch b (u - b) w) w
+
+-- ---- all keys
+
+module _ (plan : Plan) (of at : ℕ) where
+  -- what every key goes by: the loaded record and the sorted table stand before the thin one, which has room, and its words are words
+  pub record Ground (w : List ℕ) : Type 0 where
+    pub laid : Laid plan (length w)
+    pub sorted : Sorted Order.Kind plan of w
+    pub places : FromPlaces plan w
+    pub past : plan .base ≤ of
+    pub apart : sortedEnd Order.Kind plan of ≤ at
+    pub room : thinEnd plan at ≤ length w
+    pub small : thinEnd plan at < 4294967296
+
+  -- the keys below k are done: the words of key k are to begin where its word says, as far on at most as those of the sorted table
+  pub record Made (k : ℕ) (w : List ℕ) : Type 0 where
+    pub begins : linesFrom Order.Kind plan at ≤ getD w (at + k) 0
+    pub few : getD w (at + k) 0 + of ≤ getD w (of + k) 0 + at
+    pub runs : (j : ℕ) → j < k → ThinRun plan of at w j
+    pub before : (j : ℕ) → j < k → getD w (at + suc j) 0 ≤ getD w (at + k) 0
+    pub stale : Stale (sortedEnd Order.Kind plan at) (plan .places) (suc k) w

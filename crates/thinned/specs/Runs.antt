@@ -1,0 +1,98 @@
+-- For those who use a thin table: it stays thin while other words change (`thin-same`), and a sorted one stays sorted while words after it
+-- change (`sorted-kept`). What is written of lines says places where lines start at places (`from-places`).
+use mathlib.Core.Path.{_≡_, sym, ap, _∙_, subst}
+use mathlib.Core.List.{List, map}
+use Prim.Native.Nat.{ℕ, suc, _+_, _-_, _≤_, _<_}
+use native.Mathlib.Omega.{arith}
+use lib.ListN.{length, getD, drop}
+use Rattle.request.specs.Layout.{Laid, filedEnd}
+use Rattle.request.specs.declared.Plan.{Plan}
+use Rattle.search.specs.Loaded.{codeAt}
+use Rattle.sorted.specs.Sorting.{packBy, keys, packIn, having, sortedEnd, Sorted, Kept}
+use Rattle.sorted.specs.Runs.{same-word, same-stretch}
+use Rattle.sorted.specs.declared.Order.{Order}
+use Rattle.sorted.specs.declared.Order.the-variants as Order
+use Rattle.sorted.proofs.Turns.{kept-take, kept-get}
+use Rattle.area.specs.Area.{stretch}
+use Rattle.states.specs.Spots.{front, Starts}
+use Rattle.area.proofs.Stretches.{stretch-take}
+use Rattle.thinned.specs.Thinning.{Thin, FromPlaces, thinEnd, ThinRun, Thinned}
+
+-- ---- places
+
+pub from-places : (plan : Plan) (w : List ℕ) → Starts plan (front plan w) → ((i : ℕ) → i < plan .lines → codeAt plan (front plan w) i < packBy) → FromPlaces plan w
+unfolding packIn
+from-places plan w starts codes i h = omega (arith, starts i h, codes i h)
+
+-- ---- where the plan has the table
+
+module _ {plan : Plan} {area : ℕ} (l : Laid plan area) where
+  -- the marks stand after it
+  pub stamps-are : plan .stamps ≡ sortedEnd Order.Kind plan (plan .thin)
+  unfolding keys
+  stamps-are = omega (arith, l .stamps-at)
+
+  pub filed-end : filedEnd plan ≡ thinEnd plan (plan .thin)
+  filed-end = omega (arith, stamps-are)
+
+-- ---- a run as it was
+
+-- the words from a up to b, read off otherwise
+pub cut-as : (a b c d : ℕ) (v w : List ℕ) → a ≡ c → b ≡ d → stretch c (d - c) v ≡ stretch c (d - c) w → stretch a (b - a) v ≡ stretch c (d - c) w
+cut-as a b c d v w e f h = (λ t. stretch (e t) (f t - e t) v) ∙ h
+
+pub thin-as : {xs ys us vs : List ℕ} → us ≡ xs → vs ≡ ys → Thin xs ys → Thin us vs
+thin-as {xs} {ys} {us} {vs} e f t = subst (λ l. Thin l vs) (sym e) (subst (Thin xs) (sym f) t)
+
+-- its words say the same, and the words there are the same
+module _ (plan : Plan) (of at : ℕ) (w v : List ℕ) (k : ℕ)
+    (lo : getD v (of + k) 0 ≡ getD w (of + k) 0) (hi : getD v (of + suc k) 0 ≡ getD w (of + suc k) 0)
+    (b : getD v (at + k) 0 ≡ getD w (at + k) 0) (e : getD v (at + suc k) 0 ≡ getD w (at + suc k) 0)
+    (xs : stretch (getD w (of + k) 0) (getD w (of + suc k) 0 - getD w (of + k) 0) v ≡ stretch (getD w (of + k) 0) (getD w (of + suc k) 0 - getD w (of + k) 0) w)
+    (ys : stretch (getD w (at + k) 0) (getD w (at + suc k) 0 - getD w (at + k) 0) v ≡ stretch (getD w (at + k) 0) (getD w (at + suc k) 0 - getD w (at + k) 0) w) where
+  pub thin-run-as : ThinRun plan of at w k → ThinRun plan of at v k
+  thin-run-as r =
+      record {
+        low = rw b (r .low);
+        rising = rw (b, e) (r .rising);
+        high = rw e (r .high);
+        has = thin-as (cut-as _ _ _ _ v w lo hi xs) (cut-as _ _ _ _ v w b e ys) (r .has);
+      }
+
+-- ---- a thin table, its words and those of the sorted one being as they were
+
+module _ (plan : Plan) (of at : ℕ) (w v : List ℕ) (s : Sorted Order.Kind plan of w) (t : Thinned plan of at w) (d : drop of v ≡ drop of w) (h : of ≤ at) where
+  word-at : (n : ℕ) → getD v (at + n) 0 ≡ getD w (at + n) 0
+  word-at n =
+      let sum : at + n ≡ of + (at - of + n) = omega arith in
+      ap (λ x. getD v x 0) sum ∙ (same-word of w v d (at - of + n) ∙ ap (λ x. getD w x 0) (sym sum))
+
+  pub thin-same : Thinned plan of at v
+  thin-same k l =
+      let r = t k l in
+      thin-run-as plan of at w v k (same-word of w v d k) (same-word of w v d (suc k)) (word-at k) (word-at (suc k))
+      (same-stretch of w v d (getD w (of + k) 0) (getD w (of + suc k) 0 - getD w (of + k) 0) (omega (arith, s k l .low)))
+      (same-stretch of w v d (getD w (at + k) 0) (getD w (at + suc k) 0 - getD w (at + k) 0) (omega (arith, r .low, h)))
+      r
+
+-- ---- a sorted table before the words that change
+
+pub kept-stretch : {from to : ℕ} {w v : List ℕ} → Kept from to w v → (b n : ℕ) → b + n ≤ from → from ≤ length w → stretch b n v ≡ stretch b n w
+kept-stretch {from} {to} {w} {v} k b n h l =
+    sym (stretch-take from b n v h (omega (arith, l, k .long))) ∙ (ap (stretch b n) (k .before) ∙ stretch-take from b n w h l)
+
+module _ (o : Order) (plan : Plan) (at from to : ℕ) (w v : List ℕ) (s : Sorted o plan at w) (c : Kept from to w v)
+    (past : plan .base ≤ from) (end : sortedEnd o plan at ≤ from) (room : from ≤ length w) where
+  pub sorted-kept : Sorted o plan at v
+  sorted-kept k h =
+      let r = s k h in
+      let lo = kept-get c (at + k) (omega (arith, h, end)) in
+      let hi = kept-get c (at + suc k) (omega (arith, h, end)) in
+      record {
+        low = rw lo (r .low);
+        rising = rw (lo, hi) (r .rising);
+        high = rw hi (r .high);
+        has =
+            cut-as _ _ _ _ v w lo hi (kept-stretch c (getD w (at + k) 0) (getD w (at + suc k) 0 - getD w (at + k) 0) (omega (arith, r .rising, r .high, end)) room)
+            ∙ (r .has ∙ ap (λ g. map (packIn o plan g) (having o plan g k)) (sym (kept-take c (plan .base) past)));
+      }
