@@ -104,10 +104,9 @@ pub fn from_state(
         let here = states::standing_at(plan, s, from);
         let at = here.position;
         if request::kind_of(line) == positions::kind_at(program, at) {
-            let spot = states::spot_at(program, plan.radix, at);
             let code = area::word(work, plan.codes + i);
-            if states::passes(plan.radix, spot, code, here.stack) {
-                let u = states::put_on(spot, here.stack, code);
+            if states::passes_at(program, plan.radix, at, code, here.stack) {
+                let u = states::put_on_at(program, plan.radix, at, here.stack, code);
                 let follow = positions::follow_at(program, at);
                 let to = request::to_of(line);
                 return over_next(work, plan, program, follow, want, to, u, tail);

@@ -31,7 +31,7 @@ membersFrom mask k (suc n) = cond (eqb (bitOf mask k) 1) (k ∷ membersFrom mask
 unfoldable pub members : ℕ → List ℕ
 members mask = membersFrom mask 0 64
 
--- ---- a row in one word: kind and rule take 4 bits each, level and depth 2, the push 1
+-- ---- a row in one word: a byte each for kind, rule, level, depth and the push, so that each is read without the others
 
 abbrev pub ruleCode : Rule → ℕ
 ruleCode Rule.Never = 0
@@ -47,10 +47,10 @@ bit true = 1
 bit false = 0
 
 unfoldable pub packed : Row → ℕ
-packed x = x .kind + ruleCode (x .rule) * 16 + x .level * 256 + x .depth * 1024 + bit (x .push) * 4096
+packed x = x .kind + ruleCode (x .rule) * 256 + x .level * 65536 + x .depth * 16777216 + bit (x .push) * 4294967296
 
 unfoldable pub unpacked : ℕ → Row
-unpacked w = record { kind = w % 16; rule = ruleOf (w / 16 % 16); level = w / 256 % 4; depth = w / 1024 % 4; push = eqb (w / 4096 % 2) 1 }
+unpacked w = record { kind = w % 16; rule = ruleOf (w / 256 % 16); level = w / 65536 % 4; depth = w / 16777216 % 4; push = eqb (w / 4294967296 % 2) 1 }
 
 -- the numbers fit their bits
 pub record Packs (x : Row) : Type 0 where
@@ -63,7 +63,7 @@ unfolding packed unpacked
 packed-back x h = λ i. record { kind = kind i; rule = rule i; level = level i; depth = depth i; push = push i }
   where
     w : ℕ
-    w = x .kind + ruleCode (x .rule) * 16 + x .level * 256 + x .depth * 1024 + bit (x .push) * 4096
+    w = x .kind + ruleCode (x .rule) * 256 + x .level * 65536 + x .depth * 16777216 + bit (x .push) * 4294967296
 
     few : (t : Rule) → ruleCode t ≤ 15
     few Rule.Never = omega arith
@@ -74,7 +74,7 @@ packed-back x h = λ i. record { kind = kind i; rule = rule i; level = level i; 
     kind : w % 16 ≡ x .kind
     kind = omega (arith, h .kind)
 
-    code : w / 16 % 16 ≡ ruleCode (x .rule)
+    code : w / 256 % 16 ≡ ruleCode (x .rule)
     code = omega (arith, h .kind, few (x .rule))
 
     back : (t : Rule) → ruleOf (ruleCode t) ≡ t
@@ -83,27 +83,27 @@ packed-back x h = λ i. record { kind = kind i; rule = rule i; level = level i; 
     back Rule.Same = refl
     back Rule.Other = refl
 
-    rule : ruleOf (w / 16 % 16) ≡ x .rule
+    rule : ruleOf (w / 256 % 16) ≡ x .rule
     rule = ap ruleOf code ∙ back (x .rule)
 
-    level : w / 256 % 4 ≡ x .level
+    level : w / 65536 % 4 ≡ x .level
     level = omega (arith, h .kind, few (x .rule), h .level)
 
-    depth : w / 1024 % 4 ≡ x .depth
+    depth : w / 16777216 % 4 ≡ x .depth
     depth = omega (arith, h .kind, few (x .rule), h .level, h .depth)
 
     one : (b : Bool) → bit b ≤ 1
     one true = omega arith
     one false = omega arith
 
-    top : w / 4096 % 2 ≡ bit (x .push)
+    top : w / 4294967296 % 2 ≡ bit (x .push)
     top = omega (arith, h .kind, few (x .rule), h .level, h .depth, one (x .push))
 
     is : (b : Bool) → eqb (bit b) 1 ≡ b
     is true = refl
     is false = refl
 
-    push : eqb (w / 4096 % 2) 1 ≡ x .push
+    push : eqb (w / 4294967296 % 2) 1 ≡ x .push
     push = ap (λ n. eqb n 1) top ∙ is (x .push)
 
 -- ---- the program
@@ -129,11 +129,11 @@ kind-few a c = omega (arith, mod-lt (getD a (2 * c) 0) {m = 16} (omega arith))
 -- levels and depths are at most three
 pub level-few : (a : List ℕ) (c : ℕ) → rowAt a c .level ≤ 3
 unfolding rowAt unpacked
-level-few a c = omega (arith, mod-lt (getD a (2 * c) 0 / 256) {m = 4} (omega arith))
+level-few a c = omega (arith, mod-lt (getD a (2 * c) 0 / 65536) {m = 4} (omega arith))
 
 pub depth-few : (a : List ℕ) (c : ℕ) → depthAt a c ≤ 3
 unfolding rowAt unpacked
-depth-few a c = omega (arith, mod-lt (getD a (2 * c) 0 / 1024) {m = 4} (omega arith))
+depth-few a c = omega (arith, mod-lt (getD a (2 * c) 0 / 16777216) {m = 4} (omega arith))
 
 abbrev pub testIn : Rule → ℕ → Test
 testIn Rule.Never j = never

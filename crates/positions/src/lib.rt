@@ -63,19 +63,23 @@ fn pack(row: Row) -> u64
     let rule = row.rule;
     let code = code_of(rule) as u64;
     let push = bit_of(row.push) as u64;
-    row.kind as u64 + code * 16 + row.level as u64 * 256 + row.depth as u64 * 1024 + push * 4096
+    row.kind as u64
+        + code * 256
+        + row.level as u64 * 65536
+        + row.depth as u64 * 16777216
+        + push * 4294967296
 }
 
 fn unpack(word: u64) -> Row
     ensures { λ r. ⌜ r ≡ unpacked word ⌝ }
 {
-    let rule = rule_of(word / 16 % 16);
+    let rule = rule_of(word / 256 % 16);
     Row {
         kind: (word % 16) as u8,
         rule,
-        level: (word / 256 % 4) as u8,
-        depth: (word / 1024 % 4) as u8,
-        push: word / 4096 % 2 == 1,
+        level: (word / 65536 % 4) as u8,
+        depth: (word / 16777216 % 4) as u8,
+        push: word / 4294967296 % 2 == 1,
     }
 }
 
@@ -104,7 +108,7 @@ pub fn depth_at(program: &[u64; 128], c: usize) -> usize
     ensures { λ r. ⌜ r ≡ rowAt (now (program .entry)) c .depth ⌝ }
 {
     let i = 2 * c;
-    (program[i] / 1024 % 4) as usize
+    (program[i] / 16777216 % 4) as usize
 }
 
 // The mask of the positions that may come after position `c`.

@@ -22,13 +22,13 @@ const EXTRA: usize = 8192;
 // An inverse is this number, 2^42, divided by another.
 pub const SCALE: usize = 4398046511104;
 
-// The numbers of a search, and where each of its tables begins in the work area.
+// The numbers of a search, and where each of its tables begins in the work area. Numbers of one width stand together: the plan is passed by
+// value, and at 128 bytes or less it is copied without a call.
 pub struct Plan {
     pub places: usize,
     pub lines: usize,
     // The pattern's commands: positions are 0 up to this one, the end.
     pub done: usize,
-    pub keeps: u8,
     // The different boats and one.
     pub radix: usize,
     // radix to the power of keeps: how many stacks of kept boats there are.
@@ -37,8 +37,7 @@ pub struct Plan {
     pub inverse: usize,
     // The search size: places, positions and stacks.
     pub size: usize,
-    // What is loaded: the boats, of which no words stand here yet, each line's boat number, and the lines. All tables stand from `boats` on.
-    pub boats: u32,
+    // What is loaded, from `boats` on: each line's boat number, and the lines.
     pub codes: usize,
     pub words: usize,
     // The search's pairs of stretches of `size` words: phase one's distances and its queue from `base` on, phase two's marks and its
@@ -47,13 +46,16 @@ pub struct Plan {
     pub marks: usize,
     // Phase one's sorted lines, after its pair: by place and kind, by place and boat, and those by kind that are enough where only the
     // place that a line comes from matters; and two words for each place, by which these are made. `filed` says that there is room.
-    pub bykind: u32,
-    pub byboat: u32,
     pub thin: usize,
     pub stamps: usize,
-    pub filed: bool,
+    pub bykind: u32,
+    pub byboat: u32,
     // Phase two's sorted lines, after its pair: by the place that they come from. `ordered` says that there is room.
     pub bystart: u32,
+    // The boats, of which no words stand here yet. All tables stand from this word on.
+    pub boats: u32,
+    pub keeps: u8,
+    pub filed: bool,
     pub ordered: bool,
 }
 
@@ -219,22 +221,22 @@ fn planned(
         places,
         lines,
         done,
-        keeps: keeps as u8,
         radix,
         stacks,
         inverse,
         size,
-        boats: at as u32,
         codes: at,
         words,
         base,
         marks,
-        bykind: bykind as u32,
-        byboat: byboat as u32,
         thin,
         stamps,
-        filed: filed_end <= area,
+        bykind: bykind as u32,
+        byboat: byboat as u32,
         bystart: bystart as u32,
+        boats: at as u32,
+        keeps: keeps as u8,
+        filed: filed_end <= area,
         ordered: ordered_end <= area,
     }
 }

@@ -176,6 +176,32 @@ pub fn passes(radix: usize, spot: Spot, code: u32, v: usize) -> bool
     )
 }
 
+// Does the boat number `code` pass at position `c`, against the stack `v` before it? A power is made only where boats are compared.
+pub fn passes_at(program: &[u64; 128], radix: usize, c: usize, code: u32, v: usize) -> bool
+    requires { ⌜ (c < 64) × (0 < radix) × (radix ^ rowAt (now program) c .level ≤ largest) ⌝ }
+    ensures { λ r. ⌜ r ≡ okay radix (spotIn (now (program .entry)) radix c) code v ⌝ }
+{
+    let row = positions::row_at(program, c);
+    let rule = row.rule;
+    if let Rule::Always = rule {
+        return true;
+    }
+    let level = power(radix, wide(row.level));
+    meets(rule, compared(code as usize, entry_at(v, level, radix)))
+}
+
+// The stack after position `c`, of the stack before it and the line's boat number. A power is made only where there is a push.
+pub fn put_on_at(program: &[u64; 128], radix: usize, c: usize, u: usize, code: u32) -> usize
+    requires { ⌜ (c < 64) × (0 < radix) × (radix ^ depthAt (now program) c ≤ largest) × (u < 4294967296) ⌝ }
+    ensures { λ r. ⌜ r ≡ on (spotIn (now (program .entry)) radix c) u code ⌝ }
+{
+    let row = positions::row_at(program, c);
+    if row.push {
+        return code as usize * power(radix, wide(row.depth)) + u;
+    }
+    u
+}
+
 // Which boats pass, by their numbers, once the boat that the rule compares with is known. `Ask` says nothing: each is to be asked about.
 pub enum Takes {
     Any,
@@ -248,6 +274,14 @@ pub fn stands_at(plan: Plan, s: usize, q: usize) -> bool
     s - low < block
 }
 
+// A number below 2^20 divided by the stacks, as a multiplication by their inverse.
+fn by_stacks(plan: Plan, n: usize) -> usize
+    requires { ⌜ (0 < plan .stacks) × (plan .stacks ≤ largest) × (n ≤ largest) × (plan .inverse ≡ scale / plan .stacks + 1) ⌝ }
+    ensures { λ r. ⌜ r ≡ n / plan .stacks ⌝ }
+{
+    n * plan.inverse / SCALE
+}
+
 // The position and the stack of a state.
 pub struct Stand {
     pub position: usize,
@@ -262,7 +296,7 @@ pub fn standing_at(plan: Plan, s: usize, q: usize) -> Stand
 {
     let low = q * ((plan.done + 1) * plan.stacks);
     let rest = s - low;
-    let position = rest * plan.inverse / SCALE;
+    let position = by_stacks(plan, rest);
     Stand {
         position,
         stack: rest - position * plan.stacks,
@@ -293,14 +327,16 @@ pub struct Target {
 // The state `t` by its numbers.
 pub fn target_of(program: &[u64; 128], plan: Plan, t: usize) -> Target
     requires { ⌜ (0 < plan .stacks) × (0 < plan .radix) × (plan .done ≤ 63) × ((k : ℕ) → k ≤ plan .done → plan .radix ^ depthAt (now program) k ≤ largest) ⌝ }
+    requires { ⌜ (plan .stacks ≤ largest) × (t ≤ largest) × (plan .inverse ≡ scale / plan .stacks + 1) ⌝ }
     ensures { λ r. ⌜ r ≡ targetIn (now (program .entry)) plan t ⌝ }
 {
-    let position = t / plan.stacks % (plan.done + 1);
+    let spots = by_stacks(plan, t);
+    let position = spots % (plan.done + 1);
     let depth = positions::depth_at(program, position);
     let weight = power(plan.radix, depth);
-    let stack = cut(t % plan.stacks, weight);
+    let stack = cut(t - spots * plan.stacks, weight);
     Target {
-        place: t / plan.stacks / (plan.done + 1),
+        place: spots / (plan.done + 1),
         position,
         depth,
         weight,

@@ -11,7 +11,7 @@ use Rattle.area.specs.Area.{found, Under, Step}
 use Rattle.search.specs.Loaded.{settingIn}
 use Rattle.search.specs.Moves.{expand}
 use Rattle.states.specs.Spots.{front, Fit, spotTurn}
-use Rattle.states.proofs.Bounds.{stacks-pos, power-small, aimed}
+use Rattle.states.proofs.Bounds.{stacks-pos, stacks-small, power-small, aimed}
 use Rattle.expanding.proofs.Bridge.{expand-is}
 use Rattle.expanding.proofs.Backs.{spot-passed, backing-under}
 use Rattle.area.proofs.Changes.{under-as, step-none, loop-turn, loop-end, under-front}
@@ -32,7 +32,10 @@ fit : (c : tie.Start Inv-loop μ-loop) → Fit (c .args .plan) (prog c) (c .args
 fit c = c .pre .1 .0 .fit
 
 target-of-requires : tie.Need-target-of-requires Inv-loop μ-loop
-target-of-requires c κs = let f = fit (c .before) in (stacks-pos (f .laid), f .laid .some-radix, f .laid .few-commands, λ k h. power-small (f .laid) _ (f .depths-low k h))
+target-of-requires c κs =
+    let f = fit (c .before) in
+    let laid = f .laid in
+    ((stacks-pos laid, laid .some-radix, laid .few-commands, λ k h. power-small laid _ (f .depths-low k h)), (omega (arith, stacks-small laid, laid .small), omega (arith, c .before .pre .1 .1 .2, laid .small), laid .inverse-is))
 
 loop-holds : tie.Need-loop-holds Inv-loop μ-loop
 loop-holds c =

@@ -1,6 +1,6 @@
 -- `forward::from_state` meets its contract: each test that stops the line makes the step of the setting none, and past them it is the loop over the next positions.
 -- Assumes nothing.
-use mathlib.Core.Path.{_≡_, sym, ap, _∙_, subst}
+use mathlib.Core.Path.{_≡_, refl, sym, ap, _∙_, subst}
 use mathlib.Core.Bool.{true}
 use mathlib.Core.List.{List}
 use Prim.Native.Nat.{ℕ, _+_, _/_, _%_, _<_, _≤_}
@@ -10,8 +10,8 @@ use lib.Dec.{eqb}
 use lib.ListN.{length}
 use Rattle.request.specs.Layout.{fromIn, toIn, kindIn}
 use Rattle.search.specs.Loaded.{codeAt, wordAt}
-use Rattle.states.specs.Spots.{front, Fit, Sane}
-use Rattle.states.proofs.Bounds.{word-low, code-low, base-in, word-front, code-front, stacks-pos, power-small, block-small, stacks-small, spot-sane}
+use Rattle.states.specs.Spots.{front, Fit}
+use Rattle.states.proofs.Bounds.{word-low, code-low, base-in, word-front, code-front, stacks-pos, power-small, block-small, stacks-small}
 use Rattle.area.proofs.Changes.{step-as, step-none}
 use Rattle.forward.proofs.Bridge.{from-elsewhere, from-other-kind, from-refused, from-taken}
 use borrow.Author.Needs.{needs}
@@ -86,60 +86,53 @@ position-low k = pos-low (start (line k)) _ (k .before .standing-at .ensures .0)
 kind-at-requires : tie.Need-kind-at-requires
 kind-at-requires c κs = omega (arith, position-low c, fit (start (line c)) .laid .few-commands)
 
-spot-at-requires : tie.Need-spot-at-requires
-spot-at-requires c κs =
-    let k = c .before .before in
-    let f = fit (start (line k)) in
-    let low = position-low k in
-    ((omega (arith, low, f .laid .few-commands), f .laid .some-radix), (power-small (f .laid) _ (f .levels-low _ low), power-small (f .laid) _ (f .depths-low _ low)))
-
 -- ---- where it is of the line's kind
 
-abbrev kinds : tie.After-spot-at → tie.After-kind-of
-kinds p = p .before .before .before
-
-sane : (p : tie.After-spot-at) → Sane (p .spot-at .result)
-sane p = spot-sane (fit (start (line (kinds p)))) _ (position-low (kinds p)) _ (p .spot-at .ensures)
-
 add-word-2 : tie.Need-add-word-2
-add-word-2 c = let h = in-area (start (line (kinds (c .before .before)))) in omega (arith, h .1, h .2)
+add-word-2 c = let h = in-area (start (line (c .before .before .before .before))) in omega (arith, h .1, h .2)
 
 word-requires-2 : tie.Need-word-requires-2
-word-requires-2 c κs = in-area (start (line (kinds (c .before .before)))) .1
+word-requires-2 c κs = in-area (start (line (c .before .before .before .before))) .1
 
-passes-requires : tie.Need-passes-requires
-passes-requires c κs = let p = c .before .before .before in (fit (start (line (kinds p))) .laid .some-radix, sane p .some-level)
+passes-at-requires : tie.Need-passes-at-requires
+passes-at-requires c κs =
+    let k = c .before .before .before .before .before in
+    let f = fit (start (line k)) in
+    let low = position-low k in
+    (omega (arith, low, f .laid .few-commands), f .laid .some-radix, power-small (f .laid) _ (f .levels-low _ low))
 
-abbrev spots : tie.After-passes → tie.After-spot-at
-spots w = w .before .before .before .before
+abbrev kinds : tie.After-passes-at → tie.After-kind-of
+kinds w = w .before .before .before .before .before .before
 
 -- the boat's number is that of the loaded line
-code-is : (w : tie.After-passes) → let a = start (line (kinds (spots w))) .args in w .before .word2 .result ≡ codeAt (a .plan) (front (a .plan) (a .work .now)) (a .i)
-code-is w = let a = start (line (kinds (spots w))) in code-front (fit a .laid) _ _ (a .pre .1 .1 .0) _ (w .before .word2 .ensures)
+code-is : (w : tie.After-passes-at) → let a = start (line (kinds w)) .args in w .before .word2 .result ≡ codeAt (a .plan) (front (a .plan) (a .work .now)) (a .i)
+code-is w = let a = start (line (kinds w)) in code-front (fit a .laid) _ _ (a .pre .1 .1 .0) _ (w .before .word2 .ensures)
 
-put-on-requires : tie.Need-put-on-requires
-put-on-requires c κs =
-    let p = spots (c .before) in
-    (sane p .small-weight, stack-small (start (line (kinds p))) _ (kinds p .before .standing-at .ensures .1))
+put-on-at-requires : tie.Need-put-on-at-requires
+put-on-at-requires c κs =
+    let k = kinds (c .before) in
+    let f = fit (start (line k)) in
+    let low = position-low k in
+    (omega (arith, low, f .laid .few-commands), f .laid .some-radix, power-small (f .laid) _ (f .depths-low _ low), stack-small (start (line k)) _ (k .before .standing-at .ensures .1))
 
 -- ---- where its boat passes
 
 follow-at-requires : tie.Need-follow-at-requires
-follow-at-requires c κs = let k = kinds (spots (c .before .before)) in omega (arith, position-low k, fit (start (line k)) .laid .few-commands)
+follow-at-requires c κs = let k = kinds (c .before .before) in omega (arith, position-low k, fit (start (line k)) .laid .few-commands)
 
 to-of-requires : tie.Need-to-of-requires
 to-of-requires c κs = search needs
 
-abbrev passed : tie.After-to-of → tie.After-passes
+abbrev passed : tie.After-to-of → tie.After-passes-at
 passed t = t .before .before .before .before
 
-to-is : (t : tie.After-to-of) → let o = line (kinds (spots (passed t))) in let a = start o .args in t .to-of .result ≡ toIn (wordAt (a .plan) (front (a .plan) (a .work .now)) (a .i))
-to-is t = t .to-of .ensures .0 ∙ ap toIn (word-is (line (kinds (spots (passed t)))))
+to-is : (t : tie.After-to-of) → let o = line (kinds (passed t)) in let a = start o .args in t .to-of .result ≡ toIn (wordAt (a .plan) (front (a .plan) (a .work .now)) (a .i))
+to-is t = t .to-of .ensures .0 ∙ ap toIn (word-is (line (kinds (passed t))))
 
 over-next-requires : tie.Need-over-next-requires
 over-next-requires c κs =
     let t = c .before in
-    let a = start (line (kinds (spots (passed t)))) in
+    let a = start (line (kinds (passed t))) in
     let f = fit a in
     (a .pre .0, (f .laid, (subst (_< a .args .plan .places) (sym (to-is t)) (f .ends _ (a .pre .1 .1 .0)), f .depths-low)))
 
@@ -150,15 +143,14 @@ returns : tie.Need-returns
 returns c =
     let t = c .before .before .before .before in
     let w = passed t in
-    let p = spots w in
-    let k = kinds p in
+    let k = kinds w in
     let o = line k in
     let a = start o in
     let laid = fit a .laid in
     let here = k .before .standing-at .ensures in
     step-as _ (c .before .before .over-next .ensures)
     (from-taken (program a) _ _ (laid .stacks-is) (laid .few-commands) _ _ _ _ (a .pre .1 .1 .0) _ (o .from-of .ensures .0 ∙ ap fromIn (word-is o)) (there k) _ _ (here .0) (here .1) _ (k .kind-of .ensures .0 ∙ ap kindIn (word-is o))
-    (p .before .if2 .taken ∙ p .before .before .kind-at .ensures) _ (p .spot-at .ensures) _ (code-is w) (sym (w .passes .ensures) ∙ t .before .before .before .if3 .taken) _ (t .before .before .put-on .ensures) _ (t .before .follow-at .ensures) _ (to-is t))
+    (w .before .before .before .before .if2 .taken ∙ w .before .before .before .before .before .kind-at .ensures) _ refl _ (code-is w) (sym (w .passes-at .ensures) ∙ t .before .before .before .if3 .taken) _ (t .before .before .put-on-at .ensures) _ (t .before .follow-at .ensures) _ (to-is t))
 
 same-length-2 : tie.Need-same-length-2
 same-length-2 c = search needs
@@ -166,15 +158,14 @@ same-length-2 c = search needs
 returns-2 : tie.Need-returns-2
 returns-2 c =
     let w = c .before in
-    let p = spots w in
-    let k = kinds p in
+    let k = kinds w in
     let o = line k in
     let a = start o in
     let laid = fit a .laid in
     let here = k .before .standing-at .ensures in
     step-none _ (a .pre .0)
     (from-refused (program a) _ _ (laid .stacks-is) (laid .few-commands) _ _ _ _ (a .pre .1 .1 .0) _ (o .from-of .ensures .0 ∙ ap fromIn (word-is o)) (there k) _ _ (here .0) (here .1) _ (k .kind-of .ensures .0 ∙ ap kindIn (word-is o))
-    (p .before .if2 .taken ∙ p .before .before .kind-at .ensures) _ (p .spot-at .ensures) _ (code-is w) (sym (w .passes .ensures) ∙ c .if3 .left))
+    (w .before .before .before .before .if2 .taken ∙ w .before .before .before .before .before .kind-at .ensures) _ refl _ (code-is w) (sym (w .passes-at .ensures) ∙ c .if3 .left))
 
 same-length-3 : tie.Need-same-length-3
 same-length-3 c = search needs
@@ -211,11 +202,10 @@ from-state-spec =
     standing-at-requires
     kind-of-requires
     kind-at-requires
-    spot-at-requires
     add-word-2
     word-requires-2
-    passes-requires
-    put-on-requires
+    passes-at-requires
+    put-on-at-requires
     follow-at-requires
     to-of-requires
     over-next-requires

@@ -138,19 +138,19 @@ low-end c =
     omega (arith, few-keys s, s .pre .few-words, s .pre .few-lines, s .pre .few-places, s .pre .small, c .before .before .before .table-words .ensures, c .before .before .table-words2 .ensures, c .before .table-words3 .ensures)
 
 cast-t23 : tie.Need-cast-t23
-cast-t23 c = search needs
+cast-t23 c = omega (arith, low-end c)
 
 cast-t24 : tie.Need-cast-t24
-cast-t24 c = search needs
+cast-t24 c = omega (arith, low-end c)
 
 cast-t25 : tie.Need-cast-t25
-cast-t25 c = omega (arith, low-end c)
+cast-t25 c = search needs
 
 cast-t26 : tie.Need-cast-t26
-cast-t26 c = omega (arith, low-end c)
+cast-t26 c = search needs
 
-cast-t28 : tie.Need-cast-t28
-cast-t28 c = search needs
+cast-t27 : tie.Need-cast-t27
+cast-t27 c = search needs
 
 pub planned-spec : {M : Type 1} → statement M
 planned-spec =
@@ -184,5 +184,5 @@ planned-spec =
     cast-t24
     cast-t25
     cast-t26
-    cast-t28
+    cast-t27
     returns)
