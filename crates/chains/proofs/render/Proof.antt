@@ -1,12 +1,12 @@
--- `asking::render` is safe and ends: a chain that was found is within the output. Assumes nothing.
+-- `chains::render` is safe and ends: a chain that was found is within the output. Assumes nothing.
 use mathlib.Core.Path.{subst}
 use lib.ListN.{length}
 use Rattle.finder.specs.Reply.{findReply}
 use Rattle.finder.specs.Demand.{Bounds}
 use Rattle.finder.specs.declared.FindReply.{FindReply}
 use borrow.Author.Needs.{needs}
-use Rattle.asking.proofs.render.Statement.{statement}
-use Rattle.asking.proofs.render.Tie as tie
+use Rattle.chains.proofs.render.Statement.{statement}
+use Rattle.chains.proofs.render.Tie as tie
 
 enum-known-reply : tie.Need-enum-known-reply
 enum-known-reply c = search needs

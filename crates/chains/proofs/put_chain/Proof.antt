@@ -1,10 +1,10 @@
--- `asking::put_chain` is safe and ends: each turn takes at most 21 of the bytes that are set aside for the entries left. Assumes nothing.
+-- `chains::put_chain` is safe and ends: each turn takes at most 21 of the bytes that are set aside for the entries left. Assumes nothing.
 use mathlib.Core.Path.{_≡_}
 use Prim.Native.Nat.{_+_, _-_, _*_, _≤_}
 use lib.ListN.{length}
 use borrow.Author.Needs.{needs}
-use Rattle.asking.proofs.put_chain.Statement.{statement}
-use Rattle.asking.proofs.put_chain.Tie as tie
+use Rattle.chains.proofs.put_chain.Statement.{statement}
+use Rattle.chains.proofs.put_chain.Tie as tie
 
 abbrev Inv-loop : tie.InvT-loop
 Inv-loop line₀ start chain at₀ i₀ line at i = (i ≤ length chain) × (at + 21 * (length chain - i) ≤ start + 21 * length chain) × (length line ≡ length line₀)

@@ -1,10 +1,10 @@
--- `asking::found_in` is safe and ends: the part is within the output, and so its text within the line. Assumes nothing.
+-- `chains::found_in` is safe and ends: the part is within the output, and so its text within the line. Assumes nothing.
 use mathlib.Core.Path.{sym}
 use native.Mathlib.Omega.{arith}
 use lib.Seq.{length-take-le}
 use borrow.Author.Needs.{needs}
-use Rattle.asking.proofs.found_in.Statement.{statement}
-use Rattle.asking.proofs.found_in.Tie as tie
+use Rattle.chains.proofs.found_in.Statement.{statement}
+use Rattle.chains.proofs.found_in.Tie as tie
 
 slice-aggregate-found : tie.Need-slice-aggregate-found
 slice-aggregate-found c = sym (length-take-le _ _ (c .before .before .before .before .pre .1))

@@ -1,9 +1,9 @@
--- `asking::answer_line` is safe and ends: the end stands before the line's length, so one byte more fits. Assumes nothing.
+-- `chains::answer_line` is safe and ends: the end stands before the line's length, so one byte more fits. Assumes nothing.
 use mathlib.Core.Path.{sym}
 use lib.Seq.{length-take-le}
 use borrow.Author.Needs.{needs}
-use Rattle.asking.proofs.answer_line.Statement.{statement}
-use Rattle.asking.proofs.answer_line.Tie as tie
+use Rattle.chains.proofs.answer_line.Statement.{statement}
+use Rattle.chains.proofs.answer_line.Tie as tie
 
 answer-requires : tie.Need-answer-requires
 answer-requires c κs = search needs

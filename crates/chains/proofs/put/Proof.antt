@@ -1,10 +1,10 @@
--- `asking::put` is safe and ends: i goes up to the length of the text, which fits the line from the place on. Assumes nothing.
+-- `chains::put` is safe and ends: i goes up to the length of the text, which fits the line from the place on. Assumes nothing.
 use mathlib.Core.Path.{_≡_}
 use Prim.Native.Nat.{_-_, _≤_}
 use lib.ListN.{length}
 use borrow.Author.Needs.{needs}
-use Rattle.asking.proofs.put.Statement.{statement}
-use Rattle.asking.proofs.put.Tie as tie
+use Rattle.chains.proofs.put.Statement.{statement}
+use Rattle.chains.proofs.put.Tie as tie
 
 abbrev Inv-loop : tie.InvT-loop
 Inv-loop line₀ at text i₀ line i = (i ≤ length text) × (length line ≡ length line₀)

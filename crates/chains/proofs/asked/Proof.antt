@@ -1,4 +1,4 @@
--- `asking::asked` is safe and ends: what the finder promises of its reply is what the line is made of. Assumes nothing.
+-- `chains::asked` is safe and ends: what the finder promises of its reply is what the line is made of. Assumes nothing.
 use mathlib.Core.Path.{sym, subst}
 use Prim.Native.Nat.{ℕ, _<_}
 use native.Mathlib.Omega.{arith}
@@ -6,8 +6,8 @@ use lib.ListN.{getD}
 use Rattle.finder.specs.Reply.{findReply}
 use Rattle.finder.specs.Demand.{Bounds, find-bounds}
 use borrow.Author.Needs.{needs}
-use Rattle.asking.proofs.asked.Statement.{statement}
-use Rattle.asking.proofs.asked.Tie as tie
+use Rattle.chains.proofs.asked.Statement.{statement}
+use Rattle.chains.proofs.asked.Tie as tie
 
 slice-aggregate-find : tie.Need-slice-aggregate-find
 slice-aggregate-find c = search needs
