@@ -1,7 +1,7 @@
-"""The two files of a test program: data/rows.bin, what it is asked, and stdout, what it has to write.
+"""A table of the test program crates/rows: a file of its data/, what it is asked, and a part of its stdout, what it has to write.
 
-rows.bin is a list of fields: a field is its length in two bytes, high byte first, and so many bytes. Each field is a row, which is
-again a list of fields (crates/rows)."""
+The file is a list of fields: a field is its length in two bytes, high byte first, and so many bytes. Each field is a row, which is
+again a list of fields (crates/rows/src/file.rt)."""
 import os
 import sys
 
@@ -21,14 +21,13 @@ def long(n): return n.to_bytes(4, "big")
 class Table:
     """Rows and the text that they make the program write."""
 
-    def __init__(self): self.rows, self.said = b"", ""
+    def __init__(self, name): self.name, self.rows, self.said = name + ".bin", b"", ""
 
     def row(self, said, *fields):
         self.rows += field(b"".join(field(f.encode() if isinstance(f, str) else f) for f in fields))
         self.said += said
 
     def write(self):
-        """Writes both files in the folder that the command names."""
-        os.makedirs(sys.argv[1] + "/data", exist_ok=True)
-        with open(sys.argv[1] + "/data/rows.bin", "wb") as out: out.write(self.rows)
-        with open(sys.argv[1] + "/stdout", "w") as out: out.write(self.said)
+        """Writes the rows to the table's file in the folder that the command names, and prints the part of stdout."""
+        with open(os.path.join(sys.argv[1], self.name), "wb") as out: out.write(self.rows)
+        print(self.name + ":\n" + self.said, end="")

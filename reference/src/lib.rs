@@ -12,7 +12,7 @@
 //! - `program`: the line that the small program prints.
 //! - `library`: the seven functions that scoring software calls, as a trait.
 //! - `compare`, `cases`, `rounds`, `generator`, `random`: a library compared with this one.
-//! - `rows`: the rows of the test program `find_random`.
+//! - `rows`: the rows made at random of the test program `rows`.
 //! - `faults`: copies of this program with one fault each, which the comparison must find.
 
 pub mod cases;

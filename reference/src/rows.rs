@@ -1,5 +1,5 @@
-//! Requests at random for the test program `find_random`, with this program's answers: its
-//! file of rows, and what it has to write.
+//! Requests at random for the test program `rows`, with this program's answers: the file of
+//! the rows, and what they make it write.
 //!
 //! A row has the fields that the program reads: a name, the record, the pattern, the two
 //! places, how many words of work area and how many entries of output are lent. A field is

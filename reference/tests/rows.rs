@@ -1,4 +1,4 @@
-//! The rows of the test program `find_random`: every sort is there, and the file fits.
+//! The rows made at random of the test program `rows`: every sort is there, and the file fits.
 
 use reference::rows::{rows, LONGEST_FILE};
 

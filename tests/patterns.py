@@ -1,0 +1,76 @@
+#!/usr/bin/env python3
+"""Rows about patterns and what they make crates/rows write, from document 01's text alone (table, questions 8 to 14, "keeps").
+
+A pattern is read with a list of patterns still due, each with the slots kept and the keeps around it: no recursion, no tree.
+Run from the repository's root: python3 tests/patterns.py FOLDER writes FOLDER/patterns.bin and prints a part of crates/rows/stdout."""
+from table import Table, byte
+
+TABLE = {0x20: (0, 0), 0x21: (1, 0), 0x22: (2, 0), 0x23: (2, 0), 0x24: (0, 2), 0x25: (0, 2), 0x26: (0, 1), 0x27: (2, 1)}
+
+def read(data, given=()):
+    due, at, commands, deepest = [(frozenset(given), 0)], 0, 0, 0
+    while due:
+        kept, around = due.pop()
+        if at >= len(data) or data[at] not in TABLE: return "refused 8 0"
+        code = data[at]
+        commands += 1
+        if commands > 63: return "refused 9 0"
+        width, after = TABLE[code]
+        operands = data[at + 1:at + 1 + width]
+        if len(operands) < width: return "refused 10 0"
+        if width > 0 and operands[0] not in range(1, 16): return "refused 11 0"
+        if width > 1 and operands[1] not in range(4): return "refused 11 0"
+        if code in (0x22, 0x23) and operands[1] not in kept: return "refused 12 0"
+        if code == 0x27:
+            kept, around = kept | {operands[1]}, around + 1
+            if around > 3: return "refused 13 0"
+            deepest = max(deepest, around)
+        due += [(kept, around)] * after
+        at += 1 + width
+    return "refused 14 0" if at < len(data) else "pattern %d %d" % (commands, deepest)
+
+table = Table("patterns")
+def heading(text): table.row(text + "\n", byte(0), text + "\n")
+def hexes(data): return "".join("%02x " % b for b in data)
+def reply(text, data): table.row(text + read(data) + "\n", byte(1), text, data)
+def asked(*texts):
+    for t in texts: data = bytes.fromhex(t); reply(hexes(data), data)
+def repeats(n, rest): data = bytes.fromhex(rest); reply("%d times 26 " % n + hexes(data), b"\x26" * n + data)
+def thens(first, thens, nothings): asked(first + "25" * thens + "20" * nothings)
+def given(text, *slots):
+    data, kept = bytes.fromhex(text), [int(i in slots) for i in range(4)]
+    before = hexes(kept) + "gives " + hexes(data)
+    table.row(before + read(data, slots) + "\n", byte(2), before, data, *map(byte, kept))
+def number(text, data): table.row(text + read(data).replace("pattern", "refused 0").split()[1], byte(3), text, data)
+
+P, S = "270100 25 220200 25 26 220300 220400", "270100 25 270100 230100 220100"
+heading("document 01")
+asked(P, S, "", "21", "2100", "220100", "2020", "20", "2103", "2620")
+heading("single bytes")
+for code in range(256): number(" " if code % 16 else "\n" if code else "", bytes([code]))
+heading("\nnumber of commands")
+for n in 61, 62, 63, 64: repeats(n, "20")
+repeats(62, ""); repeats(63, ""); repeats(63, "ff"); repeats(63, "28"); repeats(63, "21"); repeats(62, "21")
+repeats(62, "2101"); repeats(62, "2100"); repeats(62, "2020"); repeats(62, "20ff")
+thens("", 30, 31); thens("26", 30, 31); thens("", 31, 32); thens("26", 31, 32); thens("", 32, 33)
+heading("order of questions")
+asked("242100ff", "2422010021", "242101", "2421011f", "2200", "220005", "220105", "220000", "20ff", "2000", "24202020", "242020")
+heading("operands cut")
+whole = bytes.fromhex(P)
+asked(*[whole[:n].hex() for n in range(len(whole) + 1)])
+heading("kinds and slots")
+for k in 0, 1, 15, 16, 255: asked("21%02x" % k, "27%02x0020" % k)
+for s in 0, 1, 2, 3, 4, 255: asked("2301%02x" % s, "2701%02x 2201%02x" % (s, s))
+heading("keeps around")
+asked("25 270100 20 220100", "270100 25 270101 20 220101", "270100 25 270101 20 220100", "270100 25 270100 20 220100",
+      "270102 26 24 20 230102", "270102 26 24 20 230103", "24 270100 220100 220100", "24 220100 270100 220100")
+heading("keeps deep")
+asked("270100 20", "270100 270101 20", "270100 270101 270102 20", "270100 270101 270102 270103 20", "270100 270100 270100 20",
+      "270100 270100 270100 270100 20", "270100 270101 270102 270107 20", "270100 270101 270102 2701",
+      "25 270100 20 270101 270102 20", "25 270101 270102 20 270100 20",
+      "25 270100 270101 270102 20 270100 270101 270102 20",
+      "270100 26 270101 24 20 270102 26 20", "270100 26 270101 24 20 270102 26 270103 20")
+heading("slots given")
+given("220103", 3); given("220103", 0, 1, 2); given("220102", 3); given("220104", 0, 1, 2, 3)
+given("25 270103 20 230103", 3); given("25 220103 25 220203 25 26 220303 220403", 3); given("270100 270101 270102 220103", 3)
+table.write()
