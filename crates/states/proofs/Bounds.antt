@@ -153,4 +153,4 @@ aimed {plan} {a} f t less x e =
     let low : k ≤ plan .done = omega (arith, mod-lt (t / plan .stacks) {m = plan .done + 1} (omega arith)) in
     let d = depthAt a k in
     subst (Aimed plan) (sym e)
-    (record { place-low = place-at (f .laid) t less; position-low = low; depth-low = f .depths-low k low; weight-is = refl; stack-low = mod-lt (t % plan .stacks) (power-pos (f .laid) d) })
+    (record { place-low = place-at (f .laid) t less; position-low = low; depth-low = f .depths-low k low; weight-is = refl; stack-low = mod-lt (t % plan .stacks) (power-pos (f .laid) d); entries = record { first-is = refl; second-is = refl } })

@@ -1,12 +1,18 @@
 -- Comparing two boats by their numbers, and what a rule takes of it.
 use mathlib.Core.Path.{_≡_, refl, ap}
 use mathlib.Core.Bool.{Bool, true, false, cond, not}
+use mathlib.Core.List.{[], _∷_}
+use mathlib.Core.Logic.{inl, inr}
 use Prim.Native.Nat.{ℕ, _/_, _%_}
+use native.Mathlib.Omega.{arith}
 use lib.Dec.{eqb}
 use borrow.Author.Tests.{eq-eqb, ne-eqb}
 use Rattle.meaning.specs.Language.{Compared, same-boat, other-boat, meets}
 use Rattle.meaning.specs.Pattern.{same, other}
 use Rattle.positions.specs.declared.Rule.{Rule}
+use Rattle.positions.proofs.Rule.{the-type}
+use denote.Enum.Declared.{tagOf}
+use types.Run.{OneOf}
 use Rattle.positions.specs.declared.Rule.the-variants as Rule
 use Rattle.boats.specs.Codes.{telling}
 use Rattle.states.specs.Spots.{toldShown, sameShown, metBy, okay}
@@ -21,7 +27,12 @@ module _ (x y : ℕ) where
   pub telling-other : (x ≡ y → ⊥) → telling x y ≡ other-boat
   telling-other n = rw (ne-eqb x y n)
 
--- ---- what same and other take
+-- ---- what a rule takes
+
+none-of : {A : Type 0} (x i j k : ℕ) → OneOf (i ∷ j ∷ k ∷ []) x → (x ≡ i → ⊥) → (x ≡ j → ⊥) → (x ≡ k → ⊥) → A
+none-of x i j k (inl e) a b c = absurd (a e)
+none-of x i j k (inr (inl e)) a b c = absurd (b e)
+none-of x i j k (inr (inr e)) a b c = absurd (c e)
 
 pub same-met : (o : Told) → sameShown o ≡ metBy Rule.Same (toldShown o)
 same-met Told.SameBoat = refl
@@ -30,6 +41,13 @@ same-met Told.OtherBoat = refl
 pub other-met : (o : Told) → not (sameShown o) ≡ metBy Rule.Other (toldShown o)
 other-met Told.SameBoat = refl
 other-met Told.OtherBoat = refl
+
+-- a rule that is none of the other three takes nothing
+pub never-left : (r : Rule) → OneOf (0 ∷ 2 ∷ 3 ∷ []) (tagOf the-type r) → OneOf (0 ∷ 1 ∷ 3 ∷ []) (tagOf the-type r) → OneOf (0 ∷ 1 ∷ 2 ∷ []) (tagOf the-type r) → (o : Compared) → false ≡ metBy r o
+never-left Rule.Never a s t o = refl
+never-left Rule.Always a s t o = none-of 1 0 2 3 a (omega arith) (omega arith) (omega arith)
+never-left Rule.Same a s t o = none-of 2 0 1 3 s (omega arith) (omega arith) (omega arith)
+never-left Rule.Other a s t o = none-of 3 0 1 2 t (omega arith) (omega arith) (omega arith)
 
 -- ---- the rule of a position
 

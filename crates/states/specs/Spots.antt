@@ -106,19 +106,31 @@ TakenBy R s v Takes.Ask = Unit {0}
 pub record OnlyKept (s : Spot) : Type 0 where
   pub kept : (R x v : ℕ) → okay R s x v ≡ eqb x (v / s .level % R)
 
+-- every boat does
+pub record TakesAll (s : Spot) : Type 0 where
+  pub every : (R x v : ℕ) → okay R s x v ≡ true
+
 -- ---- a state that is expanded, by its numbers
 
 unfoldable pub targetIn : List ℕ → Plan → ℕ → Target
 targetIn a plan t =
     let k = t / plan .stacks % (plan .done + 1) in
     let e = depthAt a k in
+    let v = t % plan .stacks % plan .radix ^ e in
     record {
       place = t / plan .stacks / (plan .done + 1);
       position = k;
       depth = e;
       weight = plan .radix ^ e;
-      stack = t % plan .stacks % plan .radix ^ e;
+      stack = v;
+      first = v % plan .radix;
+      second = v / plan .radix % plan .radix;
     }
+
+-- its stack's lowest entries are that
+pub record Entries (R : ℕ) (t : Target) : Type 0 where
+  pub first-is : t .first ≡ t .stack % R
+  pub second-is : t .second ≡ t .stack / R % R
 
 -- its place, position and depth are in range
 pub record Aimed (plan : Plan) (t : Target) : Type 0 where
@@ -127,6 +139,7 @@ pub record Aimed (plan : Plan) (t : Target) : Type 0 where
   pub depth-low : t .depth ≤ plan .keeps
   pub weight-is : t .weight ≡ plan .radix ^ t .depth
   pub stack-low : t .stack < t .weight
+  pub entries : Entries (plan .radix) t
 
 -- ---- forward
 

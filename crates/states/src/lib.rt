@@ -7,7 +7,7 @@ ghost use Rattle.positions.specs.Program.{rowAt, depthAt};
 ghost use Rattle.boats.specs.Codes.{telling};
 ghost use Rattle.request.specs.Layout.{largest, scale};
 ghost use Rattle.states.specs.Served.{Thinnable};
-ghost use Rattle.states.specs.Spots.{toldShown, sameShown, metBy, spotIn, off, on, okay, TakenBy, OnlyKept, Lowest, targetIn};
+ghost use Rattle.states.specs.Spots.{toldShown, sameShown, metBy, spotIn, off, on, okay, TakenBy, OnlyKept, TakesAll, Lowest, Entries, targetIn};
 use positions::Rule;
 use request::Plan;
 use request::SCALE;
@@ -42,16 +42,20 @@ pub fn compared(a: usize, b: usize) -> Told
     }
 }
 
-// Does the rule take what the comparison told?
+// Does the rule take what the comparison told? Rules are asked about one by one, here and below: a `match` is compiled to a jump.
 pub fn meets(rule: Rule, told: Told) -> bool
     ensures { λ r. ⌜ r ≡ metBy rule (toldShown told) ⌝ }
 {
-    match rule {
-        Rule::Never => false,
-        Rule::Always => true,
-        Rule::Same => told.same(),
-        Rule::Other => !told.same(),
+    if let Rule::Always = rule {
+        return true;
     }
+    if let Rule::Same = rule {
+        return told.same();
+    }
+    if let Rule::Other = rule {
+        return !told.same();
+    }
+    false
 }
 
 // ---- a position by its numbers
@@ -150,6 +154,9 @@ fn above(stack: usize, level: usize) -> usize
     if level == 1 {
         return stack;
     }
+    if stack < level {
+        return 0;
+    }
     stack / level
 }
 
@@ -211,26 +218,23 @@ pub enum Takes {
     Ask,
 }
 
-// Those that pass against the stack before the position.
-pub fn taken_by(radix: usize, spot: Spot, stack: usize) -> Takes
-    requires { ⌜ (0 < radix) × (0 < spot .level) ⌝ }
-    ensures { λ r. ⌜ TakenBy radix spot stack r ⌝ }
-{
-    let rule = spot.rule;
-    match rule {
-        Rule::Never => Takes::Nobody,
-        Rule::Always => Takes::Any,
-        Rule::Same => Takes::Only(entry_at(stack, spot.level, radix)),
-        Rule::Other => Takes::AllBut(entry_at(stack, spot.level, radix)),
-    }
-}
-
 // Whatever the stack, does only the boat pass that stands at the rule's level?
 pub fn wants_kept(spot: Spot) -> bool
     ensures { λ r. ⌜ (r ≡ true → OnlyKept spot) ⌝ }
 {
     let rule = spot.rule;
     if let Rule::Same = rule {
+        return true;
+    }
+    false
+}
+
+// Whatever the stack, does every boat pass?
+pub fn takes_all(spot: Spot) -> bool
+    ensures { λ r. ⌜ (r ≡ true → TakesAll spot) ⌝ }
+{
+    let rule = spot.rule;
+    if let Rule::Always = rule {
         return true;
     }
     false
@@ -315,13 +319,16 @@ pub fn lowest(mask: u64) -> usize
 
 // ---- a state that is expanded, by its numbers
 
-// A state that is expanded: its place, its position, the position's depth, radix^depth, and its stack cut to that depth.
+// A state that is expanded: its place, its position, the position's depth, radix^depth, its stack cut to that depth, and the stack's two
+// lowest entries, which many positions compare with.
 pub struct Target {
     pub place: usize,
     pub position: usize,
     pub depth: usize,
     pub weight: usize,
     pub stack: usize,
+    pub first: usize,
+    pub second: usize,
 }
 
 // The state `t` by its numbers.
@@ -335,11 +342,51 @@ pub fn target_of(program: &[u64; 128], plan: Plan, t: usize) -> Target
     let depth = positions::depth_at(program, position);
     let weight = power(plan.radix, depth);
     let stack = cut(t - spots * plan.stacks, weight);
+    let first = cut(stack, plan.radix);
+    let second = entry_at(stack, plan.radix, plan.radix);
     Target {
         place: spots / (plan.done + 1),
         position,
         depth,
         weight,
         stack,
+        first,
+        second,
     }
+}
+
+// The boat number at a level of its stack.
+fn kept_at(radix: usize, target: Target, level: usize) -> usize
+    requires { ⌜ (0 < radix) × (0 < level) × Entries radix target ⌝ }
+    ensures { λ r. ⌜ (r ≡ target .stack / level % radix) × (r < radix) ⌝ }
+{
+    if level == 1 {
+        return target.first;
+    }
+    if level == radix {
+        return target.second;
+    }
+    entry_at(target.stack, level, radix)
+}
+
+// The boats that pass against its stack, as the stack before the position.
+pub fn taken_by(radix: usize, spot: Spot, target: Target) -> Takes
+    requires { ⌜ (0 < radix) × (0 < spot .level) × Entries radix target ⌝ }
+    ensures { λ r. ⌜ TakenBy radix spot (target .stack) r ⌝ }
+{
+    let rule = spot.rule;
+    if let Rule::Always = rule {
+        return Takes::Any;
+    }
+    if let Rule::Never = rule {
+        return Takes::Nobody;
+    }
+    let kept = kept_at(radix, target, spot.level);
+    if let Rule::Same = rule {
+        return Takes::Only(kept);
+    }
+    if let Rule::Other = rule {
+        return Takes::AllBut(kept);
+    }
+    Takes::Ask
 }

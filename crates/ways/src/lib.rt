@@ -155,7 +155,7 @@ fn pushing_way(plan: Plan, spot: Spot, target: Target, c: usize) -> Way
         return Way::ByStack;
     }
     let u = target.stack % spot.weight;
-    if let Takes::Any = states::taken_by(plan.radix, spot, u) {
+    if states::takes_all(spot) {
         return boat_way(plan, spot, target, c, u, x);
     }
     Way::ByStack
@@ -169,7 +169,7 @@ fn exact_way(plan: Plan, spot: Spot, target: Target, c: usize) -> Way
     if spot.push {
         return pushing_way(plan, spot, target, c);
     }
-    match states::taken_by(plan.radix, spot, target.stack) {
+    match states::taken_by(plan.radix, spot, target) {
         Takes::Any => kind_way(plan, spot, target, c, 0, NONE),
         Takes::Only(x) => boat_way(plan, spot, target, c, target.stack, x),
         Takes::AllBut(x) => kind_way(plan, spot, target, c, 0, x),
@@ -186,7 +186,7 @@ fn dropping_way(plan: Plan, spot: Spot, target: Target, c: usize) -> Way
     if spot.weight != target.weight {
         return Way::ByStack;
     }
-    if let Takes::Any = states::taken_by(plan.radix, spot, target.stack) {
+    if states::takes_all(spot) {
         return kind_way(plan, spot, target, c, 0, NONE);
     }
     Way::ByStack

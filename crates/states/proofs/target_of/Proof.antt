@@ -49,17 +49,31 @@ cut-requires c κs =
     let a = c .before .before .before .before .before in
     omega (arith, c .before .power .ensures, one-le-pow (c .before .before .depth-at .result) (a .args .plan .radix) (a .pre .0 .1))
 
-add-t9 : tie.Need-add-t9
-add-t9 c = search needs
+cut-requires-2 : tie.Need-cut-requires-2
+cut-requires-2 c κs = c .before .before .before .before .before .before .pre .0 .1
 
-div-t10 : tie.Need-div-t10
-div-t10 c = search needs
+entry-at-requires : tie.Need-entry-at-requires
+entry-at-requires c κs = let some = c .before .before .before .before .before .before .before .pre .0 .1 in (some, some)
+
+add-t11 : tie.Need-add-t11
+add-t11 c = search needs
+
+div-t12 : tie.Need-div-t12
+div-t12 c = search needs
 
 returns : tie.Need-returns
 unfolding targetIn
 returns c =
-    let b = c .before .before .before .before .before .before in
-    rw (c .before .cut .ensures .0, c .before .before .before .power .ensures, c .before .before .before .before .depth-at .ensures, rest-is _ _ _ (b .by-stacks .ensures), b .by-stacks .ensures)
+    let b = c .before .before .before .before .before .before .before .before in
+    rw (
+      c .before .entry-at .ensures .0,
+      c .before .before .cut2 .ensures .0,
+      c .before .before .before .cut .ensures .0,
+      c .before .before .before .before .before .power .ensures,
+      c .before .before .before .before .before .before .depth-at .ensures,
+      rest-is _ _ _ (b .by-stacks .ensures),
+      b .by-stacks .ensures,
+    )
 
 pub target-of-spec : {M : Type 1} → statement M
 target-of-spec =
@@ -73,6 +87,8 @@ target-of-spec =
     mul-cut
     sub-cut
     cut-requires
-    add-t9
-    div-t10
+    cut-requires-2
+    entry-at-requires
+    add-t11
+    div-t12
     returns)

@@ -14,7 +14,7 @@ returns : tie.Need-returns
 returns c = search needs
 
 taken-by-requires : tie.Need-taken-by-requires
-taken-by-requires c κs = search needs
+taken-by-requires c κs = let a = c .before in (a .pre .laid .some-radix, a .pre .sane .some-level, a .pre .aimed .entries)
 
 enum-told : tie.Need-enum-told
 enum-told c = search needs

@@ -1,7 +1,5 @@
 -- `ways::pushing_way` meets its contract: the boat on top of the state's stack is the line's, where every boat passes. Assumes nothing.
-use mathlib.Core.Path.{subst}
 use native.Mathlib.Omega.{arith}
-use Rattle.states.specs.Spots.{TakenBy}
 use Rattle.ways.proofs.Chosen.{before-fits, push-single}
 use borrow.Author.Needs.{needs}
 use Rattle.ways.proofs.pushing_way.Statement.{statement}
@@ -16,20 +14,19 @@ returns c = search needs
 rem-u : tie.Need-rem-u
 rem-u c = search needs
 
-taken-by-requires : tie.Need-taken-by-requires
-taken-by-requires c κs = search needs
-
-enum-told : tie.Need-enum-told
-enum-told c = search needs
+takes-all-requires : tie.Need-takes-all-requires
+takes-all-requires c κs = search needs
 
 boat-way-requires : tie.Need-boat-way-requires
-boat-way-requires c κs = let a = c .before .before .before .before .before .before .before .before .before in (a .pre .0, before-fits _ _ _ _ _ (a .pre .0), omega (arith, c .before .before .before .before .before .if1 .left))
+boat-way-requires c κs =
+    let a = c .before .before .before .before .before .before .before .before in
+    (a .pre .0, before-fits _ _ _ _ _ (a .pre .0), omega (arith, c .before .before .before .before .if1 .left))
 
 returns-2 : tie.Need-returns-2
 returns-2 c =
-    let a = c .before .before .before .before .before .before .before .before .before .before in
-    let any = subst (TakenBy _ _ _) (c .before .enum-told .given .1) (c .before .before .before .taken-by .ensures) in
-    c .boat-way .ensures 1 (push-single _ _ _ _ _ (a .pre .0) (a .pre .1) any)
+    let a = c .before .before .before .before .before .before .before .before .before in
+    let all = c .before .before .takes-all .ensures (c .before .if2 .taken) in
+    c .boat-way .ensures 1 (push-single _ _ _ _ _ (a .pre .0) (a .pre .1) (λ x. all .every _ x _))
 
 returns-3 : tie.Need-returns-3
 returns-3 c = search needs
@@ -41,8 +38,7 @@ pushing-way-spec =
     div-x
     returns
     rem-u
-    taken-by-requires
-    enum-told
+    takes-all-requires
     boat-way-requires
     returns-2
     returns-3)
