@@ -79,7 +79,7 @@ backing-under {plan} {w₀ = w₀} {w = w} u b =
           record {
             room = omega (arith, t .room, u .long);
             kinds = sorted-same Order.Kind plan (plan .bykind) w₀ w (t .kinds) f (behind (plan .bykind) (omega arith));
-            boats = sorted-same Order.Boat plan (plan .byboat) w₀ w (t .boats) f (behind (plan .byboat) (omega (arith, l .boats-at)));
+            boats = λ kept. sorted-same Order.Boat plan (plan .byboat) w₀ w (t .boats kept) f (behind (plan .byboat) (omega (arith, l .boats-at)));
             thin = thin-same plan (plan .bykind) (plan .thin) w₀ w (t .kinds) (t .thin) (behind (plan .bykind) (omega arith)) (omega (arith, l .boats-at, l .thin-at));
           };
     }

@@ -3,7 +3,7 @@
 use mathlib.Core.Path.{_≡_, sym, _∙_, subst}
 use mathlib.Core.Bool.{true}
 use mathlib.Core.List.{List}
-use Prim.Native.Nat.{ℕ, _+_, _≤_}
+use Prim.Native.Nat.{ℕ, _+_, _≤_, _<_}
 use native.Mathlib.Nat.{mod-lt}
 use native.Mathlib.Omega.{arith}
 use lib.Arith.{digits-lt}
@@ -66,7 +66,7 @@ module _ (plan : Plan) (w : List ℕ) (l : Laid plan (length w)) (told : Told pl
         let same = kept-take one (plan .base) (omega (arith, table-behind l Order.Kind)) in
         (laid, (keyed-boat plan u laid (subst (Told plan) (sym same) told), omega (arith, boats-end l, l .stamps-at, whole-room, one .long)))
 
-    module _ (v : List ℕ) (boats : Sorted Order.Boat plan (plan .byboat) v) (two : Kept (plan .byboat) (tableEnd Order.Boat plan) u v) where
+    module _ (v : List ℕ) (boats : 0 < plan .keeps → Sorted Order.Boat plan (plan .byboat) v) (two : Kept (plan .byboat) (tableEnd Order.Boat plan) u v) where
       past : plan .base ≤ plan .byboat
       past = omega (arith, table-behind l Order.Boat)
 
@@ -92,7 +92,7 @@ module _ (plan : Plan) (w : List ℕ) (l : Laid plan (length w)) (told : Told pl
             record {
               room = omega (arith, whole-room, long, three .long);
               kinds = sorted-kept Order.Kind plan (plan .bykind) (plan .thin) (filedEnd plan) v x kinds-stay three behind (omega (arith, kinds-end l, l .thin-at)) there;
-              boats = sorted-kept Order.Boat plan (plan .byboat) (plan .thin) (filedEnd plan) v x boats three behind (omega (arith, boats-end l)) there;
+              boats = λ kept. sorted-kept Order.Boat plan (plan .byboat) (plan .thin) (filedEnd plan) v x (boats kept) three behind (omega (arith, boats-end l)) there;
               thin = thin;
             }
 

@@ -86,7 +86,7 @@ pub record Runs (o : Order) (plan : Plan) (s : Spot) (t : Target) (c count k : �
 
 -- a way is right for so many stacks
 abbrev pub Right : Plan → Spot → Target → ℕ → ℕ → Way → Type 0
-Right plan s t c count (Way.ByBoat k lane) = Runs Order.Boat plan s t c count k lane
+Right plan s t c count (Way.ByBoat k lane) = (0 < plan .keeps) × Runs Order.Boat plan s t c count k lane
 Right plan s t c count (Way.ByKind k lane) = Runs Order.Kind plan s t c count k lane
 Right plan s t c count Way.ByStack = Unit {0}
 

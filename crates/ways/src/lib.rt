@@ -9,7 +9,7 @@ ghost use Rattle.states.specs.Pairs.{StepBack};
 ghost use Rattle.ways.specs.Ways.{laneState, takenBy, laneTurn, LaneTo, Narrow, ThinLane, Within, runTurn, Told, Gives, Single, Right, Before};
 ghost use mathlib.Core.Bool.{true, not};
 ghost use lib.Dec.{eqb};
-ghost use Rattle.sorted.specs.Sorting.{keys, tableAt, tableEnd, Sorted, Kept};
+ghost use Rattle.sorted.specs.Sorting.{keys, tableAt, tableEnd, Keyed, Sorted, Kept};
 ghost use Rattle.ways.specs.Stacked.{Enough};
 ghost use Rattle.ways.specs.Filed.{Filed};
 ghost use Rattle.sorted.specs.declared.Order.the-variants as Orders;
@@ -127,11 +127,14 @@ fn lane_at(plan: Plan, c: usize, u: usize, weight: usize, number: usize, only: b
     }
 }
 
-// The lines of the boat number `boat`: the stack before is `u`.
+// The lines of the boat number `boat`: the stack before is `u`. Where no boat is kept the lines are not sorted by boat.
 fn boat_way(plan: Plan, spot: Spot, target: Target, c: usize, u: usize, boat: usize) -> Way
     requires { ⌜ Before plan spot target c (target .depth) × (u < plan .stacks) × (boat < plan .radix) ⌝ }
     ensures { λ r. ⌜ ((count : ℕ) → Single plan spot target count (λ x. eqb x boat) (λ x. u) → Right plan spot target c count r) ⌝ }
 {
+    if plan.keeps == 0 {
+        return Way::ByStack;
+    }
     let lane = lane_at(plan, c, u, 0, spot.kind, true);
     Way::ByBoat(target.place * plan.radix + boat, lane)
 }
@@ -282,6 +285,19 @@ pub fn lines_for(work: &[u32], plan: Plan, spot: Spot, target: Target) -> Bounds
     sorted::run_of(work, plan, Order::Kind, k)
 }
 
+// The lines are sorted by boat, if boats are kept: no position asks for one boat's lines otherwise.
+fn sort_boats(work: &mut [u32], plan: Plan)
+    requires { ⌜ Laid plan (length (now work)) ⌝ }
+    requires { ⌜ Keyed Orders.Boat plan (now work) × (tableEnd Orders.Boat plan ≤ length (now work)) ⌝ }
+    ensures { λ _. ⌜ (0 < plan .keeps → Sorted Orders.Boat plan (plan .byboat) (now (work .exit))) ⌝ }
+    ensures { λ _. ⌜ Kept (plan .byboat) (tableEnd Orders.Boat plan) (now (work .entry)) (now (work .exit)) ⌝ }
+{
+    if plan.keeps == 0 {
+        return;
+    }
+    sorted::sort_lines(work, plan, Order::Boat);
+}
+
 // The lines are sorted by kind and by boat, and thinned, where there is room.
 pub fn file_lines(work: &mut [u32], plan: Plan)
     requires { ⌜ Laid plan (length (now work)) ⌝ }
@@ -293,6 +309,6 @@ pub fn file_lines(work: &mut [u32], plan: Plan)
         return;
     }
     sorted::sort_lines(work, plan, Order::Kind);
-    sorted::sort_lines(work, plan, Order::Boat);
+    sort_boats(work, plan);
     thinned::thin_lines(work, plan);
 }

@@ -29,7 +29,7 @@ over-run-requires c κs =
     let laid = a .pre .1 .0 .0 in
     let f = a .pre .1 .1 .1 .1 in
     let (some, near) = a .pre .1 .1 .1 .0 in
-    (a .pre .0, ((laid, r .key-low), ((f .boats, boats-fit laid f), (r .narrow, r .gives _ (a .pre .1 .0 .1), some, near))))
+    (a .pre .0, ((laid, r .1 .key-low), ((f .boats (r .0), boats-fit laid f), (r .1 .narrow, r .1 .gives _ (a .pre .1 .0 .1), some, near))))
 
 same-length : tie.Need-same-length
 same-length c = search needs
@@ -38,7 +38,7 @@ returns : tie.Need-returns
 returns c =
     let a = c .before .before .before .before .before .before .before .before .before in
     let r = subst (Right _ _ _ _ _) (c .before .before .before .before .before .k .given .1) (right (c .before .before .before .before .before .before .before)) in
-    step-as _ (c .before .before .over-run .ensures) (run-lines r (a .pre .1 .0 .1) _ _)
+    step-as _ (c .before .before .over-run .ensures) (run-lines (r .1) (a .pre .1 .0 .1) _ _)
 
 -- ---- the lines of one kind
 

@@ -4,23 +4,36 @@ use native.Mathlib.Omega.{arith}
 use Rattle.states.proofs.Bounds.{stacks-small}
 use Rattle.ways.proofs.Right.{boat-runs}
 use Rattle.ways.proofs.Chosen.{by-boat}
+use borrow.Author.Needs.{needs}
 use Rattle.ways.proofs.boat_way.Statement.{statement}
 use Rattle.ways.proofs.boat_way.Tie as tie
 
+returns : tie.Need-returns
+returns c = search needs
+
 lane-at-requires : tie.Need-lane-at-requires
 lane-at-requires c κs =
-    let b = c .pre .0 in
+    let a = c .before .before in
+    let b = a .pre .0 in
     let l = b .laid in
-    (omega (arith, b .position-low, l .few-commands), l .few-commands, omega (arith, stacks-small l, l .small), omega (arith, c .pre .1, stacks-small l, l .small))
+    (omega (arith, b .position-low, l .few-commands), l .few-commands, omega (arith, stacks-small l, l .small), omega (arith, a .pre .1, stacks-small l, l .small))
 
-mul-t8 : tie.Need-mul-t8
-mul-t8 c = let a = c .before .before .before in let b = a .pre .0 in omega (arith, by-boat (a .args .target .place) (a .args .plan .radix) 0 (omega (arith, b .aimed .place-low, b .laid .few-places)) (b .laid .few-boats) (b .laid .some-radix) .0)
+mul-t9 : tie.Need-mul-t9
+mul-t9 c =
+    let a = c .before .before .before .before .before in
+    let b = a .pre .0 in
+    omega (arith, by-boat (a .args .target .place) (a .args .plan .radix) 0 (omega (arith, b .aimed .place-low, b .laid .few-places)) (b .laid .few-boats) (b .laid .some-radix) .0)
 
-add-t9 : tie.Need-add-t9
-add-t9 c = let a = c .before .before .before in let b = a .pre .0 in omega (arith, by-boat (a .args .target .place) (a .args .plan .radix) (a .args .boat) (omega (arith, b .aimed .place-low, b .laid .few-places)) (b .laid .few-boats) (a .pre .2) .1)
+add-t10 : tie.Need-add-t10
+add-t10 c =
+    let a = c .before .before .before .before .before in
+    let b = a .pre .0 in
+    omega (arith, by-boat (a .args .target .place) (a .args .plan .radix) (a .args .boat) (omega (arith, b .aimed .place-low, b .laid .few-places)) (b .laid .few-boats) (a .pre .2) .1)
 
-returns : tie.Need-returns
-returns c = let a = c .before .before .before in λ count single. boat-runs _ _ _ _ _ (a .pre .0) count _ _ (a .args .u) (a .args .boat) (c .before .before .lane-at .ensures) refl (a .pre .2) (a .pre .1) single
+returns-2 : tie.Need-returns-2
+returns-2 c =
+    let a = c .before .before .before .before .before in
+    λ count single. (omega (arith, c .before .before .before .if1 .left), boat-runs _ _ _ _ _ (a .pre .0) count _ _ (a .args .u) (a .args .boat) (c .before .before .lane-at .ensures) refl (a .pre .2) (a .pre .1) single)
 
 pub boat-way-spec : {M : Type 1} → statement M
-boat-way-spec = tie.close (tie.spec lane-at-requires mul-t8 add-t9 returns)
+boat-way-spec = tie.close (tie.spec returns lane-at-requires mul-t9 add-t10 returns-2)

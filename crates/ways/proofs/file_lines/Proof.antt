@@ -25,8 +25,8 @@ yes c = on (c .before .before .before .args .plan .filed) (c .if1 .left)
 sort-lines-requires : tie.Need-sort-lines-requires
 sort-lines-requires c κs = let a = c .before .before .before .before in kinds-asked (a .args .plan) (a .args .work .now) (a .pre .0) (a .pre .1) (yes (c .before))
 
-sort-lines-requires-2 : tie.Need-sort-lines-requires-2
-sort-lines-requires-2 c κs =
+sort-boats-requires : tie.Need-sort-boats-requires
+sort-boats-requires c κs =
     let a = c .before .before .before .before .before .before .before .before in
     let one = c .before .before .before .sort-lines in
     boats-asked (a .args .plan) (a .args .work .now) (a .pre .0) (a .pre .1) (yes (c .before .before .before .before .before)) (one .last .0) (one .ensures .0) (one .ensures .1)
@@ -35,7 +35,7 @@ thin-lines-requires : tie.Need-thin-lines-requires
 thin-lines-requires c κs =
     let a = c .before .before .before .before .before .before .before .before .before .before .before .before in
     let one = c .before .before .before .before .before .before .before .sort-lines in
-    let two = c .before .before .before .sort-lines2 in
+    let two = c .before .before .before .sort-boats in
     thin-asked (a .args .plan) (a .args .work .now) (a .pre .0) (a .pre .1) (yes (c .before .before .before .before .before .before .before .before .before)) (one .last .0) (one .ensures .0) (one .ensures .1) (two .last .0) (two .ensures .0) (two .ensures .1)
 
 same-length : tie.Need-same-length
@@ -48,7 +48,7 @@ returns-2 c =
     let plan = a .args .plan in
     let w = a .args .work .now in
     let one = c .before .before .before .before .before .before .before .before .before .before .sort-lines in
-    let two = c .before .before .before .before .before .before .sort-lines2 in
+    let two = c .before .before .before .before .before .before .sort-boats in
     let three = c .before .before .thin-lines in (
       λ _. filed-all plan w (a .pre .0) (a .pre .1) room (one .last .0) (one .ensures .0) (one .ensures .1) (two .last .0) (two .ensures .0) (two .ensures .1) (three .last .0) (three .ensures .0) (three .ensures .1),
       filed-kept plan w (a .pre .0) (a .pre .1) room (one .last .0) (one .ensures .0) (one .ensures .1) (two .last .0) (two .ensures .0) (two .ensures .1) (three .last .0) (three .ensures .0) (three .ensures .1),
@@ -60,7 +60,7 @@ file-lines-spec =
     (tie.spec
     returns
     sort-lines-requires
-    sort-lines-requires-2
+    sort-boats-requires
     thin-lines-requires
     same-length
     returns-2)
