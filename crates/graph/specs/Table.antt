@@ -55,9 +55,13 @@ push-new : (w s : ℕ) (st : Search) → getD (st .dist) s 0 ≡ 0 → push w s 
 unfolding push
 push-new w s st e = rw (eq-eqb (getD (st .dist) s 0) 0 e)
 
+pub push-met : (w s : ℕ) (st : Search) → (getD (st .dist) s 0 ≡ 0 → ⊥) → push w s st ≡ st
+unfolding push
+push-met w s st h = rw (ne-eqb (getD (st .dist) s 0) 0 h)
+
 push-old : (w s e : ℕ) (st : Search) → getD (st .dist) s 0 ≡ suc e → push w s st ≡ st
 unfolding push
-push-old w s e st h = rw (ne-eqb (getD (st .dist) s 0) 0 (λ q. let z : _≡_ {A = ℕ} 0 (suc e) = cc in omega arith))
+push-old w s e st h = push-met w s st (λ q. let z : _≡_ {A = ℕ} 0 (suc e) = cc in omega arith)
 
 -- ---- what a table holds
 

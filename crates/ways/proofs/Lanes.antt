@@ -1,7 +1,7 @@
 -- One word of a run, by whether it is taken; that the words after the pair of stretches stay while the loop goes on; and that each word
 -- of a run is written of a line.
 use mathlib.Core.Path.{_≡_, refl, sym, ap, _∙_, subst}
-use mathlib.Core.Bool.{true, false, cond}
+use mathlib.Core.Bool.{Bool, true, false, cond}
 use mathlib.Core.List.{List, Memᴰ·of-map}
 use Prim.Native.Nat.{ℕ, suc, _+_, _-_, _%_, _≤_, _<_}
 use native.Mathlib.Nat.{add-zero}
@@ -15,7 +15,7 @@ use Rattle.graph.specs.Plain.{count}
 use Rattle.graph.specs.Sets.{filt-in, count-in}
 use Rattle.sorted.specs.Sorting.{packBy, keyIn, packIn, having, sortedEnd, Run}
 use Rattle.sorted.specs.declared.Order.{Order}
-use Rattle.graph.specs.Table.{Search, push}
+use Rattle.graph.specs.Table.{Search, push, push-met}
 use Rattle.area.specs.Area.{stretch, found, Ready, Under}
 use Rattle.states.specs.Spots.{front}
 use Rattle.area.proofs.Changes.{under-back}
@@ -31,6 +31,15 @@ module _ (lane : Lane) (d e : ℕ) (st : Search) where
   pub lane-passed : takenBy (lane .only) (e % packBy) (lane .number) ≡ false → laneTurn d lane e st ≡ st
   unfolding laneTurn
   lane-passed stays = rw stays
+
+  -- a state that has been met is not pushed, whether the word is taken or not
+  pub lane-met : (s : ℕ) → s ≡ laneState lane e → (getD (st .dist) s 0 ≡ 0 → ⊥) → laneTurn d lane e st ≡ st
+  unfolding laneTurn
+  lane-met s is met = go (takenBy (lane .only) (e % packBy) (lane .number))
+    where
+      go : (b : Bool) → cond b (push d (laneState lane e) st) st ≡ st
+      go true = ap (λ n. push d n st) (sym is) ∙ push-met d s st met
+      go false = refl
 
 -- a word after the queue's last is as it was
 pub under-word : {base size : ℕ} {F : Search → Search} {t₀ : ℕ} {w₀ : List ℕ} {G : Search → Search} {t : ℕ} {w : List ℕ}

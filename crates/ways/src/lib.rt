@@ -58,7 +58,7 @@ fn lane_state(lane: Lane, e: u32) -> usize
     place * lane.block + (lane.home + number * lane.weight)
 }
 
-// Word `p`: the state that it gives is pushed, if it is taken.
+// Word `p`: the state that it gives is pushed, if it is taken. Most states have been met before, so that is asked first.
 fn one_word(
     work: &mut [u32],
     base: usize,
@@ -74,8 +74,12 @@ fn one_word(
     ensures { λ r. ⌜ Step base size (laneTurn d lane (getD (now (work .entry)) p 0)) tail (now (work .entry)) r (now (work .exit)) ⌝ }
 {
     let e = area::word(work, p);
+    let s = lane_state(lane, e);
+    if area::dist_at(work, base, size, tail, s) != 0 {
+        return tail;
+    }
     if taken(lane, (e % PACK) as usize) {
-        return area::push_if_new(work, base, size, d, lane_state(lane, e), tail);
+        return area::push_if_new(work, base, size, d, s, tail);
     }
     tail
 }
