@@ -1,12 +1,11 @@
 -- Case by case: what a visit does, and what the turns over the next positions do: they go on at the mask's lowest position (`next-lowest`), and
 -- do nothing where the mask has none left (`next-none`).
-use mathlib.Core.Path.{_≡_, sym, ap, _∙_}
+use mathlib.Core.Path.{_≡_, refl, sym, ap, _∙_}
 use mathlib.Core.List.{List}
 use Prim.Native.Nat.{ℕ, zero, suc, _+_, _*_, _-_, _^_, _/_, _%_, _<_, _≤_}
-use native.Mathlib.Nat.{one-le-pow, pow-le-pow-right, div-lt-iff-lt-mul, div-eq-of-lt}
+use native.Mathlib.Nat.{zero-div}
 use native.Mathlib.Omega.{arith}
 use lib.ListN.{getD}
-use lib.Pow.{shr-shr}
 use borrow.Author.Tests.{eq-eqb, ne-eqb}
 use Rattle.positions.specs.Program.{bitOf, depthAt}
 use Rattle.request.specs.declared.Plan.{Plan}
@@ -14,8 +13,7 @@ use Rattle.graph.specs.Loops.{turns, turns-idle}
 use Rattle.graph.specs.Table.{Search, push}
 use Rattle.search.specs.Moves.{visit}
 use Rattle.search.specs.Front.{stateIn}
-use Rattle.states.specs.Spots.{nextTurn, Lowest}
-use Rattle.states.proofs.Masks.{bit-from}
+use Rattle.states.specs.Spots.{nextTurn, Lowest, From}
 use Rattle.area.proofs.Changes.{turns-next}
 
 module _ (D : List ℕ) (w t : ℕ) (st : Search) where
@@ -46,21 +44,15 @@ module _ (plan : Plan) (program : List ℕ) (mask : ℕ) (see : ℕ → Search �
 
 -- ---- no position is left in the mask
 
-bits-above : (mask k j : ℕ) → mask / 2 ^ k ≡ 0 → k ≤ j → bitOf mask j ≡ 1 → ⊥
-bits-above mask k j e le h =
-    let some : 0 < 2 ^ k = one-le-pow k 2 (omega arith) in
-    let less : mask < 1 * 2 ^ k = div-lt-iff-lt-mul some .0 (omega (arith, e)) in
-    let more : 2 ^ k ≤ 2 ^ j = pow-le-pow-right {n = 2} (omega arith) le in
-    let none : mask / 2 ^ j ≡ 0 = div-eq-of-lt (omega (arith, less, more)) in
-    let one : 0 % 2 ≡ 1 = ap (_% 2) (sym none) ∙ h in
-    omega (arith, one)
+pub next-none : (plan : Plan) (program : List ℕ) (mask : ℕ) (see : ℕ → Search → Search) (to v j n rest : ℕ) (st : Search) → From mask j rest → rest ≡ 0
+    → turns (nextTurn plan program mask see to v) j n st ≡ st
+next-none plan program mask see to v j n rest st from e =
+    turns-idle (nextTurn plan program mask see to v) j n st (λ i le less. next-passed plan program mask see to v i st (λ h. none i (ap (λ r. bitOf r i) (sym e) ∙ (from .same i le ∙ h))))
+  where
+    none : (i : ℕ) → bitOf 0 i ≡ 1 → ⊥
+    none i h = let zeros : 0 / 2 ^ i ≡ 0 = zero-div (2 ^ i) in let one : 0 % 2 ≡ 1 = ap (_% 2) (sym zeros) ∙ h in omega (arith, one)
 
-pub next-none : (plan : Plan) (program : List ℕ) (mask : ℕ) (see : ℕ → Search → Search) (to v k n : ℕ) (st : Search) → mask / 2 ^ k ≡ 0
-    → turns (nextTurn plan program mask see to v) k n st ≡ st
-next-none plan program mask see to v k n st e =
-    turns-idle (nextTurn plan program mask see to v) k n st (λ j le less. next-passed plan program mask see to v j st (bits-above mask k j e le))
-
--- ---- the mask's lowest position from k on
+-- ---- the mask's lowest position from j on
 
 -- turns that do nothing, and then the others
 turns-skip : {A : Type 0} (f : ℕ → A → A) (i m n : ℕ) (a : A) → ((x : ℕ) → i ≤ x → x < i + m → f x a ≡ a) → turns f i (m + n) a ≡ turns f (i + m) n a
@@ -76,29 +68,38 @@ turns-skip f i (suc m) n a h =
     ∙ (ap (turns f (suc i) (m + n)) (h i (omega arith) (omega arith))
     ∙ (turns-skip f (suc i) m n a (λ x l u. h x (omega arith) (omega arith)) ∙ ap (λ k. turns f k n a) next))
 
-module _ (plan : Plan) (program : List ℕ) (mask : ℕ) (see : ℕ → Search → Search) (to v k n rest z : ℕ) (st : Search) (is : rest ≡ mask / 2 ^ k) (low : Lowest rest z) where
+module _ {mask j rest k : ℕ} (from : From mask j rest) (low : Lowest rest k) where
+  -- it is not below j
+  past : j ≤ k
+  past = let no : k < j → ⊥ = λ h. from .none-below k h (low .has) in omega (arith, no)
+
+  -- the mask past it
+  pub rest-after : (after : ℕ) → From rest (k + 1) after → From mask (k + 1) after
+  rest-after after f = let le = past in record { same = λ i h. f .same i h ∙ from .same i (omega arith); none-below = f .none-below }
+
+module _ (plan : Plan) (program : List ℕ) (mask : ℕ) (see : ℕ → Search → Search) (to v j n rest k : ℕ) (st : Search) (from : From mask j rest) (low : Lowest rest k) where
   abbrev turn : ℕ → Search → Search
   turn = nextTurn plan program mask see to v
 
   -- the positions below it are passed over
-  below : (j : ℕ) → k ≤ j → j < k + z → turn j st ≡ st
-  below j le less =
-      let sum : k + (j - k) ≡ j = omega arith in
-      next-passed plan program mask see to v j st (λ h. low .none-below (j - k) (omega arith) (ap (λ r. bitOf r (j - k)) is ∙ (bit-from mask k (j - k) ∙ (ap (bitOf mask) sum ∙ h))))
+  below : (i : ℕ) → j ≤ i → i < k → turn i st ≡ st
+  below i le less = next-passed plan program mask see to v i st (λ h. low .none-below i less (from .same i le ∙ h))
 
-  pub next-lowest : k + z < n
-      → turns (nextTurn plan program mask see to v) (k + z + 1) (n - (k + z + 1)) (see (stateIn plan to (k + z) (v % plan .radix ^ depthAt program (k + z))) st)
-      ≡ turns (nextTurn plan program mask see to v) k (n - k) st
+  pub next-lowest : k < n
+      → turns (nextTurn plan program mask see to v) (k + 1) (n - (k + 1)) (see (stateIn plan to k (v % plan .radix ^ depthAt program k)) st)
+      ≡ turns (nextTurn plan program mask see to v) j (n - j) st
   next-lowest less =
-      let whole : n - k ≡ z + (n - (k + z)) = omega arith in
-      let set : bitOf mask (k + z) ≡ 1 = sym (bit-from mask k z) ∙ (ap (λ r. bitOf r z) (sym is) ∙ low .has) in
-      let one : turn (k + z) st ≡ see (stateIn plan to (k + z) (v % plan .radix ^ depthAt program (k + z))) st = next-has plan program mask see to v (k + z) st set in
-      ap (turns turn (k + z + 1) (n - (k + z + 1))) (sym one)
-      ∙ (turns-next turn (k + z) n st less ∙ (sym (turns-skip turn k z (n - (k + z)) st below) ∙ ap (λ m. turns turn k m st) (sym whole)))
+      let le = past from low in
+      let sum : j + (k - j) ≡ k = omega arith in
+      let whole : n - j ≡ k - j + (n - k) = omega arith in
+      let one : turn k st ≡ see (stateIn plan to k (v % plan .radix ^ depthAt program k)) st = next-has plan program mask see to v k st (sym (from .same k le) ∙ low .has) in
+      let skipped : turns turn j (k - j + (n - k)) st ≡ turns turn (j + (k - j)) (n - k) st = turns-skip turn j (k - j) (n - k) st (λ i l u. below i l (omega arith)) in
+      ap (turns turn (k + 1) (n - (k + 1))) (sym one)
+      ∙ (turns-next turn k n st less ∙ (sym (skipped ∙ ap (λ i. turns turn i (n - k) st) sum) ∙ ap (λ m. turns turn j m st) (sym whole)))
 
-  pub next-beyond : n ≤ k + z → turns (nextTurn plan program mask see to v) k (n - k) st ≡ st
-  next-beyond more = turns-idle turn k (n - k) st (λ j le less. below j le (omega arith))
+  pub next-beyond : n ≤ k → turns (nextTurn plan program mask see to v) j (n - j) st ≡ st
+  next-beyond more = turns-idle turn j (n - j) st (λ i le less. below i le (omega arith))
 
--- the mask past its lowest position from k on
-pub rest-after : (mask k rest z : ℕ) → rest ≡ mask / 2 ^ k → rest / 2 ^ z / 2 ^ 1 ≡ mask / 2 ^ (k + z + 1)
-rest-after mask k rest z is = ap (λ r. r / 2 ^ z / 2 ^ 1) is ∙ (ap (_/ 2 ^ 1) (shr-shr mask k z) ∙ shr-shr mask (k + z) 1)
+-- all of the mask
+pub from-all : (mask : ℕ) → From mask 0 mask
+from-all mask = record { same = λ i h. refl; none-below = λ i h b. absurd (omega arith) }

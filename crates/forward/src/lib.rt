@@ -51,7 +51,7 @@ pub fn one_next(
     visit_state(work, plan, want, t, tail)
 }
 
-// Each position that may come after, from the mask's lowest to its last. `rest` has those from `k` on.
+// Each position that may come after, from the mask's lowest to its last.
 pub fn over_next(
     work: &mut [u32],
     plan: Plan,
@@ -69,16 +69,13 @@ pub fn over_next(
 {
     let mut t = tail;
     let mut rest = mask;
-    let mut k = 0;
     while rest != 0 {
-        let skipped = states::lowest(rest);
-        let next = k + skipped;
-        if plan.done < next {
+        let k = states::lowest(rest);
+        if plan.done < k {
             return t;
         }
-        t = one_next(work, plan, program, want, to, v, next, t);
-        rest = rest >> skipped >> 1;
-        k = next + 1;
+        t = one_next(work, plan, program, want, to, v, k, t);
+        rest = states::rest_of(rest);
     }
     t
 }

@@ -148,6 +148,11 @@ pub record Lowest (mask k : ℕ) : Type 0 where
   pub has : bitOf mask k ≡ 1
   pub none-below : (j : ℕ) → j < k → bitOf mask j ≡ 1 → ⊥
 
+-- `rest` has the mask's positions from j on
+pub record From (mask j rest : ℕ) : Type 0 where
+  pub same : (i : ℕ) → j ≤ i → bitOf rest i ≡ bitOf mask i
+  pub none-below : (i : ℕ) → i < j → bitOf rest i ≡ 1 → ⊥
+
 -- the position k, if the mask has it, at the place `to` with the stack v cut to its depth
 unfoldable pub nextTurn : Plan → List ℕ → ℕ → (ℕ → Search → Search) → ℕ → ℕ → ℕ → Search → Search
 nextTurn plan a mask seen to v k st = cond (eqb (bitOf mask k) 1) (seen (stateIn plan to k (v % plan .radix ^ depthAt a k)) st) st

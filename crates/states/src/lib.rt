@@ -7,7 +7,7 @@ ghost use Rattle.positions.specs.Program.{rowAt, depthAt};
 ghost use Rattle.boats.specs.Codes.{telling};
 ghost use Rattle.request.specs.Layout.{largest, scale};
 ghost use Rattle.states.specs.Served.{Thinnable};
-ghost use Rattle.states.specs.Spots.{toldShown, sameShown, metBy, spotIn, off, on, okay, TakenBy, OnlyKept, TakesAll, Lowest, Entries, targetIn};
+ghost use Rattle.states.specs.Spots.{toldShown, sameShown, metBy, spotIn, off, on, okay, TakenBy, OnlyKept, TakesAll, Lowest, From, Entries, targetIn};
 use positions::Rule;
 use request::Plan;
 use request::SCALE;
@@ -315,6 +315,14 @@ pub fn lowest(mask: u64) -> usize
     ensures { λ r. ⌜ (r < 64) × Lowest mask r ⌝ }
 {
     u64::trailing_zeros(mask) as usize
+}
+
+// A mask without its lowest position.
+pub fn rest_of(mask: u64) -> u64
+    requires { ⌜ 0 < mask ⌝ }
+    ensures { λ r. ⌜ (r < mask) × ((k : ℕ) → Lowest mask k → From mask (k + 1) r) ⌝ }
+{
+    mask & (mask - 1)
 }
 
 // ---- a state that is expanded, by its numbers

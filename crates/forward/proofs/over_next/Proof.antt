@@ -1,34 +1,31 @@
 -- `forward::over_next` meets its contract, by what is left of its turns: those below the lowest position that is left do nothing, and none does
 -- anything once no position is left in the mask. The distances stand before the pair and stay. Assumes nothing.
-use mathlib.Core.Path.{_≡_, sym, subst, _∙_}
-use Prim.Native.Nat.{_+_, _-_, _/_, _^_, _≤_}
-use native.Mathlib.Nat.{div-one}
+use mathlib.Core.Path.{_≡_, sym, subst}
+use Prim.Native.Nat.{ℕ, _+_, _-_, _≤_}
 use native.Mathlib.Omega.{arith}
 use Rattle.request.specs.Layout.{Laid}
 use Rattle.graph.specs.Loops.{turns}
 use Rattle.area.specs.Area.{stretch, Under}
 use Rattle.search.specs.Moves.{visit}
-use Rattle.states.specs.Spots.{nextTurn}
+use Rattle.states.specs.Spots.{From, nextTurn}
 use Rattle.area.proofs.Changes.{loop-start, under-step, under-end, under-stretch}
-use Rattle.forward.proofs.Visits.{next-none, next-lowest, next-beyond, rest-after}
+use Rattle.forward.proofs.Visits.{next-none, next-lowest, next-beyond, rest-after, from-all}
 use borrow.Author.Needs.{needs}
 use Rattle.forward.proofs.over_next.Statement.{statement}
 use Rattle.forward.proofs.over_next.Tie as tie
 
+-- the positions below some j are done, and the mask's others are left
 abbrev Inv-loop : tie.InvT-loop
-Inv-loop work₀ plan program mask want to v tail t₀ rest₀ k₀ work t rest k = (k ≤ plan .done + 1) × (rest ≡ mask / 2 ^ k) × Under (plan .marks) (plan .size) (turns (nextTurn plan program mask (visit (stretch (plan .base) (plan .size) work₀) want) to v) 0 (plan .done + 1)) tail work₀ (turns (nextTurn plan program mask (visit (stretch (plan .base) (plan .size) work₀) want) to v) k (plan .done + 1 - k)) t work
+Inv-loop work₀ plan program mask want to v tail t₀ rest₀ work t rest = (j : ℕ) × (j ≤ plan .done + 1) × From mask j rest × Under (plan .marks) (plan .size) (turns (nextTurn plan program mask (visit (stretch (plan .base) (plan .size) work₀) want) to v) 0 (plan .done + 1)) tail work₀ (turns (nextTurn plan program mask (visit (stretch (plan .base) (plan .size) work₀) want) to v) j (plan .done + 1 - j)) t work
 
 abbrev μ-loop : tie.MeasureT-loop
-μ-loop work₀ plan program mask want to v tail t₀ rest₀ k₀ work t rest k = plan .done + 1 - k
+μ-loop work₀ plan program mask want to v tail t₀ rest₀ work t rest = rest
 
 loop-holds : tie.Need-loop-holds Inv-loop μ-loop
-loop-holds c = (omega arith, sym (div-one (c .before .args .mask)), loop-start _ _ (c .before .pre .0))
+loop-holds c = (0, omega arith, from-all (c .before .args .mask), loop-start _ _ (c .before .pre .0))
 
 lowest-requires : tie.Need-lowest-requires Inv-loop μ-loop
 lowest-requires c κs = omega arith
-
-add-next : tie.Need-add-next Inv-loop μ-loop
-add-next c = omega (arith, c .lowest .ensures .0, c .before .before .loop .inv .0, c .before .before .before .before .pre .1 .0 .few-commands)
 
 same-length : tie.Need-same-length Inv-loop μ-loop
 same-length c = search needs
@@ -37,32 +34,31 @@ same-length c = search needs
 returns : tie.Need-returns Inv-loop μ-loop
 returns c =
     let inv = c .before .before .before .before .loop .inv in
-    under-end (inv .2) (next-beyond _ _ _ _ _ _ _ _ _ _ _ (inv .1) (c .before .before .lowest .ensures .1) (omega (arith, c .if1 .taken)))
+    under-end (inv .3) (next-beyond _ _ _ _ _ _ _ _ _ _ _ (inv .2) (c .before .before .lowest .ensures .1) (omega (arith, c .if1 .taken)))
 
 one-next-requires : tie.Need-one-next-requires Inv-loop μ-loop
 one-next-requires c κs =
     let a = c .before .before .before .before .before .before .before in
-    let u = c .before .before .before .before .before .loop .inv .2 in
+    let u = c .before .before .before .before .before .loop .inv .3 in
     let laid = subst (Laid (a .args .plan)) (sym (u .long)) (a .pre .1 .0) in
-    let low : c .before .before .before .before .before .loop .k + c .before .before .before .lowest .result ≤ a .args .plan .done = omega (arith, c .before .if1 .left) in
+    let low : c .before .before .before .lowest .result ≤ a .args .plan .done = omega (arith, c .before .if1 .left) in
     (u .ready, (laid, (a .pre .1 .1 .0, low, a .pre .1 .1 .1 _ low)))
 
-shr-rest : tie.Need-shr-rest Inv-loop μ-loop
-shr-rest c = omega (arith, c .before .before .before .before .before .before .lowest .ensures .0)
-
-add-k : tie.Need-add-k Inv-loop μ-loop
-add-k c = omega (arith, c .before .before .before .before .if1 .left, c .before .before .before .before .before .before .before .before .before .before .pre .1 .0 .few-commands)
+rest-of-requires : tie.Need-rest-of-requires Inv-loop μ-loop
+rest-of-requires c κs = omega (arith, c .before .before .before .before .before .before .before .loop-test .taken)
 
 loop-less : tie.Need-loop-less Inv-loop μ-loop
-loop-less c = omega (arith, c .before .before .before .before .if1 .left, c .before .before .before .before .before .before .before .before .loop .inv .0)
+loop-less c = c .rest-of .ensures .0
 
 loop-again : tie.Need-loop-again Inv-loop μ-loop
 loop-again c =
-    let p = c .before .before .before .before .before .before .before .before .before .before .args .plan in
-    let inv = c .before .before .before .before .before .before .before .before .loop .inv in
-    let u = inv .2 in
-    let step = rw (under-stretch u (p .base) (p .size) (omega arith)) at (c .before .before .one-next .ensures) in
-    (omega (arith, c .before .before .before .before .if1 .left), rest-after _ _ _ _ (inv .1), under-step u _ step (next-lowest _ _ _ _ _ _ _ _ _ _ _ (inv .1) (c .before .before .before .before .before .before .lowest .ensures .1) (omega (arith, c .before .before .before .before .if1 .left))))
+    let p = c .before .before .before .before .before .before .before .before .before .before .before .args .plan in
+    let inv = c .before .before .before .before .before .before .before .before .before .loop .inv in
+    let low = c .before .before .before .before .before .before .before .lowest .ensures .1 in
+    let past = c .before .before .before .before .before .if1 .left in
+    let u = inv .3 in
+    let step = rw (under-stretch u (p .base) (p .size) (omega arith)) at (c .before .before .before .one-next .ensures) in
+    (c .before .before .before .before .before .before .before .lowest .result + 1, omega (arith, past), rest-after (inv .2) low _ (c .rest-of .ensures .1 _ low), under-step u _ step (next-lowest _ _ _ _ _ _ _ _ _ _ _ (inv .2) low (omega (arith, past))))
 
 same-length-2 : tie.Need-same-length-2 Inv-loop μ-loop
 same-length-2 c = search needs
@@ -70,7 +66,7 @@ same-length-2 c = search needs
 returns-2 : tie.Need-returns-2 Inv-loop μ-loop
 returns-2 c =
     let inv = c .before .loop .inv in
-    under-end (inv .2) (next-none _ _ _ _ _ _ _ _ _ (sym (inv .1) ∙ omega (arith, c .loop-test .left)))
+    under-end (inv .3) (next-none _ _ _ _ _ _ _ _ _ _ (inv .2) (omega (arith, c .loop-test .left)))
 
 pub over-next-spec : {M : Type 1} → statement M
 over-next-spec =
@@ -80,12 +76,10 @@ over-next-spec =
     μ-loop
     loop-holds
     lowest-requires
-    add-next
     same-length
     returns
     one-next-requires
-    shr-rest
-    add-k
+    rest-of-requires
     loop-less
     loop-again
     same-length-2
