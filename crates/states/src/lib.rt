@@ -286,6 +286,14 @@ fn by_stacks(plan: Plan, n: usize) -> usize
     n * plan.inverse / SCALE
 }
 
+// The place of the state `s`.
+pub fn place_of(plan: Plan, s: usize) -> usize
+    requires { ⌜ (0 < plan .stacks) × (plan .stacks ≤ largest) × (s ≤ largest) × (plan .inverse ≡ scale / plan .stacks + 1) × (plan .done ≤ 63) ⌝ }
+    ensures { λ r. ⌜ r ≡ s / plan .stacks / (plan .done + 1) ⌝ }
+{
+    by_stacks(plan, s) / (plan.done + 1)
+}
+
 // The position and the stack of a state.
 pub struct Stand {
     pub position: usize,

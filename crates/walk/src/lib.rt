@@ -93,7 +93,7 @@ fn place_of(work: &[u32], plan: Plan, lo: usize, tail: usize) -> usize
 {
     if lo < tail {
         let s = area::waiting(work, plan.marks, plan.size, tail, lo);
-        return s / plan.stacks / (plan.done + 1);
+        return states::place_of(plan, s);
     }
     0
 }
