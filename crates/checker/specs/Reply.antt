@@ -7,9 +7,9 @@ use lib.ListN.{length}
 use Rattle.meaning.specs.Outcome.{Outcome, passed, ask, andThen, Reply, value, refusal}
 use Rattle.meaning.specs.Record.{Line, Day, readRecord}
 use Rattle.meaning.specs.Pattern.{Pattern, readPattern, noneGiven}
-use Rattle.meaning.specs.Chain.{Accepted}
+use Rattle.meaning.specs.Chain.{exist, Accepted}
 use Rattle.meaning.specs.Request.{Asked, askRequest}
-use Rattle.search.specs.Check.{exist, check}
+use Rattle.search.specs.Check.{check}
 use Rattle.checker.specs.declared.CheckReply.{CheckReply}
 use Rattle.checker.specs.declared.CheckReply.the-variants as Check
 
