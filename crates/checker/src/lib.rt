@@ -15,7 +15,7 @@ ghost use Rattle.search.specs.Loaded.{settingAt};
 ghost use Rattle.states.specs.Spots.{Fit};
 ghost use Rattle.forward.specs.Posed.{SomePosed};
 ghost use Rattle.checker.specs.Walk.{stepped, walked, marks, Alive, Advanced, frontierAt, asideOf, Aside, Listed, listTurn, Within, ends, RightFor};
-ghost use Rattle.checker.specs.Reply.{checkReply, checkOf, Demand2};
+ghost use Rattle.checker.specs.Promise.{checkReply, checkOf, Demand2};
 use request::Plan;
 use request::Request;
 

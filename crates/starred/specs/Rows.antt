@@ -15,8 +15,8 @@ use Rattle.graph.specs.Plain.{solve, found, news, look, bfs, chosen, pick, firs
 use Rattle.search.specs.Product.{stacks, state, placeOf, posOf, stackOf, succs, preds}
 use Rattle.search.specs.Answer.{setting, starts, answer}
 use Rattle.search.specs.Check.{moved, check}
-use Rattle.checker.specs.Reply.{checkOf}
-use Rattle.finder.specs.Reply.{Finding, stopped, nowhere, chain, too-long, findOf}
+use Rattle.checker.specs.Promise.{checkOf}
+use Rattle.finder.specs.Promise.{Finding, stopped, nowhere, chain, too-long, findOf}
 
 -- ---- the day's records and patterns, in bytes
 

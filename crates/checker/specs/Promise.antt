@@ -1,4 +1,5 @@
--- What the checker says: `checkOf`, the definition that its promise cites, and demand 2 in the words of document 01.
+-- What the checker promises: `checkReply r ≡ told (checkOf …)`, the area as `workAfter` of `meaning`, and `Demand2`, demand 2 in the words
+-- of document 01.
 use mathlib.Core.Path.{_≡_}
 use mathlib.Core.Bool.{Bool, true, false}
 use mathlib.Core.List.{List}
