@@ -4,7 +4,7 @@ ghost use mathlib.Core.Path.{_≡_};
 ghost use Prim.Native.Nat.{_+_, _*_, _<_, _≤_};
 ghost use lib.ListN.{length};
 ghost use Rattle.io.specs.Counts.{Counts};
-ghost use Rattle.finder.specs.Reply.{findReply};
+ghost use Rattle.finder.specs.Promise.{findReply};
 ghost use Rattle.finder.specs.Demand.{Bounds};
 use finder::FindReply;
 

@@ -16,7 +16,8 @@ use Rattle.positions.specs.Program.{members}
 use Rattle.request.specs.declared.Plan.{Plan}
 use Rattle.graph.specs.Plain.{flat, memb}
 use Rattle.graph.specs.Sets.{in-memb}
-use Rattle.search.specs.Check.{exist, moved, moved-members}
+use Rattle.meaning.specs.Chain.{exist}
+use Rattle.search.specs.Check.{moved, moved-members}
 use Rattle.search.specs.Along.{goal, starting}
 use Rattle.graph.specs.Loops.{loop, turns, loop-append, loop-flat, loop-same}
 use Rattle.graph.specs.Table.{Search, blank, push}

@@ -7,6 +7,7 @@ use Prim.Native.Nat.{ℕ}
 use native.Mathlib.Omega.{arith}
 use lib.ListN.{length}
 use Rattle.meaning.specs.Request.{Asked}
+use Rattle.meaning.specs.Chain.{exist}
 use Rattle.positions.specs.Program.{members, Compiled}
 use Rattle.positions.specs.Limits.{compiled-start}
 use Rattle.request.specs.declared.Plan.{Plan}
@@ -14,7 +15,7 @@ use Rattle.graph.specs.Plain.{memb}
 use Rattle.search.specs.Product.{Setting, succs}
 use Rattle.search.specs.Along.{goal, starting}
 use Rattle.search.specs.Loaded.{settingIn}
-use Rattle.search.specs.Check.{exist, moved, check}
+use Rattle.search.specs.Check.{moved, check}
 use Rattle.search.specs.ReadBack.{loaded-check}
 use Rattle.forward.specs.Posed.{Posed}
 use Rattle.states.specs.Spots.{front}

@@ -6,8 +6,9 @@ use Prim.Native.Nat.{ℕ}
 use lib.ListN.{length}
 use Rattle.meaning.specs.Outcome.{refused, passed}
 use Rattle.meaning.specs.Request.{Asked, askRequest}
-use Rattle.search.specs.Check.{exist, check}
-use Rattle.checker.specs.Reply.{checkOf}
+use Rattle.meaning.specs.Chain.{exist}
+use Rattle.search.specs.Check.{check}
+use Rattle.checker.specs.Promise.{checkOf}
 
 module _ (rec pat : List ℕ) (from to : ℕ) (chain : List ℕ) (words : ℕ) where
   pub check-refused : (number : ℕ) → askRequest rec pat from to words ≡ refused number → checkOf rec pat from to chain words ≡ refused number

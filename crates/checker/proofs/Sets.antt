@@ -17,7 +17,8 @@ use Rattle.graph.specs.Sets.{memb-in, nub-in, flat-in}
 use Rattle.graph.specs.Entries.{under, look-some, look-none}
 use Rattle.graph.specs.Loops.{loop}
 use Rattle.graph.specs.Table.{Search, blank, mark, Holds, blank-holds, loop-holds}
-use Rattle.search.specs.Check.{exist, moved, moved-members}
+use Rattle.meaning.specs.Chain.{exist}
+use Rattle.search.specs.Check.{moved, moved-members}
 use Rattle.checker.specs.Walk.{seeded, stepped, walked, wiped}
 
 pub memb-not : {t : ℕ} {l : List ℕ} → (t ∈ l → ⊥) → memb t l ≡ false

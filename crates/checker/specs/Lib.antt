@@ -1,3 +1,3 @@
-pub mod Reply
+pub mod Promise
 pub mod Walk
 pub mod Demand

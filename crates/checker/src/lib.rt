@@ -6,6 +6,7 @@ ghost use Prim.Native.Nat.{_+_, _≤_, _<_};
 ghost use lib.ListN.{length};
 ghost use Rattle.meaning.specs.Outcome.{told};
 ghost use Rattle.meaning.specs.Request.{askRequest, workAfter};
+ghost use Rattle.meaning.specs.Chain.{exist};
 ghost use Rattle.request.specs.Layout.{Laid};
 ghost use Rattle.graph.specs.Loops.{turns};
 ghost use Rattle.area.specs.Area.{Ready, Step};
@@ -13,9 +14,8 @@ ghost use Rattle.search.specs.Product.{succs};
 ghost use Rattle.search.specs.Loaded.{settingAt};
 ghost use Rattle.states.specs.Spots.{Fit};
 ghost use Rattle.forward.specs.Posed.{SomePosed};
-ghost use Rattle.search.specs.Check.{exist};
 ghost use Rattle.checker.specs.Walk.{stepped, walked, marks, Alive, Advanced, frontierAt, asideOf, Aside, Listed, listTurn, Within, ends, RightFor};
-ghost use Rattle.checker.specs.Reply.{checkReply, checkOf, Demand2};
+ghost use Rattle.checker.specs.Promise.{checkReply, checkOf, Demand2};
 use request::Plan;
 use request::Request;
 

@@ -11,7 +11,8 @@ use Rattle.meaning.specs.Record.{Line}
 use Rattle.meaning.specs.Writing.{beginOf, addOf}
 use Rattle.writing.specs.Added.{begun, adds}
 use Rattle.record.specs.Whole.{whole-of}
-use Rattle.exports.specs.Number.{numberOf, Fits32, checkNumber}
+use Rattle.exports.specs.Promise.{numberOf, checkNumber}
+use Rattle.exports.specs.Fits.{Fits32}
 
 pub refusal-number : (o : Outcome ℕ) (number second : ℕ) → refusal number second ≡ told o → number * 4294967296 ≡ numberOf (told o)
 refusal-number (refused q) number second h = let e : number ≡ q = cc in omega (arith, e)

@@ -8,12 +8,13 @@ ghost use Rattle.meaning.specs.Outcome.{told};
 ghost use Rattle.meaning.specs.Writing.{beginOf, beginAfter, addOf, addAfter, readOf};
 ghost use Rattle.meaning.specs.Pattern.{readPattern, noneGiven};
 ghost use Rattle.meaning.specs.Request.{wordsOf, askRequest, workAfter};
-ghost use Rattle.checker.specs.Reply.{checkOf};
-ghost use Rattle.finder.specs.Reply.{findOf, said, outAfter};
-ghost use Rattle.pattern.specs.Reply.{counted};
-ghost use Rattle.record.specs.Reply.{lineShown};
-ghost use Rattle.writing.specs.Reply.{writeReply};
-ghost use Rattle.exports.specs.Number.{numberOf, Fits32, fieldsOf, readNumber, readAfter, patternNumber, patternAfter, checkNumber, findNumber, versionNumber};
+ghost use Rattle.checker.specs.Promise.{checkOf};
+ghost use Rattle.finder.specs.Promise.{findOf, said, outAfter};
+ghost use Rattle.pattern.specs.Promise.{counted};
+ghost use Rattle.record.specs.Promise.{lineShown};
+ghost use Rattle.writing.specs.Promise.{writeReply};
+ghost use Rattle.exports.specs.Promise.{numberOf, fieldsOf, readNumber, readAfter, patternNumber, patternAfter, checkNumber, Membership, findNumber, FirstShortest, versionNumber};
+ghost use Rattle.exports.specs.Fits.{Fits32};
 use checker::CheckReply;
 use finder::FindReply;
 use pattern::PatternReply;
@@ -169,6 +170,7 @@ pub extern "C" fn chains_check(
 ) -> u64
     ensures reply { λ r. ⌜ r ≡ checkNumber (told (checkOf (now (rec .entry)) (now (pat .entry)) from to (now (chain .entry)) (length (now (work .entry))))) ⌝ }
     ensures workspace { λ _. ⌜ now (work .exit) ≡ workAfter (askRequest (now (rec .entry)) (now (pat .entry)) from to (length (now (work .entry)))) (now (work .entry)) ⌝ }
+    ensures membership { λ r. ⌜ Membership (now (rec .entry)) (now (pat .entry)) from to (now (chain .entry)) r ⌝ }
 {
     match checker::check_chain(rec, pat, from, to, chain, work) {
         CheckReply::Yes => 1,
@@ -190,6 +192,7 @@ pub extern "C" fn chains_find(
     ensures reply { λ r. ⌜ r ≡ findNumber (said (findOf (now (rec .entry)) (now (pat .entry)) from to (length (now (work .entry))) (length (now (out .entry))))) ⌝ }
     ensures workspace { λ _. ⌜ now (work .exit) ≡ workAfter (askRequest (now (rec .entry)) (now (pat .entry)) from to (length (now (work .entry)))) (now (work .entry)) ⌝ }
     ensures output { λ _. ⌜ now (out .exit) ≡ outAfter (findOf (now (rec .entry)) (now (pat .entry)) from to (length (now (work .entry))) (length (now (out .entry)))) (now (out .entry)) ⌝ }
+    ensures first_shortest { λ r. ⌜ FirstShortest (now (rec .entry)) (now (pat .entry)) from to (length (now (out .entry))) r (now (out .exit)) ⌝ }
 {
     match finder::find(rec, pat, from, to, work, out) {
         FindReply::Found(n) => n as u64,

@@ -19,7 +19,7 @@ use Rattle.forward.specs.Posed.{Posed}
 use Rattle.states.specs.Spots.{front}
 use Rattle.forward.proofs.Firsts.{first-states}
 use Rattle.forward.proofs.Posing.{posed-tables}
-use Rattle.finder.specs.Reply.{stopped, settled, findOf}
+use Rattle.finder.specs.Promise.{stopped, settled, findOf}
 use Rattle.finder.specs.Searching.{Searched, SearchedIn}
 
 pub posed-searched : {q : Asked} {pat : List ℕ} {plan : Plan} {from to : ℕ} {w : List ℕ} (posed : Posed q pat plan from to w)

@@ -1,5 +1,5 @@
--- Demand 3, in terms of accepted chains of any length and of what the caller sees: the reply and the output.
--- Claimed: `finds` (the definition that the finder's promise cites meets the demand), and `find-bounds` (lengths fit and are small).
+-- The definition that the finder's promise cites, `findOf`, meets demand 3.
+-- Claimed: `finds`; for callers `find-bounds` (lengths fit and are small) and `find-late` (where the bytes are read, refusals are 15 and later).
 use mathlib.Core.Path.{_≡_, refl, sym, ap, subst}
 use mathlib.Core.Bool.{Bool, true, false, cond, _&&_}
 use mathlib.Core.List.{List, _++_}
@@ -14,25 +14,13 @@ use borrow.Author.Tests.{ltb-true, leb-true, leb-false}
 use Rattle.meaning.specs.Outcome.{Outcome, refused, passed, ask}
 use Rattle.meaning.specs.Record.{Line, Day, readRecord}
 use Rattle.meaning.specs.Pattern.{Pattern, readPattern, noneGiven}
-use Rattle.meaning.specs.Chain.{Accepted, First}
+use Rattle.meaning.specs.Chain.{First}
 use Rattle.meaning.specs.Request.{Asked, sizeOf, need, askRequest}
 use Rattle.record.specs.Outcomes.{and-true}
 use Rattle.record.specs.Fit.{record-fits}
-use Rattle.request.specs.Told.{Parts, asked-parts}
+use Rattle.request.specs.Told.{Parts, asked-parts, asked-of, Late, asked-late}
 use Rattle.search.specs.Answer.{LinesWithin, answer, answer-none, answer-some}
-use Rattle.finder.specs.Reply.{chain, too-long, settled, searched, findOf, Said, found, none-found, refusal, said, outAfter}
-
--- none: no chain of any length is accepted. Found: the chain written is accepted and comes before every other accepted one.
--- 19: so does a chain of the length given, which doesn't fit
-abbrev pub Answers : List Line → Pattern → ℕ → ℕ → ℕ → Said → List ℕ → Type 0
-Answers lines p a b room none-found out = (c : List ℕ) → Accepted lines p a b c → ⊥
-Answers lines p a b room (found n) out = (n ≤ room) × (length (take n out) ≡ n) × First lines p a b (take n out)
-Answers lines p a b room (refusal number n) out = number ≡ 19 → (c : List ℕ) × First lines p a b c × (length c ≡ n) × (room < n)
-
--- for every record and pattern that the bytes read as
-abbrev pub Demand3 : List ℕ → List ℕ → ℕ → ℕ → ℕ → Said → List ℕ → Type 0
-Demand3 rec pat from to room reply out =
-    (day : Day) (p : Pattern) → readRecord rec ≡ passed day → readPattern noneGiven pat ≡ passed p → Answers (day .lines) p from to room reply out
+use Rattle.finder.specs.Promise.{chain, too-long, settled, searched, findOf, Said, found, none-found, refusal, said, outAfter, Answers, Demand3}
 
 -- ---- the definition meets it
 
@@ -54,12 +42,6 @@ module _ (lines : List Line) (places : ℕ) (p : Pattern) (a b : ℕ) (within : 
           fits : (t : Bool) → leb (length c) room ≡ t → Answers lines p a b room (said (cond t (chain c) (too-long (length c)))) (outAfter (cond t (chain c) (too-long (length c))) out)
           fits true h = (leb-true _ _ h, ap length (written c), subst (First lines p a b) (sym (written c)) first)
           fits false h = λ q. (c, first, refl, leb-false _ _ h)
-
--- bytes read as a day and a pattern: only 15, 16 and 17 are left to ask
-asked-of : (rec pat : List ℕ) (from to words : ℕ) (day : Day) (p : Pattern) → readRecord rec ≡ passed day → readPattern noneGiven pat ≡ passed p
-    → let q : Asked = record { day = day; pattern = p } in askRequest rec pat from to words ≡ ask (ltb from (day .places) && ltb to (day .places)) 15 (ask (leb (sizeOf q) 1048576) 16 (ask (leb (need (sizeOf q)) words) 17 (passed q)))
-unfolding askRequest
-asked-of rec pat from to words day p r s = simp (r, s)
 
 pub finds : (rec pat : List ℕ) (from to words room : ℕ) (out : List ℕ) → ((i : ℕ) → getD rec i 0 < 256) → Demand3 rec pat from to room (said (findOf rec pat from to words room)) (outAfter (findOf rec pat from to words room) out)
 unfolding findOf
@@ -110,3 +92,26 @@ find-bounds rec pat from to words room low = go (askRequest rec pat from to word
     go : (o : Outcome Asked) → askRequest rec pat from to words ≡ o → Bounds room (said (searched o from to room))
     go (refused number) e = omega arith
     go (passed q) e = settled-bounds (answer (q .day .lines) (q .day .places) (q .pattern) from to) (short q (asked-parts rec pat from to words q e))
+
+-- ---- where the bytes are read as a record and a pattern, a refusal has a number from 15 on
+
+abbrev pub LateSaid : Said → Type 0
+LateSaid (found n) = Unit {0}
+LateSaid none-found = Unit {0}
+LateSaid (refusal number n) = 15 ≤ number
+
+pub find-late : (rec pat : List ℕ) (from to words room : ℕ) (day : Day) (p : Pattern) → readRecord rec ≡ passed day → readPattern noneGiven pat ≡ passed p → LateSaid (said (findOf rec pat from to words room))
+unfolding findOf
+find-late rec pat from to words room day p r s = go (askRequest rec pat from to words) (asked-late rec pat from to words day p r s)
+  where
+    settled-late : (o : Option (List ℕ)) → LateSaid (said (settled room o))
+    settled-late none = tt
+    settled-late (some c) = fits (leb (length c) room)
+      where
+        fits : (t : Bool) → LateSaid (said (cond t (chain c) (too-long (length c))))
+        fits true = tt
+        fits false = omega arith
+
+    go : (o : Outcome Asked) → Late o → LateSaid (said (searched o from to room))
+    go (refused number) late = late
+    go (passed q) late = settled-late (answer (q .day .lines) (q .day .places) (q .pattern) from to)

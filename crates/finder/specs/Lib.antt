@@ -1,3 +1,3 @@
-pub mod Reply
+pub mod Promise
 pub mod Searching
 pub mod Demand

@@ -18,7 +18,7 @@ use Rattle.graph.specs.PhaseOne.{Progress, begun, advanceBy}
 use Rattle.graph.specs.PhaseTwo.{forward}
 use Rattle.search.specs.Product.{Setting}
 use Rattle.forward.specs.Posed.{Posed}
-use Rattle.finder.specs.Reply.{chain, too-long, settled, Said, found, none-found, refusal, said, outAfter}
+use Rattle.finder.specs.Promise.{chain, too-long, settled, Said, found, none-found, refusal, said, outAfter}
 
 abbrev pub wordOf : Option (List ℕ) → ℕ
 wordOf none = 0

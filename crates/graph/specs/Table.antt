@@ -51,10 +51,6 @@ blank N = record { dist = replicate N 0; queue = [] }
 unfoldable pub push : ℕ → ℕ → Search → Search
 push w s st = cond (eqb (getD (st .dist) s 0) 0) (record { dist = set (st .dist) s w; queue = st .queue ++ (s ∷ []) }) st
 
-push-new : (w s : ℕ) (st : Search) → getD (st .dist) s 0 ≡ 0 → push w s st ≡ record { dist = set (st .dist) s w; queue = st .queue ++ (s ∷ []) }
-unfolding push
-push-new w s st e = rw (eq-eqb (getD (st .dist) s 0) 0 e)
-
 pub push-met : (w s : ℕ) (st : Search) → (getD (st .dist) s 0 ≡ 0 → ⊥) → push w s st ≡ st
 unfolding push
 push-met w s st h = rw (ne-eqb (getD (st .dist) s 0) 0 h)
@@ -62,6 +58,10 @@ push-met w s st h = rw (ne-eqb (getD (st .dist) s 0) 0 h)
 push-old : (w s e : ℕ) (st : Search) → getD (st .dist) s 0 ≡ suc e → push w s st ≡ st
 unfolding push
 push-old w s e st h = push-met w s st (λ q. let z : _≡_ {A = ℕ} 0 (suc e) = cc in omega arith)
+
+push-new : (w s : ℕ) (st : Search) → getD (st .dist) s 0 ≡ 0 → push w s st ≡ record { dist = set (st .dist) s w; queue = st .queue ++ (s ∷ []) }
+unfolding push
+push-new w s st e = rw (eq-eqb (getD (st .dist) s 0) 0 e)
 
 -- ---- what a table holds
 

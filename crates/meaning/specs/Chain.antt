@@ -1,9 +1,11 @@
 -- Chains of lines (document 01, "The pattern", the paragraph on chains, and "Asking"): which are accepted, and which comes first.
 -- A chain is a path: a list, of any length, of numbers of lines; a line may come in it more than once.
 use mathlib.Core.Path.{_≡_}
+use mathlib.Core.Bool.{Bool, true, _&&_}
 use mathlib.Core.List.{List, [], _∷_, _++_}
 use mathlib.Core.Logic.{_⊎_}
 use Prim.Native.Nat.{ℕ, _<_}
+use lib.Dec.{ltb}
 use lib.ListN.{length}
 use Rattle.meaning.specs.Record.{Line}
 use Rattle.meaning.specs.Writing.{lineAt}
@@ -14,6 +16,11 @@ use Rattle.meaning.specs.Language.{Word, L, unbound}
 abbrev pub Exist : List Line → List ℕ → Type 0
 Exist lines [] = Unit {0}
 Exist lines (i ∷ c) = (i < length lines) × Exist lines c
+
+-- question 18 of a chain, for a record of m lines: does each named line exist?
+unfoldable pub exist : ℕ → List ℕ → Bool
+exist m [] = true
+exist m (i ∷ c) = ltb i m && exist m c
 
 -- it leads from a to b: its first line is from a, each later one from the place that the line before it leads to,
 -- and its last line leads to b; an empty chain leads from a place to itself

@@ -6,3 +6,5 @@ pub mod Language
 pub mod Chain
 pub mod Request
 pub mod Rows
+pub mod RowsOfChains
+pub mod RowsOfRequests

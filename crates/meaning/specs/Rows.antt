@@ -1,4 +1,5 @@
--- Computed examples of the definitions: nothing to believe. An edited definition breaks a row here.
+-- Computed examples of what bytes say: nothing to believe. An edited definition of `Record`, `Writing` or `Pattern` breaks a row here.
+-- Document 01's record R and patterns P and S, for the examples of chains and requests too.
 use mathlib.Core.Path.{_≡_, refl}
 use mathlib.Core.Bool.{true, false}
 use mathlib.Core.List.{List, [], _∷_, _++_, map}
@@ -11,7 +12,7 @@ use Rattle.meaning.specs.Pattern.{Pattern, nothing, line, test, same, ot
 use Rattle.meaning.specs.Language.{compared, meets}
 
 -- the number of the question that was answered no, or 0
-abbrev number : {A : Type 0} → Outcome A → ℕ
+abbrev pub number : {A : Type 0} → Outcome A → ℕ
 number (refused n) = n
 number (passed a) = 0
 
@@ -25,20 +26,20 @@ row bytes gives = record { bytes = bytes; gives = gives }
 
 -- ---- document 01's record R and others
 
-line-of : ℕ → ℕ → ℕ → ℕ → ℕ → Line
+unfoldable pub line-of : ℕ → ℕ → ℕ → ℕ → ℕ → Line
 line-of from kind class sail to = record { from = from; kind = kind; boat = record { class = class; sail = sail }; to = to }
 
-linesR : List Line
+unfoldable pub linesR : List Line
 linesR =
     line-of 0 1 1 150 1 ∷ line-of 0 1 2 150 1 ∷ line-of 1 2 2 150 2 ∷ line-of 1 2 1 150 2 ∷ line-of 2 3 1 150 2
     ∷ line-of 2 4 2 150 3 ∷ line-of 2 4 1 151 3 ∷ []
 
 -- the bytes of lines one after the other
-written-out : List Line → List ℕ
+unfoldable pub written-out : List Line → List ℕ
 written-out [] = []
 written-out (l ∷ ls) = bytesOf l ++ written-out ls
 
-bytesR : List ℕ
+unfoldable pub bytesR : List ℕ
 bytesR = 0x01 ∷ 0x00 ∷ 0x04 ∷ (written-out linesR ++ (0x00 ∷ []))
 
 row-R : readRecord bytesR ≡ passed (record { places = 4; lines = linesR })
@@ -160,16 +161,16 @@ reads = refl
 
 -- ---- patterns
 
-bytesP : List ℕ
+unfoldable pub bytesP : List ℕ
 bytesP = 0x27 ∷ 1 ∷ 0 ∷ 0x25 ∷ 0x22 ∷ 2 ∷ 0 ∷ 0x25 ∷ 0x26 ∷ 0x22 ∷ 3 ∷ 0 ∷ 0x22 ∷ 4 ∷ 0 ∷ []
 
 bytesS : List ℕ
 bytesS = 0x27 ∷ 1 ∷ 0 ∷ 0x25 ∷ 0x27 ∷ 1 ∷ 0 ∷ 0x23 ∷ 1 ∷ 0 ∷ 0x22 ∷ 1 ∷ 0 ∷ []
 
-P : Pattern
+unfoldable pub P : Pattern
 P = keep 1 0 (then (test same 2 0) (then (repeat (test same 3 0)) (test same 4 0)))
 
-S : Pattern
+unfoldable pub S : Pattern
 S = keep 1 0 (then (keep 1 0 (test other 1 0)) (test same 1 0))
 
 -- so many repeats, and what follows

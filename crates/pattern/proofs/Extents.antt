@@ -15,7 +15,7 @@ use Rattle.meaning.specs.Pattern.{commands, Command, commandAt, leaf, around, j
 use Rattle.pattern.specs.declared.Reading.{Reading}
 use Rattle.pattern.specs.declared.Reading.the-variants.{Read, Refused}
 use Rattle.pattern.specs.Reading.{Extent, readingShown, extent, patternAt, extentAt, aroundExtent, joinedExtent, Few}
-use Rattle.pattern.specs.Reply.{Counts, counted}
+use Rattle.pattern.specs.Promise.{Counts, counted}
 use Rattle.pattern.specs.Passed.{passed-same, not-passed, Passed, one-pattern}
 use Rattle.pattern.specs.Bound.{leaf-counts, around-commands, around-keeps, joined-counts, read-within, pattern-step}
 

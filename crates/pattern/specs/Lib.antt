@@ -1,4 +1,4 @@
-pub mod Reply
+pub mod Promise
 pub mod Reading
 pub mod Passed
 pub mod Bound

@@ -7,7 +7,7 @@ ghost use lib.ListN.{length, getD};
 ghost use Rattle.meaning.specs.Outcome.{told};
 ghost use Rattle.meaning.specs.Pattern.{shapeOf, operand, operandsAllowed, isTest, isKeep, commandAt, keptIn, depthIn, readPattern, noneGiven};
 ghost use Rattle.pattern.specs.Reading.{shapeShown, commandShown, readingShown, numberOf, extentAt, aroundExtent, joinedExtent, Few};
-ghost use Rattle.pattern.specs.Reply.{patternReply, counted, Small};
+ghost use Rattle.pattern.specs.Promise.{patternReply, counted, Small};
 
 // ---- the command table
 

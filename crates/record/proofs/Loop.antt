@@ -13,7 +13,7 @@ use types.Run.{OneOf}
 use denote.Enum.Declared.{tagOf}
 use Rattle.meaning.specs.Outcome.{Outcome, refused, passed, andThen}
 use Rattle.meaning.specs.Record.{Line, Entry, line, end, two, placesWhole, entryAt, linesFrom}
-use Rattle.record.specs.Reply.{entryTold, headTold, countedWith, closedWith, readingTold}
+use Rattle.record.specs.Reading.{entryTold, headTold, countedWith, closedWith, readingTold}
 use Rattle.record.specs.Walk.{Stands, entry-stands, step-refused, step-end, step-line}
 use Rattle.record.specs.declared.Entry.{Entry as EntryEnum}
 use Rattle.record.proofs.Entry.{the-type}

@@ -1,4 +1,5 @@
-pub mod Reply
+pub mod Promise
+pub mod Reading
 pub mod Outcomes
 pub mod Walk
 pub mod Whole

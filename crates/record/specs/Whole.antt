@@ -11,7 +11,7 @@ use borrow.Author.Tests.{leb-true, le-leb}
 use Rattle.meaning.specs.Outcome.{Outcome, refused, passed}
 use Rattle.meaning.specs.Record.{Line, Day, byte, two, lineOf, countAllowed, placesWhole, linesFrom, readRecord}
 use Rattle.meaning.specs.Writing.{lineAt}
-use Rattle.record.specs.Reply.{readingTold}
+use Rattle.record.specs.Reading.{readingTold}
 use Rattle.record.specs.declared.Reading.the-variants as Reading
 use Rattle.record.specs.Outcomes.{passed-inj, ask-passed, andThen-passed, and-true}
 use Rattle.record.specs.Walk.{lines-length, lines-at}

@@ -7,7 +7,8 @@ ghost use Rattle.meaning.specs.Record.{two, three, lineOf, askLine, entryAt, li
 ghost use Rattle.meaning.specs.Record.{line as line-entry};
 ghost use Rattle.meaning.specs.Writing.{lineAt, readOf};
 ghost use Rattle.record.specs.Whole.{linesOf};
-ghost use Rattle.record.specs.Reply.{entryNumber, readingNumber, lineReply, lineShown, entryTold, closedWith, headTold, countedWith, readingTold};
+ghost use Rattle.record.specs.Promise.{lineReply, lineShown};
+ghost use Rattle.record.specs.Reading.{entryNumber, readingNumber, entryTold, closedWith, headTold, countedWith, readingTold};
 
 // The five operands of a line.
 pub struct Line {

@@ -13,10 +13,10 @@ use Rattle.meaning.specs.Pattern.{Pattern, commands, keeps, readPattern, noneGi
 use Rattle.meaning.specs.Request.{Asked, sizeOf, searchSize, need, askBoth, askRequest, wordsOf}
 use Rattle.record.specs.Outcomes.{passed-inj, andThen-passed}
 use Rattle.record.specs.Whole.{linesIn, linesOf}
-use Rattle.pattern.specs.Reply.{Counts, patternReply, counted}
+use Rattle.pattern.specs.Promise.{Counts, patternReply, counted}
 use Rattle.pattern.specs.declared.PatternReply.the-variants as Said
 use Rattle.request.specs.Layout.{largest}
-use Rattle.request.specs.Reply.{bothTold, sizingTold, measuredTold}
+use Rattle.request.specs.Asking.{bothTold, sizingTold, measuredTold}
 use Rattle.request.specs.declared.Both.the-variants as Both
 use Rattle.request.specs.declared.Measured.the-variants as Measured
 use Rattle.request.specs.declared.Sizing.the-variants as Sizing

@@ -1,3 +1,4 @@
+pub mod Promise
 pub mod Layout
-pub mod Reply
+pub mod Asking
 pub mod Told

@@ -1,21 +1,22 @@
 -- A request that is answered, for the checker and the finder alike: what a request that passes says of its bytes and places (`asked-parts`),
+-- what is left to ask where the bytes are read (`asked-of`, `asked-late`),
 -- and the cases of the code's enum against the outcome of questions 1 to 17 (`answers-refused`, `answers-asked`).
 use mathlib.Core.Path.{_≡_, refl, sym, ap, _∙_, subst}
-use mathlib.Core.Bool.{_&&_}
+use mathlib.Core.Bool.{Bool, true, false, _&&_}
 use mathlib.Core.List.{List}
 use Prim.Native.Nat.{ℕ, _<_, _≤_}
 use native.Mathlib.Omega.{arith}
 use lib.Dec.{ltb, leb}
 use lib.ListN.{length, replicate, length-replicate}
 use borrow.Author.Tests.{ltb-true, leb-true}
-use Rattle.meaning.specs.Outcome.{Outcome, refused, passed}
-use Rattle.meaning.specs.Record.{readRecord}
-use Rattle.meaning.specs.Pattern.{readPattern, noneGiven}
+use Rattle.meaning.specs.Outcome.{Outcome, refused, passed, ask}
+use Rattle.meaning.specs.Record.{Day, readRecord}
+use Rattle.meaning.specs.Pattern.{Pattern, readPattern, noneGiven}
 use Rattle.meaning.specs.Request.{Asked, sizeOf, need, askBoth, askRequest}
 use Rattle.record.specs.Outcomes.{passed-inj, and-true, ask-passed, andThen-passed}
 use Rattle.record.specs.Whole.{linesIn, linesOf}
 use Rattle.request.specs.Layout.{largest, Laid, Planned}
-use Rattle.request.specs.Reply.{Answers}
+use Rattle.request.specs.Asking.{Answers}
 use Rattle.request.specs.declared.Plan.{Plan}
 use Rattle.request.specs.declared.Request.{Request}
 use Rattle.request.specs.declared.Request.the-variants as Request
@@ -46,6 +47,30 @@ asked-parts rec pat from to words q h =
       to-low = ltb-true _ _ y;
       small = leb-true _ _ small;
     })
+
+-- ---- bytes that are read as a day and a pattern
+
+-- only 15, 16 and 17 are left to ask
+pub asked-of : (rec pat : List ℕ) (from to words : ℕ) (day : Day) (p : Pattern) → readRecord rec ≡ passed day → readPattern noneGiven pat ≡ passed p
+    → let q : Asked = record { day = day; pattern = p } in askRequest rec pat from to words ≡ ask (ltb from (day .places) && ltb to (day .places)) 15 (ask (leb (sizeOf q) 1048576) 16 (ask (leb (need (sizeOf q)) words) 17 (passed q)))
+unfolding askRequest
+asked-of rec pat from to words day p r s = simp (r, s)
+
+-- a refusal has a number from 15 on
+abbrev pub Late : {A : Type 0} → Outcome A → Type 0
+Late (refused number) = 15 ≤ number
+Late (passed a) = Unit {0}
+
+pub asked-late : (rec pat : List ℕ) (from to words : ℕ) (day : Day) (p : Pattern) → readRecord rec ≡ passed day → readPattern noneGiven pat ≡ passed p → Late (askRequest rec pat from to words)
+asked-late rec pat from to words day p r s =
+    let q : Asked = record { day = day; pattern = p } in
+    rw (asked-of rec pat from to words day p r s) (go (ltb from (day .places) && ltb to (day .places)) (leb (sizeOf q) 1048576) (leb (need (sizeOf q)) words) q)
+  where
+    go : (t u v : Bool) (q : Asked) → Late (ask t 15 (ask u 16 (ask v 17 (passed q))))
+    go true true true q = tt
+    go true true false q = omega arith
+    go true false v q = omega arith
+    go false u v q = omega arith
 
 -- ---- the enum's cases
 

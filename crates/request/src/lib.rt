@@ -9,7 +9,8 @@ ghost use Rattle.meaning.specs.Writing.{lineAt};
 ghost use Rattle.boats.specs.Codes.{codes};
 ghost use Rattle.record.specs.Whole.{linesOf};
 ghost use Rattle.request.specs.Layout.{largest, tableWords, Laid, Fitting, lineWord, fromIn, toIn, kindIn, loadedOf};
-ghost use Rattle.request.specs.Reply.{bothTold, bothNumber, patternNumber, Small, sizingTold, measuredTold, Answers, Numbers, requestNumber, wordsReply};
+ghost use Rattle.request.specs.Promise.{wordsReply};
+ghost use Rattle.request.specs.Asking.{bothTold, bothNumber, patternNumber, Small, sizingTold, measuredTold, Answers, Numbers, requestNumber};
 use pattern::PatternReply;
 use record::Reading;
 

@@ -11,7 +11,7 @@ use lib.ListN.{length}
 use borrow.Author.Tests.{ltb-true, lt-ltb}
 use Rattle.meaning.specs.Record.{Line}
 use Rattle.meaning.specs.Pattern.{Pattern}
-use Rattle.meaning.specs.Chain.{Exist, Accepted}
+use Rattle.meaning.specs.Chain.{Exist, exist, Accepted}
 use Rattle.lists.specs.Listed.{_∈_}
 use Rattle.graph.specs.Plain.{Run, memb, nub, flat}
 use Rattle.graph.specs.Sets.{memb-in, in-memb, nub-in, flat-in}
@@ -20,11 +20,6 @@ use Rattle.search.specs.Along.{goal}
 use Rattle.search.specs.Answer.{setting, starts, LinesWithin, runs}
 
 -- ---- the definition
-
--- is each number that of one of m lines?
-unfoldable pub exist : ℕ → List ℕ → Bool
-exist m [] = true
-exist m (i ∷ c) = ltb i m && exist m c
 
 -- the states, each once, to which the chain leads from those of X
 unfoldable pub moved : (ℕ → ℕ → List ℕ) → List ℕ → List ℕ → List ℕ
@@ -48,6 +43,12 @@ exist-says lines (i ∷ c) =
 
 -- the goal g is moved to from X exactly by a run from a state of X
 module _ (next : ℕ → ℕ → List ℕ) (m g : ℕ) where
+  moved-complete : (c X : List ℕ) → (s : ℕ) × (s ∈ X) × Run (g ∷ []) next m s c → g ∈ moved next X c
+  unfolding moved Run
+  moved-complete [] X (s, k, r) = Memᴰ·cast (sym (List·Memᴰ·eq-of-singleton r)) k
+  moved-complete (i ∷ c) X (s, k, (t, li, n, r)) =
+      moved-complete c (nub (flat (λ s. next s i) X)) (t, nub-in _ t .1 (flat-in (λ s. next s i) X t .1 (s, k, n)), r)
+
   moved-sound : (c X : List ℕ) → exist m c ≡ true → g ∈ moved next X c → (s : ℕ) × (s ∈ X) × Run (g ∷ []) next m s c
   unfolding moved Run exist
   moved-sound [] X e k = (g, k, List·Memᴰ·head refl)
@@ -56,12 +57,6 @@ module _ (next : ℕ → ℕ → List ℕ) (m g : ℕ) where
       let (t, j, r) = moved-sound c (nub (flat (λ s. next s i) X)) e′ k in
       let (s, l, n) = flat-in (λ s. next s i) X t .0 (nub-in _ t .0 j) in
       (s, l, (t, ltb-true _ _ low, n, r))
-
-  moved-complete : (c X : List ℕ) → (s : ℕ) × (s ∈ X) × Run (g ∷ []) next m s c → g ∈ moved next X c
-  unfolding moved Run
-  moved-complete [] X (s, k, r) = Memᴰ·cast (sym (List·Memᴰ·eq-of-singleton r)) k
-  moved-complete (i ∷ c) X (s, k, (t, li, n, r)) =
-      moved-complete c (nub (flat (λ s. next s i) X)) (t, nub-in _ t .1 (flat-in (λ s. next s i) X t .1 (s, k, n)), r)
 
 -- it goes by the members of X, in whatever order
 pub moved-members : (next : ℕ → ℕ → List ℕ) (c X Y : List ℕ) → ((s : ℕ) → (s ∈ X) ↔ (s ∈ Y)) → (s : ℕ) → (s ∈ moved next X c) ↔ (s ∈ moved next Y c)

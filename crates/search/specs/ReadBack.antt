@@ -12,6 +12,7 @@ use Rattle.meaning.specs.Record.{Line, boats}
 use Rattle.meaning.specs.Writing.{noLine, lineAt}
 use Rattle.meaning.specs.Pattern.{Pattern, commands, keeps}
 use Rattle.meaning.specs.Request.{Asked, searchSize}
+use Rattle.meaning.specs.Chain.{exist}
 use Rattle.record.specs.Fit.{Fit}
 use Rattle.lists.specs.Listed.{_∈_}
 use Rattle.automaton.specs.Automaton.{nodes, nodeAt, start}
@@ -29,7 +30,7 @@ use Rattle.graph.specs.Early.{Ended, ended-is}
 use Rattle.search.specs.Product.{Setting, state, passes, succs, preds}
 use Rattle.search.specs.Along.{goal, starting}
 use Rattle.search.specs.Answer.{setting, starts, answer, starts-ok, goal-ok, sound, below-size, answer-any}
-use Rattle.search.specs.Check.{exist, moved, moved-members, check}
+use Rattle.search.specs.Check.{moved, moved-members, check}
 use Rattle.search.specs.Loaded.{codeAt, wordAt, lineIn, linesIn, settingIn}
 use Rattle.search.specs.Steps.{Ok, next-ok, preds-ok}
 use Rattle.search.specs.Same.{Same, passes-same, same-succs, same-preds, same-goal, same-starting, same-solve, same-moved}

@@ -13,6 +13,7 @@ use lib.ListN.{length}
 use borrow.Author.Tests.{ltb-true}
 use Rattle.meaning.specs.Writing.{lineAt}
 use Rattle.meaning.specs.Language.{meets}
+use Rattle.meaning.specs.Chain.{exist}
 use Rattle.lists.specs.Listed.{_∈_, when}
 use Rattle.automaton.specs.Automaton.{Test, never, always, against}
 use Rattle.automaton.specs.Shape.{deeper}
@@ -22,7 +23,7 @@ use Rattle.graph.specs.Sets.{memb-same, filt-in, count-in}
 use Rattle.search.specs.Digits.{entry, pushOn, popOff}
 use Rattle.search.specs.Product.{Setting, stacks, state, placeOf, posOf, stackOf, cut, passes, takes, pushed, popped, following, succs, uncut, undoes, positions, linesInto, sources, preds}
 use Rattle.search.specs.Along.{goal, starting}
-use Rattle.search.specs.Check.{exist, moved}
+use Rattle.search.specs.Check.{moved}
 
 -- ---- what is claimed
 

@@ -9,13 +9,14 @@ use Rattle.meaning.specs.Outcome.{Outcome, refused, passed}
 use Rattle.meaning.specs.Record.{boatsAfter, entryAt, linesFrom, readRecord}
 use Rattle.meaning.specs.Pattern.{readPattern, readAt, commandAt, shapeOf}
 use Rattle.meaning.specs.Request.{searchSize, askRequest}
+use Rattle.meaning.specs.Chain.{exist}
 use Rattle.boats.specs.Codes.{codes}
 use Rattle.graph.specs.Plain.{solve, found, news, look, bfs, chosen, pick, first, next, level, nearest, lesser, isAt, memb, nub, filt, flat, count}
 use Rattle.search.specs.Product.{stacks, state, placeOf, posOf, stackOf, succs, preds}
 use Rattle.search.specs.Answer.{setting, starts, answer}
-use Rattle.search.specs.Check.{exist, moved, check}
-use Rattle.checker.specs.Reply.{checkOf}
-use Rattle.finder.specs.Reply.{Finding, stopped, nowhere, chain, too-long, findOf}
+use Rattle.search.specs.Check.{moved, check}
+use Rattle.checker.specs.Promise.{checkOf}
+use Rattle.finder.specs.Promise.{Finding, stopped, nowhere, chain, too-long, findOf}
 
 -- ---- the day's records and patterns, in bytes
 

@@ -15,8 +15,9 @@ use denote.Enum.Declared.{tagOf}
 use Rattle.meaning.specs.Outcome.{Outcome, refused, passed, ask, told}
 use Rattle.meaning.specs.Record.{Line, line, askLine, placesBelow, kindAllowed, readRecord}
 use Rattle.meaning.specs.Writing.{written, unlessRefused, askNew, addOf}
-use Rattle.record.specs.Reply.{entryTold, entryNumber, readingTold}
-use Rattle.writing.specs.Reply.{writeReply, writeTold}
+use Rattle.record.specs.Reading.{entryTold, entryNumber, readingTold}
+use Rattle.writing.specs.Promise.{writeReply}
+use Rattle.writing.specs.Asking.{writeTold}
 use Rattle.record.specs.Outcomes.{passed-inj, ask-passed}
 use Rattle.record.specs.Whole.{record-length, reading-passed}
 use Rattle.writing.specs.declared.WriteReply.the-variants as Write

@@ -1,2 +1,3 @@
-pub mod Reply
+pub mod Promise
+pub mod Asking
 pub mod Added

@@ -3,7 +3,7 @@ use mathlib.Core.Path.{sym, subst}
 use Prim.Native.Nat.{ℕ, _<_}
 use native.Mathlib.Omega.{arith}
 use lib.ListN.{getD}
-use Rattle.finder.specs.Reply.{findReply}
+use Rattle.finder.specs.Promise.{findReply}
 use Rattle.finder.specs.Demand.{Bounds, find-bounds}
 use borrow.Author.Needs.{needs}
 use Rattle.chains.proofs.asked.Statement.{statement}

@@ -1,7 +1,7 @@
 -- `chains::render` is safe and ends: a chain that was found is within the output. Assumes nothing.
 use mathlib.Core.Path.{subst}
 use lib.ListN.{length}
-use Rattle.finder.specs.Reply.{findReply}
+use Rattle.finder.specs.Promise.{findReply}
 use Rattle.finder.specs.Demand.{Bounds}
 use Rattle.finder.specs.declared.FindReply.{FindReply}
 use borrow.Author.Needs.{needs}

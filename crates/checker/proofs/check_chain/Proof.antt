@@ -7,13 +7,13 @@ use native.Mathlib.Omega.{arith}
 use lib.ListN.{length, getD}
 use Rattle.meaning.specs.Outcome.{Reply, refusal, value, told}
 use Rattle.meaning.specs.Request.{askRequest, workAfter}
+use Rattle.meaning.specs.Chain.{exist}
 use Rattle.record.specs.Whole.{linesOf}
-use Rattle.request.specs.Reply.{Numbers, requestNumber}
+use Rattle.request.specs.Asking.{Numbers, requestNumber}
 use Rattle.request.specs.Told.{Parts, asked-parts, answers-refused, Told, answers-asked, told-loading, all-zero}
 use Rattle.request.specs.declared.Plan.{Plan}
-use Rattle.search.specs.Check.{exist}
 use Rattle.forward.proofs.Posing.{posed-from}
-use Rattle.checker.specs.Reply.{checkOf, Demand2}
+use Rattle.checker.specs.Promise.{checkOf, Demand2}
 use Rattle.checker.specs.Demand.{check-demand}
 use Rattle.checker.proofs.Replies.{check-refused, check-missing, check-said}
 use borrow.Author.Needs.{needs}

@@ -10,7 +10,7 @@ use lib.ListN.{length, getD, drop}
 use lib.Seq.{drop-cons, drop-length}
 use borrow.Author.Tests.{le-ltb, lt-ltb}
 use borrow.Author.Needs.{needs}
-use Rattle.search.specs.Check.{exist}
+use Rattle.meaning.specs.Chain.{exist}
 use Rattle.checker.proofs.lines_exist.Statement.{statement}
 use Rattle.checker.proofs.lines_exist.Tie as tie
 

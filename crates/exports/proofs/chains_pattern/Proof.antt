@@ -3,7 +3,7 @@
 use mathlib.Core.Path.{refl, sym, ap, _∙_, subst}
 use borrow.Author.Tests.{le-leb, lt-leb}
 use Rattle.meaning.specs.Pattern.{readPattern, noneGiven}
-use Rattle.pattern.specs.Reply.{patternReply, counted, Small}
+use Rattle.pattern.specs.Promise.{patternReply, counted, Small}
 use Rattle.exports.proofs.Numbers.{told-refused, told-passed}
 use borrow.Author.Needs.{needs}
 use Rattle.exports.proofs.chains_pattern.Statement.{statement}

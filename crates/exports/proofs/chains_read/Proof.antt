@@ -3,7 +3,7 @@
 use mathlib.Core.Path.{refl, sym, ap, _∙_}
 use borrow.Author.Tests.{le-leb, lt-leb}
 use Rattle.meaning.specs.Writing.{readOf}
-use Rattle.record.specs.Reply.{lineReply}
+use Rattle.record.specs.Promise.{lineReply}
 use Rattle.exports.proofs.Numbers.{told-refused, told-passed}
 use borrow.Author.Needs.{needs}
 use Rattle.exports.proofs.chains_read.Statement.{statement}

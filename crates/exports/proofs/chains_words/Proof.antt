@@ -1,7 +1,7 @@
 -- `exports::chains_words` meets its contract: the reply of `words_needed`, as a number. Assumes nothing.
 use mathlib.Core.Path.{sym, ap, _∙_}
 use Rattle.meaning.specs.Request.{wordsOf}
-use Rattle.request.specs.Reply.{wordsReply}
+use Rattle.request.specs.Promise.{wordsReply}
 use Rattle.exports.proofs.Numbers.{refusal-number, value-number}
 use borrow.Author.Needs.{needs}
 use Rattle.exports.proofs.chains_words.Statement.{statement}

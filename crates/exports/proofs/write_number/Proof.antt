@@ -2,9 +2,10 @@
 use mathlib.Core.Path.{sym, ap, subst}
 use Prim.Native.Nat.{_<_}
 use native.Mathlib.Omega.{arith}
-use Rattle.writing.specs.Reply.{writeReply}
+use Rattle.writing.specs.Promise.{writeReply}
 use Rattle.writing.specs.declared.WriteReply.{WriteReply}
-use Rattle.exports.specs.Number.{numberOf, Fits32}
+use Rattle.exports.specs.Promise.{numberOf}
+use Rattle.exports.specs.Fits.{Fits32}
 use borrow.Author.Needs.{needs}
 use Rattle.exports.proofs.write_number.Statement.{statement}
 use Rattle.exports.proofs.write_number.Tie as tie

@@ -1,7 +1,7 @@
 -- `record::closed` meets its contract, case by case. Assumes nothing.
 use mathlib.Core.Path.{sym, ap}
 use borrow.Author.Needs.{needs}
-use Rattle.record.specs.Reply.{closedWith}
+use Rattle.record.specs.Reading.{closedWith}
 use Rattle.record.proofs.closed.Statement.{statement}
 use Rattle.record.proofs.closed.Tie as tie
 

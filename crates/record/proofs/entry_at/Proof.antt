@@ -6,7 +6,7 @@ use borrow.Author.Needs.{needs}
 use borrow.Author.Tests.{le-leb, lt-leb, eq-eqb, ne-eqb}
 use Rattle.meaning.specs.Outcome.{passed}
 use Rattle.meaning.specs.Record.{Line, line, askLine, entryAt}
-use Rattle.record.specs.Reply.{entryTold}
+use Rattle.record.specs.Reading.{entryTold}
 use Rattle.record.proofs.entry_at.Statement.{statement}
 use Rattle.record.proofs.entry_at.Tie as tie
 

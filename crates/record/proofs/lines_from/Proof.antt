@@ -6,7 +6,7 @@ use native.Mathlib.Omega.{arith}
 use borrow.Author.Needs.{needs}
 use lib.ListN.{length, drop}
 use Rattle.meaning.specs.Record.{linesFrom}
-use Rattle.record.specs.Reply.{countedWith}
+use Rattle.record.specs.Reading.{countedWith}
 use Rattle.record.proofs.Loop.{turn, stop-here}
 use Rattle.record.proofs.lines_from.Statement.{statement}
 use Rattle.record.proofs.lines_from.Tie as tie

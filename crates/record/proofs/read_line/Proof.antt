@@ -7,7 +7,7 @@ use lib.ListN.{length}
 use Rattle.meaning.specs.Outcome.{passed, refusal, value}
 use Rattle.meaning.specs.Record.{Day, readRecord}
 use Rattle.meaning.specs.Writing.{lineAt}
-use Rattle.record.specs.Reply.{readingNumber}
+use Rattle.record.specs.Reading.{readingNumber}
 use Rattle.record.specs.Whole.{linesIn, linesOf, reading-refused, reading-passed}
 use Rattle.record.proofs.Back.{read-refused, read-passed}
 use borrow.Author.Tests.{le-ltb, lt-ltb}

@@ -6,7 +6,7 @@ use borrow.Author.Needs.{needs}
 use borrow.Author.Tests.{le-leb, lt-leb}
 use lib.ListN.{length, drop}
 use Rattle.meaning.specs.Record.{two, linesFrom, readRecord}
-use Rattle.record.specs.Reply.{countedWith}
+use Rattle.record.specs.Reading.{countedWith}
 use Rattle.record.specs.Whole.{head-long}
 use Rattle.record.proofs.Loop.{head-wrong, head-right, counted-whole}
 use Rattle.record.proofs.read_record.Statement.{statement}

@@ -7,10 +7,10 @@ use lib.ListN.{length}
 use Rattle.meaning.specs.Outcome.{passed}
 use Rattle.meaning.specs.Record.{Day, readRecord}
 use Rattle.meaning.specs.Pattern.{readPattern, noneGiven}
-use Rattle.record.specs.Reply.{readingNumber}
+use Rattle.record.specs.Reading.{readingNumber}
 use Rattle.record.specs.Whole.{reading-refused, reading-passed, places-few, lines-few}
-use Rattle.pattern.specs.Reply.{patternReply, Small}
-use Rattle.request.specs.Reply.{patternNumber, bothTold}
+use Rattle.pattern.specs.Promise.{patternReply, Small}
+use Rattle.request.specs.Asking.{patternNumber, bothTold}
 use Rattle.request.specs.declared.Both.the-variants as Both
 use Rattle.request.proofs.Asking.{tree-refused, tree-passed, both-first, both-second, both-passed}
 use borrow.Author.Needs.{needs}

@@ -14,7 +14,7 @@ use Rattle.record.specs.Whole.{linesOf, lines-short}
 use Rattle.boats.specs.Boats.{boats-few}
 use lib.Seq.{take-length}
 use Rattle.request.specs.Layout.{largest, Fitting}
-use Rattle.request.specs.Reply.{bothNumber, Small}
+use Rattle.request.specs.Asking.{bothNumber, Small}
 use Rattle.request.specs.declared.Request.the-variants as Request
 use Rattle.request.proofs.Asking.{Counted, both-refused, both-counted, counted-size, above, measured, refused-both, asked-from, asked-to, asked-size, asked-room, asked-all}
 use borrow.Author.Needs.{needs}

@@ -11,7 +11,7 @@ use Rattle.meaning.specs.Record.{boats}
 use Rattle.meaning.specs.Request.{need, askBoth}
 use Rattle.record.specs.Whole.{linesOf}
 use Rattle.request.specs.Layout.{largest}
-use Rattle.request.specs.Reply.{bothNumber, Small}
+use Rattle.request.specs.Asking.{bothNumber, Small}
 use Rattle.request.proofs.Asking.{Counted, both-refused, both-counted, counted-size, above, measured, words-refused, words-above, words-are}
 use borrow.Author.Needs.{needs}
 use Rattle.request.proofs.words_needed.Statement.{statement}

@@ -11,8 +11,9 @@ use lib.Seq.{length-take-le}
 use Rattle.meaning.specs.Outcome.{Outcome, passed, told, refusal}
 use Rattle.meaning.specs.Record.{Line, readRecord}
 use Rattle.meaning.specs.Writing.{written, askNew, addOf}
-use Rattle.record.specs.Reply.{lineShown, readingTold, readingNumber}
-use Rattle.writing.specs.Reply.{writeReply}
+use Rattle.record.specs.Promise.{lineShown}
+use Rattle.record.specs.Reading.{readingTold, readingNumber}
+use Rattle.writing.specs.Promise.{writeReply}
 use Rattle.record.specs.Whole.{reading-refused}
 use Rattle.record.specs.declared.Reading.the-variants as Reading
 use Rattle.writing.proofs.Writes.{reply-told, refusal-keeps, length-told, new-fits, add-refused, add-asked, add-long}

@@ -9,7 +9,7 @@ use borrow.Author.Needs.{needs}
 use borrow.Author.Tests.{le-ltb, lt-ltb, le-leb, lt-leb}
 use Rattle.meaning.specs.Outcome.{Outcome}
 use Rattle.meaning.specs.Record.{askLine}
-use Rattle.record.specs.Reply.{lineShown}
+use Rattle.record.specs.Promise.{lineShown}
 use Rattle.writing.specs.declared.WriteReply.the-variants as Write
 use Rattle.writing.proofs.Writes.{line-asked, line-refused}
 use Rattle.writing.proofs.new_asked.Statement.{statement}

@@ -1,5 +1,5 @@
 -- What reading a pattern promises: document 01's number and values of each case of `PatternReply`.
--- `patternReply r ≡ told (counted (readPattern given s))` is the promise of the open function.
+-- `patternReply r ≡ told (counted (readPattern noneGiven s))` and `Small r` are the promise of the open function `read_pattern`.
 use Prim.Native.Nat.{ℕ, _≤_}
 use Rattle.meaning.specs.Outcome.{Outcome, refused, passed, Reply, value, refusal}
 use Rattle.meaning.specs.Pattern.{Pattern, commands, keeps}

@@ -1,11 +1,12 @@
--- What each case of the code's enums says, in document 01's terms.
+-- What the functions of a request answer, in the terms of `meaning`: the definitions that their contracts cite.
+-- No open function's promise uses them.
 use mathlib.Core.Path.{_≡_}
 use mathlib.Core.Bool.{cond}
 use mathlib.Core.List.{List}
 use Prim.Native.Nat.{ℕ, suc, _*_, _^_, _≤_, _<_}
 use lib.Dec.{leb}
 use lib.ListN.{length, take}
-use Rattle.meaning.specs.Outcome.{Outcome, refused, passed, Reply, value, refusal}
+use Rattle.meaning.specs.Outcome.{Outcome, refused, passed}
 use Rattle.meaning.specs.Record.{Line, boats}
 use Rattle.meaning.specs.Pattern.{commands, keeps}
 use Rattle.meaning.specs.Request.{Asked}
@@ -20,8 +21,6 @@ use Rattle.request.specs.declared.Measured.{Measured}
 use Rattle.request.specs.declared.Measured.the-variants as Measured
 use Rattle.request.specs.declared.Request.{Request}
 use Rattle.request.specs.declared.Request.the-variants as Request
-use Rattle.request.specs.declared.WordsReply.{WordsReply}
-use Rattle.request.specs.declared.WordsReply.the-variants as Words
 use Rattle.request.specs.declared.Sizing.{Sizing}
 use Rattle.request.specs.declared.Sizing.the-variants.{Size, Above}
 
@@ -70,9 +69,3 @@ Numbers lines numbers (Request.Refused number) = Unit {0}
 abbrev pub requestNumber : Request → ℕ
 requestNumber (Request.Asked plan) = 0
 requestNumber (Request.Refused number) = number
-
--- ---- the words needed
-
-abbrev pub wordsReply : WordsReply → Reply ℕ
-wordsReply (Words.Words n) = value n
-wordsReply (Words.Refused number second) = refusal number second

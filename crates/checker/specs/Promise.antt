@@ -1,4 +1,5 @@
--- What the checker says: `checkOf`, the definition that its promise cites, and demand 2 in the words of document 01.
+-- What the checker promises: `checkReply r ≡ told (checkOf …)`, the area as `workAfter` of `meaning`, and `Demand2`, demand 2 in the words
+-- of document 01.
 use mathlib.Core.Path.{_≡_}
 use mathlib.Core.Bool.{Bool, true, false}
 use mathlib.Core.List.{List}
@@ -7,9 +8,9 @@ use lib.ListN.{length}
 use Rattle.meaning.specs.Outcome.{Outcome, passed, ask, andThen, Reply, value, refusal}
 use Rattle.meaning.specs.Record.{Line, Day, readRecord}
 use Rattle.meaning.specs.Pattern.{Pattern, readPattern, noneGiven}
-use Rattle.meaning.specs.Chain.{Accepted}
+use Rattle.meaning.specs.Chain.{exist, Accepted}
 use Rattle.meaning.specs.Request.{Asked, askRequest}
-use Rattle.search.specs.Check.{exist, check}
+use Rattle.search.specs.Check.{check}
 use Rattle.checker.specs.declared.CheckReply.{CheckReply}
 use Rattle.checker.specs.declared.CheckReply.the-variants as Check
 

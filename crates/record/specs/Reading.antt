@@ -1,15 +1,12 @@
--- What each case of the code's enums says, in document 01's terms: the number and values of a reply, a struct as the line it holds.
--- The promises of `record` compare replies through these definitions.
+-- What the steps of the walk over a record answer, in the terms of `meaning`: the definitions that their contracts cite.
+-- No open function's promise uses them.
 use mathlib.Core.Bool.{cond}
 use mathlib.Core.List.{List}
 use Prim.Native.Nat.{ℕ, _+_}
 use lib.ListN.{length}
-use Rattle.meaning.specs.Outcome.{Outcome, refused, passed, Reply, value, refusal}
+use Rattle.meaning.specs.Outcome.{Outcome, refused, passed}
 use Rattle.meaning.specs.Record.{Line, Day, Entry, two, placesWhole}
 use Rattle.meaning.specs.Record as meaning
-use Rattle.record.specs.declared.Line.{Line as LineStruct}
-use Rattle.record.specs.declared.LineReply.{LineReply}
-use Rattle.record.specs.declared.LineReply.the-variants as Read
 use Rattle.record.specs.declared.Head.{Head}
 use Rattle.record.specs.declared.Head.the-variants as First
 use Rattle.record.specs.declared.Entry.{Entry as EntryEnum}
@@ -17,17 +14,7 @@ use Rattle.record.specs.declared.Entry.the-variants as At
 use Rattle.record.specs.declared.Reading.{Reading}
 use Rattle.record.specs.declared.Reading.the-variants as Whole
 
--- ---- replies of open functions
-
--- the line that the five operands are
-abbrev pub lineShown : LineStruct → Line
-lineShown l = record { from = l .from; kind = l .kind; boat = record { class = l .class; sail = l .sail }; to = l .to }
-
-abbrev pub lineReply : LineReply → Reply Line
-lineReply (Read.Line l) = value (lineShown l)
-lineReply (Read.Refused number second) = refusal number second
-
--- ---- what a reading step answers
+-- ---- an entry
 
 abbrev pub entryTold : Outcome Entry → EntryEnum
 entryTold (refused number) = At.Wrong number
@@ -38,6 +25,8 @@ abbrev pub entryNumber : EntryEnum → ℕ
 entryNumber At.Line = 0
 entryNumber At.End = 0
 entryNumber (At.Wrong number) = number
+
+-- ---- the record
 
 -- the places command: question 2
 abbrev pub headTold : List ℕ → Head

@@ -1,12 +1,17 @@
--- What the finder says of a request, and what becomes of the lent words (document 01, "Asking" and "After each reply").
+-- What the finder promises (document 01, "Asking" and "After each reply"): `findReply r ≡ said (findOf …)`, the output as `outAfter`, the
+-- area as `workAfter` of `meaning`, and `Demand3`, what the reply and the output say of accepted chains.
 -- `findOf` goes by the plain search; it takes only the lengths of work area and output, never their contents.
+use mathlib.Core.Path.{_≡_}
 use mathlib.Core.Bool.{cond}
 use mathlib.Core.List.{List, _++_}
 use mathlib.Core.Option.{Option, none, some}
-use Prim.Native.Nat.{ℕ}
+use Prim.Native.Nat.{ℕ, _<_, _≤_}
 use lib.Dec.{leb}
-use lib.ListN.{length, drop}
+use lib.ListN.{length, take, drop}
 use Rattle.meaning.specs.Outcome.{Outcome, refused, passed}
+use Rattle.meaning.specs.Record.{Line, Day, readRecord}
+use Rattle.meaning.specs.Pattern.{Pattern, readPattern, noneGiven}
+use Rattle.meaning.specs.Chain.{Accepted, First}
 use Rattle.meaning.specs.Request.{Asked, askRequest}
 use Rattle.search.specs.Answer.{answer}
 use Rattle.finder.specs.declared.FindReply.{FindReply}
@@ -58,3 +63,17 @@ outAfter (stopped number) out = out
 outAfter nowhere out = out
 outAfter (chain c) out = c ++ drop (length c) out
 outAfter (too-long n) out = out
+
+-- ---- demand 3: the reply and the output, in terms of accepted chains of any length
+
+-- none: no chain of any length is accepted. Found: the chain written is accepted and comes before every other accepted one.
+-- 19: so does a chain of the length given, which doesn't fit
+abbrev pub Answers : List Line → Pattern → ℕ → ℕ → ℕ → Said → List ℕ → Type 0
+Answers lines p a b room none-found out = (c : List ℕ) → Accepted lines p a b c → ⊥
+Answers lines p a b room (found n) out = (n ≤ room) × (length (take n out) ≡ n) × First lines p a b (take n out)
+Answers lines p a b room (refusal number n) out = number ≡ 19 → (c : List ℕ) × First lines p a b c × (length c ≡ n) × (room < n)
+
+-- for every record and pattern that the bytes read as
+abbrev pub Demand3 : List ℕ → List ℕ → ℕ → ℕ → ℕ → Said → List ℕ → Type 0
+Demand3 rec pat from to room reply out =
+    (day : Day) (p : Pattern) → readRecord rec ≡ passed day → readPattern noneGiven pat ≡ passed p → Answers (day .lines) p from to room reply out

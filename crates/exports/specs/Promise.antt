@@ -1,0 +1,95 @@
+-- What the functions for C, Rust and Python promise: a reply as one number of 64 bits, n · 2^32 + value, and the lent words afterwards.
+-- `Membership` and `FirstShortest` are demands 2 and 3 of that number. The contracts of the functions `chains_…` cite these definitions.
+use mathlib.Core.Path.{_≡_}
+use mathlib.Core.Bool.{Bool, true, false, cond}
+use mathlib.Core.List.{List, [], _∷_, _++_}
+use Prim.Native.Nat.{ℕ, _+_, _*_, _/_, _%_, _<_, _≤_}
+use lib.Dec.{leb}
+use lib.ListN.{length, take, drop}
+use Rattle.meaning.specs.Outcome.{Outcome, refused, passed, Reply, value, refusal}
+use Rattle.meaning.specs.Record.{Line, Day, readRecord}
+use Rattle.meaning.specs.Pattern.{Pattern, readPattern, noneGiven}
+use Rattle.meaning.specs.Chain.{Accepted, First}
+use Rattle.pattern.specs.Promise.{Counts}
+use Rattle.finder.specs.Promise as Find
+
+-- ---- a value, or a refusal's number and second number
+
+abbrev pub numberOf : Reply ℕ → ℕ
+numberOf (value n) = n
+numberOf (refusal number second) = number * 4294967296 + second
+
+-- ---- a line read back into a lent list of words
+
+-- from, kind, class, sail number, to
+abbrev pub fieldsOf : Line → List ℕ
+fieldsOf l = l .from ∷ l .kind ∷ l .boat .class ∷ l .boat .sail ∷ l .to ∷ []
+
+-- 5 where the list has room for the five fields, else 0
+abbrev pub readNumber : Outcome Line → ℕ → ℕ
+readNumber (refused number) room = number * 4294967296
+readNumber (passed l) room = cond (leb 5 room) 5 0
+
+-- the fields at the front, or nothing written
+abbrev pub readAfter : Outcome Line → List ℕ → List ℕ
+readAfter (refused number) fields = fields
+readAfter (passed l) fields = cond (leb 5 (length fields)) (fieldsOf l ++ drop 5 fields) fields
+
+-- ---- a pattern's counts in a lent list of words
+
+-- commands, and the deepest nesting of keeps
+abbrev pub countsOf : Counts → List ℕ
+countsOf c = c .commands ∷ c .keeps ∷ []
+
+-- 2 where the list has room for the two counts, else 0
+abbrev pub patternNumber : Outcome Counts → ℕ → ℕ
+patternNumber (refused number) room = number * 4294967296
+patternNumber (passed c) room = cond (leb 2 room) 2 0
+
+-- the counts at the front, or nothing written
+abbrev pub patternAfter : Outcome Counts → List ℕ → List ℕ
+patternAfter (refused number) counts = counts
+patternAfter (passed c) counts = cond (leb 2 (length counts)) (countsOf c ++ drop 2 counts) counts
+
+-- ---- yes and no
+
+abbrev pub checkNumber : Reply Bool → ℕ
+checkNumber (value true) = 1
+checkNumber (value false) = 0
+checkNumber (refusal number second) = number * 4294967296 + second
+
+-- 1: the chain is accepted; 0: it is not
+abbrev pub YesNo : List Line → Pattern → ℕ → ℕ → List ℕ → ℕ → Type 0
+YesNo lines p a b c r =
+    (r ≡ 1 → Accepted lines p a b c)
+    × (r ≡ 0 → Accepted lines p a b c → ⊥)
+
+-- for every record and pattern that the bytes read as
+abbrev pub Membership : List ℕ → List ℕ → ℕ → ℕ → List ℕ → ℕ → Type 0
+Membership rec pat a b c r =
+    (day : Day) (p : Pattern) → readRecord rec ≡ passed day → readPattern noneGiven pat ≡ passed p → YesNo (day .lines) p a b c r
+
+-- ---- a chain's length, or none
+
+abbrev pub findNumber : Find.Said → ℕ
+findNumber (Find.found n) = n
+findNumber Find.none-found = 4294967295
+findNumber (Find.refusal number second) = number * 4294967296 + second
+
+-- 4,294,967,295: no chain of any length is accepted. Less: so many entries of the output are the accepted chain that comes before every
+-- other. Refused with 19: that chain has the length told, and does not fit
+abbrev pub LengthOrNone : List Line → Pattern → ℕ → ℕ → ℕ → ℕ → List ℕ → Type 0
+LengthOrNone lines p a b room r out =
+    (r ≡ 4294967295 → (c : List ℕ) → Accepted lines p a b c → ⊥)
+    × (r < 4294967295 → (r ≤ room) × (length (take r out) ≡ r) × First lines p a b (take r out))
+    × (r / 4294967296 ≡ 19 → (c : List ℕ) × First lines p a b c × (length c ≡ r % 4294967296) × (room < length c))
+
+-- for every record and pattern that the bytes read as
+unfoldable pub FirstShortest : List ℕ → List ℕ → ℕ → ℕ → ℕ → ℕ → List ℕ → Type 0
+FirstShortest rec pat a b room r out =
+    (day : Day) (p : Pattern) → readRecord rec ≡ passed day → readPattern noneGiven pat ≡ passed p → LengthOrNone (day .lines) p a b room r out
+
+-- ---- the version
+
+abbrev pub versionNumber : ℕ → ℕ → ℕ → ℕ
+versionNumber major minor patch = major * 1000000 + minor * 1000 + patch

@@ -1,0 +1,80 @@
+-- Computed examples of requests: nothing to believe. An edited definition of `Request` breaks one of them.
+-- Search sizes and words, questions 15 to 17 in their order and at their limits, and the work area afterwards.
+use mathlib.Core.Path.{_≡_, refl}
+use mathlib.Core.List.{List, [], _∷_, _++_, map}
+use Prim.Native.Nat.{ℕ, zero, suc}
+use lib.ListN.{replicate}
+use Rattle.meaning.specs.Outcome.{refused, passed}
+use Rattle.meaning.specs.Record.{Line, boatsAfter, entryAt, linesFrom, readRecord}
+use Rattle.meaning.specs.Pattern.{nothing, readPattern, readAt, commandAt, shapeOf}
+use Rattle.meaning.specs.Request.{searchSize, need, Asked, askRequest, wordsOf, workAfter}
+use Rattle.meaning.specs.Rows.{number, line-of, linesR, written-out, bytesR, bytesP, P, S}
+
+-- ---- the search size and the words
+
+sizes : map (searchSize linesR 4) (P ∷ S ∷ nothing ∷ []) ≡ 128 ∷ 384 ∷ 8 ∷ []
+unfolding searchSize boatsAfter linesR line-of P S
+sizes = refl
+
+words-needed : map need (128 ∷ 1048576 ∷ []) ≡ 8704 ∷ 4202496 ∷ []
+words-needed = refl
+
+-- ---- questions 15 to 17
+
+-- the lines of so many boats, and a record of 1,024 places with them
+fleet : ℕ → List Line
+fleet zero = []
+fleet (suc n) = line-of 0 1 1 (suc n) 0 ∷ fleet n
+
+day-of : ℕ → List ℕ
+day-of boats = 0x01 ∷ 0x04 ∷ 0x00 ∷ (written-out (fleet boats) ++ (0x00 ∷ []))
+
+-- 15 commands, one keep
+fifteen : List ℕ
+fifteen = 0x27 ∷ 1 ∷ 0 ∷ (replicate 13 0x26 ++ (0x20 ∷ []))
+
+record Request : Type 0 where
+  rec : List ℕ
+  pat : List ℕ
+  from : ℕ
+  to : ℕ
+  words : ℕ
+  gives : ℕ
+
+request : List ℕ → List ℕ → ℕ → ℕ → ℕ → ℕ → Request
+request rec pat from to words gives = record { rec = rec; pat = pat; from = from; to = to; words = words; gives = gives }
+
+requests : List Request
+requests =
+    -- record, then pattern, then request
+    request (0x01 ∷ []) [] 4 4 0 2
+    ∷ request bytesR [] 4 4 0 8
+    -- both places, and before the area
+    ∷ request bytesR bytesP 0 3 8704 0
+    ∷ request bytesR bytesP 4 3 0 15
+    ∷ request bytesR bytesP 0 4 8704 15
+    -- an area of just the words needed, and one of a word less
+    ∷ request bytesR bytesP 0 3 8703 17
+    -- the largest size, and the next: 15 before 16 before 17
+    ∷ request (day-of 63) fifteen 0 1023 4202496 0
+    ∷ request (day-of 63) fifteen 0 1023 4202495 17
+    ∷ request (day-of 64) fifteen 0 1023 0 16
+    ∷ request (day-of 64) fifteen 0 1024 0 15
+    ∷ []
+
+requests-asked : map (λ r. number (askRequest (r .rec) (r .pat) (r .from) (r .to) (r .words))) requests ≡ map (λ r. r .gives) requests
+unfolding requests request fleet day-of fifteen bytesR linesR written-out line-of bytesP askRequest searchSize boatsAfter readRecord linesFrom entryAt readPattern readAt commandAt shapeOf
+requests-asked = refl
+
+-- how many words: 1 to 14, then 16
+words-told : wordsOf bytesR bytesP ∷ wordsOf (day-of 64) fifteen ∷ [] ≡ passed 8704 ∷ refused 16 ∷ []
+unfolding fleet day-of fifteen bytesR linesR written-out line-of bytesP wordsOf searchSize boatsAfter readRecord linesFrom entryAt readPattern readAt commandAt shapeOf
+words-told = refl
+
+-- ---- the work area afterwards
+
+area-untouched : workAfter (refused 17) (5 ∷ 6 ∷ []) ≡ 5 ∷ 6 ∷ []
+area-untouched = refl
+
+area-cleared : (q : Asked) → workAfter (passed q) (5 ∷ 6 ∷ []) ≡ 0 ∷ 0 ∷ []
+area-cleared q = refl
