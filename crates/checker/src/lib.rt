@@ -9,12 +9,12 @@ ghost use Rattle.meaning.specs.Request.{askRequest, workAfter};
 ghost use Rattle.meaning.specs.Chain.{exist};
 ghost use Rattle.request.specs.Layout.{Laid};
 ghost use Rattle.graph.specs.Loops.{turns};
-ghost use Rattle.area.specs.Area.{Ready, Step};
+ghost use Rattle.states.specs.Pairs.{ReadyForth, StepForth};
 ghost use Rattle.search.specs.Product.{succs};
 ghost use Rattle.search.specs.Loaded.{settingAt};
 ghost use Rattle.states.specs.Spots.{Fit};
 ghost use Rattle.forward.specs.Posed.{SomePosed};
-ghost use Rattle.checker.specs.Walk.{stepped, walked, marks, Alive, Advanced, frontierAt, asideOf, Aside, Listed, listTurn, Within, ends, RightFor};
+ghost use Rattle.checker.specs.Walk.{stepped, walked, Alive, Advanced, frontierAt, asideOf, Aside, Listed, listTurn, Within, ends, RightFor};
 ghost use Rattle.checker.specs.Promise.{checkReply, checkOf, Demand2};
 use request::Plan;
 use request::Request;
@@ -56,7 +56,7 @@ fn set_aside(work: &mut [u32], plan: Plan, i: usize)
 // All states of the frontier come into the list, and nothing is marked.
 fn settle(work: &mut [u32], plan: Plan, tail: usize)
     requires { ⌜ Laid plan (length (now work)) ⌝ }
-    requires { ⌜ Ready (marks plan) (plan .size) tail (now work) ⌝ }
+    requires { ⌜ ReadyForth plan tail (now work) ⌝ }
     ensures { λ _. ⌜ Aside plan tail (now (work .entry)) (now (work .exit)) ⌝ }
 {
     for i in 0..tail {
@@ -66,10 +66,10 @@ fn settle(work: &mut [u32], plan: Plan, tail: usize)
 
 // The states to which the line leads from those of the list become the frontier. Returns how many they are.
 fn gather(work: &mut [u32], plan: Plan, program: &[u64; 128], line: usize, count: usize) -> usize
-    requires { ⌜ Ready (marks plan) (plan .size) 0 (now work) ⌝ }
+    requires { ⌜ ReadyForth plan 0 (now work) ⌝ }
     requires { ⌜ Fit plan (now program) (now work) ⌝ }
     requires { ⌜ (line < plan .lines) × (count ≤ plan .size) × Listed plan count (now work) ⌝ }
-    ensures { λ r. ⌜ Step (marks plan) (plan .size) (turns (listTurn (settingAt (now (program .entry)) plan (now (work .entry))) plan (now (work .entry)) line) 0 count) 0 (now (work .entry)) r (now (work .exit)) ⌝ }
+    ensures { λ r. ⌜ StepForth plan (turns (listTurn (settingAt (now (program .entry)) plan (now (work .entry))) plan (now (work .entry)) line) 0 count) 0 (now (work .entry)) r (now (work .exit)) ⌝ }
 {
     let mut t = 0;
     for j in 0..count {

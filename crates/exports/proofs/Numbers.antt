@@ -2,7 +2,7 @@
 use mathlib.Core.Path.{_≡_, refl, sym, ap}
 use mathlib.Core.Bool.{Bool}
 use mathlib.Core.List.{List, [], _∷_}
-use Prim.Native.Nat.{ℕ, _*_, _<_, _≤_}
+use Prim.Native.Nat.{ℕ, _+_, _*_, _<_, _≤_}
 use native.Mathlib.Omega.{arith}
 use lib.ListN.{length, take, drop, set}
 use lib.Seq.{length-take-le}
@@ -14,7 +14,11 @@ use Rattle.record.specs.Whole.{whole-of}
 use Rattle.exports.specs.Promise.{numberOf, checkNumber}
 use Rattle.exports.specs.Fits.{Fits32}
 
-pub refusal-number : (o : Outcome ℕ) (number second : ℕ) → refusal number second ≡ told o → number * 4294967296 ≡ numberOf (told o)
+-- a refusal's number where the second number is 0
+pub refused-is : (r number : ℕ) → r ≡ number * 4294967296 + 0 → r ≡ number * 4294967296
+refused-is r number e = omega (arith, e)
+
+pub refusal-number : (o : Outcome ℕ) (number second : ℕ) → refusal number second ≡ told o → number * 4294967296 + 0 ≡ numberOf (told o)
 refusal-number (refused q) number second h = let e : number ≡ q = cc in omega (arith, e)
 refusal-number (passed n) number second h = absurd (let z : _≡_ {A = ℕ} 0 1 = cc in omega arith)
 
@@ -55,6 +59,6 @@ set-two (x ∷ y ∷ rest) a b h = refl
 
 -- ---- yes and no
 
-pub check-refused : (o : Outcome Bool) (number second : ℕ) → refusal number second ≡ told o → number * 4294967296 ≡ checkNumber (told o)
+pub check-refused : (o : Outcome Bool) (number second : ℕ) → refusal number second ≡ told o → number * 4294967296 + 0 ≡ checkNumber (told o)
 check-refused (refused q) number second h = let e : number ≡ q = cc in omega (arith, e)
 check-refused (passed b) number second h = absurd (let z : _≡_ {A = ℕ} 0 1 = cc in omega arith)

@@ -2,7 +2,7 @@
 // question that failed, and value is then the refusal's second number.
 ghost use mathlib.Core.Path.{_≡_};
 ghost use mathlib.Core.List.{_∷_, _++_};
-ghost use Prim.Native.Nat.{_*_, _≤_};
+ghost use Prim.Native.Nat.{_+_, _*_, _<_, _≤_};
 ghost use lib.ListN.{length, drop};
 ghost use Rattle.meaning.specs.Outcome.{told};
 ghost use Rattle.meaning.specs.Writing.{beginOf, beginAfter, addOf, addAfter, readOf};
@@ -33,6 +33,16 @@ pub extern "C" fn chains_version() -> u64
     1000000
 }
 
+// ---- refusals
+
+// A refusal as a number: the question's above the low 32 bits, and the second number there.
+fn refusal(q: u8, second: usize) -> u64
+    requires { ⌜ second < 4294967296 ⌝ }
+    ensures { λ r. ⌜ r ≡ q * 4294967296 + second ⌝ }
+{
+    q as u64 * 4294967296 + second as u64
+}
+
 // ---- records
 
 fn write_number(r: WriteReply) -> u64
@@ -41,7 +51,7 @@ fn write_number(r: WriteReply) -> u64
 {
     match r {
         WriteReply::Length(n) => n as u64,
-        WriteReply::Refused(q, second) => q as u64 * 4294967296 + second as u64,
+        WriteReply::Refused(q, second) => refusal(q, second),
     }
 }
 
@@ -104,7 +114,7 @@ pub extern "C" fn chains_read(rec: &[u8], line: u16, fields: &mut [u32]) -> u64
     ensures words { λ _. ⌜ now (fields .exit) ≡ readAfter (readOf (now (rec .entry)) line) (now (fields .entry)) ⌝ }
 {
     match record::read_line(rec, line) {
-        LineReply::Refused(q, _) => q as u64 * 4294967296,
+        LineReply::Refused(q, _) => refusal(q, 0),
         LineReply::Line(l) => {
             if fields.len() < 5 {
                 return 0;
@@ -134,7 +144,7 @@ pub extern "C" fn chains_pattern(pat: &[u8], counts: &mut [u32]) -> u64
     ensures words { λ _. ⌜ now (counts .exit) ≡ patternAfter (counted (readPattern noneGiven (now (pat .entry)))) (now (counts .entry)) ⌝ }
 {
     match pattern::read_pattern(pat) {
-        PatternReply::Refused(q, _) => q as u64 * 4294967296,
+        PatternReply::Refused(q, _) => refusal(q, 0),
         PatternReply::Pattern { commands, keeps } => {
             if counts.len() < 2 {
                 return 0;
@@ -154,7 +164,7 @@ pub extern "C" fn chains_words(rec: &[u8], pat: &[u8]) -> u64
 {
     match request::words_needed(rec, pat) {
         WordsReply::Words(n) => n as u64,
-        WordsReply::Refused(q, _) => q as u64 * 4294967296,
+        WordsReply::Refused(q, _) => refusal(q, 0),
     }
 }
 
@@ -175,7 +185,7 @@ pub extern "C" fn chains_check(
     match checker::check_chain(rec, pat, from, to, chain, work) {
         CheckReply::Yes => 1,
         CheckReply::No => 0,
-        CheckReply::Refused(q, _) => q as u64 * 4294967296,
+        CheckReply::Refused(q, _) => refusal(q, 0),
     }
 }
 
@@ -197,6 +207,6 @@ pub extern "C" fn chains_find(
     match finder::find(rec, pat, from, to, work, out) {
         FindReply::Found(n) => n as u64,
         FindReply::NoChain => 4294967295,
-        FindReply::Refused(q, second) => q as u64 * 4294967296 + second as u64,
+        FindReply::Refused(q, second) => refusal(q, second),
     }
 }

@@ -3,7 +3,7 @@
 use mathlib.Core.Path.{_≡_}
 use mathlib.Core.Bool.{true}
 use mathlib.Core.List.{List}
-use Prim.Native.Nat.{ℕ, _+_, _/_, _≤_, _<_}
+use Prim.Native.Nat.{ℕ, _+_, _-_, _/_, _≤_, _<_}
 use lib.ListN.{getD}
 use Rattle.request.specs.declared.Plan.{Plan}
 use Rattle.graph.specs.Loops.{loop}
@@ -63,3 +63,7 @@ chainFrom a plan far table w = walk (leads a plan w) (plan .lines) far 0 table
 -- the first frontier: the first states whose distance's word is `near`
 abbrev pub firstFrontier : Plan → ℕ → ℕ → ℕ → List ℕ → Search
 firstFrontier plan begin from near w = loop (put (distances plan w) near) (firstStates plan begin from) (blank (plan .size))
+
+-- the chain by the word of the nearest first state, one more than its length
+abbrev pub chainBy : List ℕ → Plan → ℕ → ℕ → ℕ → List ℕ → List ℕ
+chainBy a plan begin from near w = chainFrom a plan (near - 1) (firstFrontier plan begin from near w) w

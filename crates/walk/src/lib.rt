@@ -9,7 +9,7 @@ ghost use Rattle.request.specs.Layout.{Laid};
 ghost use Rattle.graph.specs.PhaseTwo.{gather};
 ghost use Rattle.states.specs.Pairs.{ReadyForth, StepForth, foundForth};
 ghost use Rattle.states.specs.Spots.{front, Fit, Starts};
-ghost use Rattle.walk.specs.Leading.{Ordered, Leading, Standing, Together, leads, Chose, chainFrom, firstFrontier};
+ghost use Rattle.walk.specs.Leading.{Ordered, Leading, Standing, Together, leads, Chose, chainFrom, chainBy};
 use request::Plan;
 use sorted::Order;
 
@@ -190,7 +190,7 @@ pub fn chain_into(
 )
     requires { ⌜ Fit plan (now program) (now work) ⌝ }
     requires { ⌜ (from < plan .places) × (0 < nearest) × (nearest ≤ suc (length (now out))) ⌝ }
-    ensures { λ _. ⌜ now (out .exit) ≡ chainFrom (now (program .entry)) plan (nearest - 1) (firstFrontier plan begin from nearest (now (work .entry))) (now (work .entry)) ++ drop (nearest - 1) (now (out .entry)) ⌝ }
+    ensures { λ _. ⌜ now (out .exit) ≡ chainBy (now (program .entry)) plan begin from nearest (now (work .entry)) ++ drop (nearest - 1) (now (out .entry)) ⌝ }
 {
     order_lines(work, plan);
     area::clear_stretch(work, plan.marks, plan.size);

@@ -21,11 +21,8 @@ enum-told-2 c = search needs
 enum-known-q : tie.Need-enum-known-q
 enum-known-q c = search needs
 
-cast-result : tie.Need-cast-result
-cast-result c = search needs
-
-mul-result : tie.Need-mul-result
-mul-result c = search needs
+refusal-requires : tie.Need-refusal-requires
+refusal-requires c κs = search needs
 
 same-length : tie.Need-same-length
 same-length c = search needs
@@ -52,9 +49,9 @@ same-length-3 c = search needs
 
 returns-3 : tie.Need-returns-3
 returns-3 c =
-    let b = c .before .before .before .before .before .check-chain .ensures in
-    let a = c .before .before .before .before .before .before .before .before .before .before .before .args in
-    let n = check-refused (checkOf (a .rec .now) (a .pat .now) (a .from) (a .to) (a .chain .now) (length (a .work .now))) _ _ (ap checkReply (sym (c .before .q .given .1)) ∙ b .0) in
+    let b = c .before .before .before .before .before .before .check-chain .ensures in
+    let a = c .before .before .before .before .before .before .before .before .before .before .before .before .args in
+    let n = c .refusal .ensures ∙ check-refused (checkOf (a .rec .now) (a .pat .now) (a .from) (a .to) (a .chain .now) (length (a .work .now))) _ _ (ap checkReply (sym (c .before .before .q .given .1)) ∙ b .0) in
     (n, (b .1 .0, check-number (a .rec .now) (a .pat .now) (a .from) (a .to) (a .chain .now) (length (a .work .now)) _ (b .0) (b .1 .1) _ n))
 
 pub chains-check-spec : {M : Type 1} → statement M
@@ -65,8 +62,7 @@ chains-check-spec =
     enum-told
     enum-told-2
     enum-known-q
-    cast-result
-    mul-result
+    refusal-requires
     same-length
     returns
     same-length-2

@@ -23,14 +23,8 @@ enum-told c = search needs
 enum-known-q : tie.Need-enum-known-q
 enum-known-q c = search needs
 
-cast-result : tie.Need-cast-result
-cast-result c = search needs
-
-mul-result : tie.Need-mul-result
-mul-result c = search needs
-
-add-result : tie.Need-add-result
-add-result c =
+refusal-requires : tie.Need-refusal-requires
+refusal-requires c κs =
     let x = c .before .before .before .before .before .before .before .before .before .before .before .before .before .before .args in
     let low : (i : ℕ) → getD (x .rec .now) i 0 < 256 = λ i. omega (arith, c .before .before .before .before .before .before .before .before .before .before .before .before .before .shared-slice-known .given i) in
     let reply = ap findReply (sym (c .before .q .given .1)) ∙ c .before .before .before .before .before .before .before .find .ensures .0 in
@@ -73,10 +67,10 @@ same-length-6 c = search needs
 
 returns-3 : tie.Need-returns-3
 returns-3 c =
-    let b = c .before .before .before .before .before .before .before .find .ensures in
-    let x = c .before .before .before .before .before .before .before .before .before .before .before .before .before .before .args in
-    let low : (i : ℕ) → getD (x .rec .now) i 0 < 256 = λ i. omega (arith, c .before .before .before .before .before .before .before .before .before .before .before .before .before .shared-slice-known .given i) in
-    let n = ap findNumber (ap findReply (sym (c .before .q .given .1)) ∙ b .0) in
+    let b = c .before .before .before .before .before .before .before .before .find .ensures in
+    let x = c .before .before .before .before .before .before .before .before .before .before .before .before .before .before .before .args in
+    let low : (i : ℕ) → getD (x .rec .now) i 0 < 256 = λ i. omega (arith, c .before .before .before .before .before .before .before .before .before .before .before .before .before .before .shared-slice-known .given i) in
+    let n = c .refusal .ensures ∙ ap findNumber (ap findReply (sym (c .before .before .q .given .1)) ∙ b .0) in
     (n, (b .1 .0, (b .1 .1 .0, find-number (x .rec .now) (x .pat .now) (x .from) (x .to) (length (x .work .now)) (length (x .out .now)) _ low _ (b .0) (b .1 .1 .1) _ n)))
 
 pub chains-find-spec : {M : Type 1} → statement M
@@ -87,9 +81,7 @@ chains-find-spec =
     enum-known-n
     enum-told
     enum-known-q
-    cast-result
-    mul-result
-    add-result
+    refusal-requires
     same-length
     same-length-2
     returns

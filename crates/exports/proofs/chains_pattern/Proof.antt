@@ -4,7 +4,7 @@ use mathlib.Core.Path.{refl, sym, ap, _∙_, subst}
 use borrow.Author.Tests.{le-leb, lt-leb}
 use Rattle.meaning.specs.Pattern.{readPattern, noneGiven}
 use Rattle.pattern.specs.Promise.{patternReply, counted, Small}
-use Rattle.exports.proofs.Numbers.{told-refused, told-passed}
+use Rattle.exports.proofs.Numbers.{refused-is, told-refused, told-passed}
 use borrow.Author.Needs.{needs}
 use Rattle.exports.proofs.chains_pattern.Statement.{statement}
 use Rattle.exports.proofs.chains_pattern.Tie as tie
@@ -15,11 +15,8 @@ read-pattern-requires c κs = search needs
 enum-known-q : tie.Need-enum-known-q
 enum-known-q c = search needs
 
-cast-result : tie.Need-cast-result
-cast-result c = search needs
-
-mul-result : tie.Need-mul-result
-mul-result c = search needs
+refusal-requires : tie.Need-refusal-requires
+refusal-requires c κs = search needs
 
 enum-known-commands : tie.Need-enum-known-commands
 enum-known-commands c = search needs
@@ -38,9 +35,9 @@ put-counts-requires c κs =
 
 returns-2 : tie.Need-returns-2
 returns-2 c =
-    let b = c .before .before .before in
+    let b = c .before .before .before .before in
     let a = b .before .before .before .args in
-    rw (told-refused (counted (readPattern noneGiven (a .pat .now))) _ _ (ap patternReply (sym (c .before .q .given .1)) ∙ b .read-pattern .ensures .0)) (refl, refl)
+    rw (told-refused (counted (readPattern noneGiven (a .pat .now))) _ _ (ap patternReply (sym (c .before .before .q .given .1)) ∙ b .read-pattern .ensures .0)) (refused-is _ _ (c .refusal .ensures), refl)
 
 same-length : tie.Need-same-length
 same-length c = search needs
@@ -58,8 +55,7 @@ chains-pattern-spec =
     (tie.spec
     read-pattern-requires
     enum-known-q
-    cast-result
-    mul-result
+    refusal-requires
     enum-known-commands
     returns
     put-counts-requires

@@ -4,7 +4,7 @@ use mathlib.Core.Path.{refl, sym, ap, _∙_}
 use borrow.Author.Tests.{le-leb, lt-leb}
 use Rattle.meaning.specs.Writing.{readOf}
 use Rattle.record.specs.Promise.{lineReply}
-use Rattle.exports.proofs.Numbers.{told-refused, told-passed}
+use Rattle.exports.proofs.Numbers.{refused-is, told-refused, told-passed}
 use borrow.Author.Needs.{needs}
 use Rattle.exports.proofs.chains_read.Statement.{statement}
 use Rattle.exports.proofs.chains_read.Tie as tie
@@ -15,11 +15,8 @@ read-line-requires c κs = search needs
 enum-known-q : tie.Need-enum-known-q
 enum-known-q c = search needs
 
-cast-result : tie.Need-cast-result
-cast-result c = search needs
-
-mul-result : tie.Need-mul-result
-mul-result c = search needs
+refusal-requires : tie.Need-refusal-requires
+refusal-requires c κs = search needs
 
 enum-known-l : tie.Need-enum-known-l
 enum-known-l c = search needs
@@ -35,9 +32,9 @@ put-fields-requires c κs = search needs
 
 returns-2 : tie.Need-returns-2
 returns-2 c =
-    let b = c .before .before .before in
+    let b = c .before .before .before .before in
     let a = b .before .before .before .args in
-    rw (told-refused (readOf (a .rec .now) (a .line)) _ _ (ap lineReply (sym (c .before .q .given .1)) ∙ b .read-line .ensures)) (refl, refl)
+    rw (told-refused (readOf (a .rec .now) (a .line)) _ _ (ap lineReply (sym (c .before .before .q .given .1)) ∙ b .read-line .ensures)) (refused-is _ _ (c .refusal .ensures), refl)
 
 same-length : tie.Need-same-length
 same-length c = search needs
@@ -55,8 +52,7 @@ chains-read-spec =
     (tie.spec
     read-line-requires
     enum-known-q
-    cast-result
-    mul-result
+    refusal-requires
     enum-known-l
     returns
     put-fields-requires

@@ -16,11 +16,8 @@ enum-known-n c = search needs
 enum-known-q : tie.Need-enum-known-q
 enum-known-q c = search needs
 
-cast-result : tie.Need-cast-result
-cast-result c = search needs
-
-mul-result : tie.Need-mul-result
-mul-result c = search needs
+refusal-requires : tie.Need-refusal-requires
+refusal-requires c κs = search needs
 
 returns : tie.Need-returns
 returns c =
@@ -30,9 +27,9 @@ returns c =
 
 returns-2 : tie.Need-returns-2
 returns-2 c =
-    let b = c .before .before .before in
+    let b = c .before .before .before .before in
     let a = b .before .before .before .args in
-    refusal-number (wordsOf (a .rec .now) (a .pat .now)) _ _ (ap wordsReply (sym (c .before .q .given .1)) ∙ b .words-needed .ensures)
+    c .refusal .ensures ∙ refusal-number (wordsOf (a .rec .now) (a .pat .now)) _ _ (ap wordsReply (sym (c .before .before .q .given .1)) ∙ b .words-needed .ensures)
 
 pub chains-words-spec : {M : Type 1} → statement M
 chains-words-spec =
@@ -41,7 +38,6 @@ chains-words-spec =
     words-needed-requires
     enum-known-n
     enum-known-q
-    cast-result
-    mul-result
+    refusal-requires
     returns
     returns-2)

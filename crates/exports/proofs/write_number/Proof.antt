@@ -1,7 +1,6 @@
 -- `exports::write_number` meets its contract, case by case. Assumes nothing.
-use mathlib.Core.Path.{sym, ap, subst}
+use mathlib.Core.Path.{sym, ap, _∙_, subst}
 use Prim.Native.Nat.{_<_}
-use native.Mathlib.Omega.{arith}
 use Rattle.writing.specs.Promise.{writeReply}
 use Rattle.writing.specs.declared.WriteReply.{WriteReply}
 use Rattle.exports.specs.Promise.{numberOf}
@@ -20,22 +19,16 @@ enum-known-r c = search needs
 enum-known-r-2 : tie.Need-enum-known-r-2
 enum-known-r-2 c = search needs
 
-cast-result : tie.Need-cast-result
-cast-result c = search needs
-
-mul-result : tie.Need-mul-result
-mul-result c = search needs
-
-add-result : tie.Need-add-result
-add-result c = omega (arith, small c)
+refusal-requires : tie.Need-refusal-requires
+refusal-requires c κs = small c
 
 returns : tie.Need-returns
 returns c = search needs
 
 returns-2 : tie.Need-returns-2
-returns-2 c = sym (ap (λ (r : WriteReply). numberOf (writeReply r)) (c .before .r2 .given .1))
+returns-2 c = c .refusal .ensures ∙ sym (ap (λ (r : WriteReply). numberOf (writeReply r)) (c .before .before .r2 .given .1))
 
 pub write-number-spec : {M : Type 1} → statement M
 write-number-spec =
     tie.close
-    (tie.spec enum-known-r enum-known-r-2 cast-result mul-result add-result returns returns-2)
+    (tie.spec enum-known-r enum-known-r-2 refusal-requires returns returns-2)
