@@ -2,8 +2,8 @@
 use mathlib.Core.Path.{_≡_, refl, sym, ap, _∙_, subst}
 use mathlib.Core.Bool.{Bool, true, false}
 use mathlib.Core.List.{List}
-use Prim.Native.Nat.{ℕ, suc, _+_, _*_, _-_, _^_, _/_, _%_, _<_, _≤_}
-use native.Mathlib.Nat.{pow-zero, pow-suc, one-mul, pow-le-pow-right, lt-of-lt-of-le, mul-le-mul, mod-le, mod-lt, div-lt-iff-lt-mul, one-le-pow, le-mul-of-pos-right, mul-comm, mul-assoc, le-trans}
+use Prim.Native.Nat.{ℕ, _+_, _*_, _-_, _^_, _/_, _%_, _<_, _≤_}
+use native.Mathlib.Nat.{pow-zero, pow-suc, one-mul, pow-le-pow-right, lt-of-lt-of-le, mul-le-mul, mod-le, mod-lt, div-lt-iff-lt-mul, one-le-pow, le-mul-of-pos-right, mul-comm, mul-assoc}
 use native.Mathlib.Omega.{arith}
 use lib.Arith.{digits-lt}
 use lib.ListN.{length, getD, take}

@@ -1,6 +1,6 @@
 -- `forward::over_next` meets its contract, by what is left of its turns: those below the lowest position that is left do nothing, and none does
 -- anything once no position is left in the mask. The distances stand before the pair and stay. Assumes nothing.
-use mathlib.Core.Path.{_≡_, sym, subst}
+use mathlib.Core.Path.{sym, subst}
 use Prim.Native.Nat.{ℕ, _+_, _-_, _≤_}
 use native.Mathlib.Omega.{arith}
 use Rattle.request.specs.Layout.{Laid}

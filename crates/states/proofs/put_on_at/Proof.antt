@@ -1,5 +1,5 @@
 -- `states::put_on_at` meets its contract, with and without a push. Assumes nothing.
-use mathlib.Core.Path.{_≡_, sym, ap, _∙_}
+use mathlib.Core.Path.{sym, ap, _∙_}
 use Prim.Native.Nat.{_*_, _≤_}
 use native.Mathlib.Omega.{arith}
 use Rattle.positions.specs.Program.{depth-few}
