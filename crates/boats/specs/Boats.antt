@@ -133,7 +133,7 @@ first-le b (l ∷ ls) (suc k) h it = go (agree b (l .boat)) refl (first-le b ls 
     go false e ih = omega (arith, first-miss b l ls e, ih)
 
 -- the boat of line i is put at the end just if it is the first line with it
-boats-next : (lines : List Line) (i : ℕ) → i < length lines → boats (take (suc i) lines) ≡ cond (eqb (firstSame lines i) i) (boats (take i lines) ++ (lineAt lines i .boat ∷ [])) (boats (take i lines))
+pub boats-next : (lines : List Line) (i : ℕ) → i < length lines → boats (take (suc i) lines) ≡ cond (eqb (firstSame lines i) i) (boats (take i lines) ++ (lineAt lines i .boat ∷ [])) (boats (take i lines))
 unfolding boatsAfter
 boats-next lines i h =
     let l : Line = lineAt lines i in

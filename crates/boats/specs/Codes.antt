@@ -7,13 +7,11 @@ use mathlib.Core.List.{List, [], _∷_, _++_, map, append-assoc, append-nil, Lis
 use mathlib.Core.Logic.{_↔_, _⊎_, inl, inr, ⊎-elim}
 use Prim.Native.Nat.{ℕ, zero, suc, _<_}
 use native.Mathlib.Omega.{arith}
-use lib.Dec.{eqb}
 use lib.ListN.{length, getD, take, drop, length-map}
 use lib.Seq.{split-at, length-take-le, getD-take}
-use borrow.Author.Tests.{eq-eqb, ne-eqb}
 use Rattle.meaning.specs.Record.{Boat, Line, agree, among, boatsAfter, boats}
 use Rattle.meaning.specs.Writing.{noLine, lineAt}
-use Rattle.meaning.specs.Language.{Compared, same-boat, other-boat, compared}
+use Rattle.meaning.specs.Language.{Compared, compared}
 use Rattle.lists.specs.Listed.{_∈_, none-in}
 use Rattle.boats.specs.Boats.{agree-same, agree-self, noted, after-append, firstWith, firstSame}
 
@@ -29,20 +27,20 @@ unfoldable pub codes : List Line → List ℕ
 codes lines = let bs = boats lines in map (λ l. suc (indexIn bs (l .boat))) lines
 
 -- the boat of a number; 0 has none
-abbrev numbered : List Boat → ℕ → Boat
+abbrev pub numbered : List Boat → ℕ → Boat
 numbered bs zero = noLine .boat
 numbered bs (suc x) = getD bs x (noLine .boat)
 
--- what comparing two numbers tells: each boat has one number
-abbrev pub telling : ℕ → ℕ → Compared
-telling x y = cond (eqb x y) same-boat other-boat
+-- what comparing two numbers tells: what comparing their boats does
+abbrev pub telling : List Boat → ℕ → ℕ → Compared
+telling bs x y = compared (numbered bs x) (numbered bs y)
 
 -- ---- where a boat stands
 
-same-agree : {a b : Boat} → a ≡ b → agree a b ≡ true
+pub same-agree : {a b : Boat} → a ≡ b → agree a b ≡ true
 same-agree {a} e = subst (λ x. agree a x ≡ true) e (agree-self a)
 
-among-in : (b : Boat) (bs : List Boat) → (among b bs ≡ true) ↔ (b ∈ bs)
+pub among-in : (b : Boat) (bs : List Boat) → (among b bs ≡ true) ↔ (b ∈ bs)
 among-in b [] = (λ h. absurd (false≢true h), λ m. none-in m)
 among-in b (c ∷ bs) = go (agree b c) refl (among-in b bs)
   where
@@ -200,13 +198,5 @@ module _ (lines : List Line) where
                 first-none its lines j (omega arith) (q ∙ ap (λ n. n .boat) (getD-take i lines j noLine before))
 
   -- two numbers compare as the lines' boats do
-  pub code-compared : (i j : ℕ) → i < length lines → j < length lines → telling (code i) (code j) ≡ compared (lineAt lines i .boat) (lineAt lines j .boat)
-  code-compared i j hi hj = go (agree (lineAt lines i .boat) (lineAt lines j .boat)) refl
-    where
-      go : (t : Bool) → agree (lineAt lines i .boat) (lineAt lines j .boat) ≡ t → cond (eqb (code i) (code j)) same-boat other-boat ≡ cond t same-boat other-boat
-      go true e =
-          let one : code i ≡ code j = code-at i hi ∙ (ap (λ b. suc (indexIn (boats lines) b)) (agree-same _ _ e) ∙ sym (code-at j hj)) in
-          rw (eq-eqb (code i) (code j) one) refl
-      go false e =
-          let two : code i ≡ code j → ⊥ = λ c. false≢true (sym e ∙ same-agree (sym (numbered-code i hi) ∙ (ap (numbered (boats lines)) c ∙ numbered-code j hj))) in
-          rw (ne-eqb (code i) (code j) two) refl
+  pub code-compared : (i j : ℕ) → i < length lines → j < length lines → telling (boats lines) (code i) (code j) ≡ compared (lineAt lines i .boat) (lineAt lines j .boat)
+  code-compared i j hi hj = λ t. compared (numbered-code i hi t) (numbered-code j hj t)

@@ -1,3 +1,4 @@
 pub mod Boats
 pub mod Codes
+pub mod Table
 pub mod Buckets

@@ -13,7 +13,7 @@ ghost use Rattle.record.specs.Whole.{linesOf};
 const SAILS: u32 = 16777216;
 
 // The boat of line i as one number.
-fn boat_at(day: &[u8], i: usize) -> u32
+pub fn boat_at(day: &[u8], i: usize) -> u32
     requires { ⌜ i < length (linesOf (now day)) ⌝ }
     ensures { λ r. ⌜ BoatIs (lineAt (linesOf (now (day .entry))) i .boat) r ⌝ }
 {

@@ -15,6 +15,7 @@ use Rattle.sorted.specs.Runs.{sorted-same}
 use Rattle.sorted.specs.declared.Order.{Order}
 use Rattle.sorted.specs.declared.Order.the-variants as Order
 use Rattle.thinned.specs.Runs.{thin-same}
+use Rattle.search.specs.Loaded.{boatAt}
 use Rattle.ways.specs.Ways.{laneTurn, runTurn, Told, Runs}
 use Rattle.ways.specs.declared.Lane.{Lane}
 use Rattle.ways.proofs.Right.{turns-alike}
@@ -27,16 +28,16 @@ use Rattle.states.proofs.Bounds.{fit-same}
 
 -- ---- a stack undone, to u
 
-module _ (R : ℕ) (s : Spot) (d home x v : ℕ) (st : Search) (u : ℕ) (eu : u ≡ off s v) where
-  pub stack-taken : on s u x ≡ v → okay R s x u ≡ true → stackAt R s d home x v st ≡ push d (home + u) st
+module _ (B : ℕ → ℕ) (R : ℕ) (s : Spot) (d home x v : ℕ) (st : Search) (u : ℕ) (eu : u ≡ off s v) where
+  pub stack-taken : on s u x ≡ v → okay B R s x u ≡ true → stackAt B R s d home x v st ≡ push d (home + u) st
   unfolding stackAt
   stack-taken h k = rw (← eu, eq-eqb _ _ h, k)
 
-  pub stack-refused : on s u x ≡ v → okay R s x u ≡ false → stackAt R s d home x v st ≡ st
+  pub stack-refused : on s u x ≡ v → okay B R s x u ≡ false → stackAt B R s d home x v st ≡ st
   unfolding stackAt
   stack-refused h k = rw (← eu, eq-eqb _ _ h, k)
 
-  pub stack-other : (on s u x ≡ v → ⊥) → stackAt R s d home x v st ≡ st
+  pub stack-other : (on s u x ≡ v → ⊥) → stackAt B R s d home x v st ≡ st
   unfolding stackAt
   stack-other h = rw (← eu, ne-eqb _ _ h)
 
@@ -60,10 +61,10 @@ pub told-fit : {plan : Plan} {a : List ℕ} {w : List ℕ} → Fit plan a w → 
 told-fit f = record { codes-low = f .codes-low; starts = f .starts; ends = f .ends }
 
 -- a run that is right does what all lines do
-pub run-lines : {o : Order} {plan : Plan} {s : Spot} {t : Target} {c count k : ℕ} {lane : Lane} → Runs o plan s t c count k lane → {g : List ℕ} → Told plan g → (d : ℕ) (st : Search)
-    → turns (lineTurn plan g s t d c count) 0 (plan .lines) st ≡ turns (runTurn o plan g k (laneTurn d lane)) 0 (plan .lines) st
-run-lines {o} {plan} {s} {t} {c} {count} {k} {lane} r {g} told d st =
-    turns-alike (lineTurn plan g s t d c count) (runTurn o plan g k (laneTurn d lane)) 0 (plan .lines) (plan .lines) (omega arith) (λ i less b. r .same g told d i less b) st
+pub run-lines : {o : Order} {plan : Plan} {g : List ℕ} {s : Spot} {t : Target} {c count k : ℕ} {lane : Lane} → Runs o plan g s t c count k lane → (d : ℕ) (st : Search)
+    → turns (lineTurn plan g s t d c count) 0 (plan .lines) st ≡ turns (runTurn o plan g k (laneTurn (boatAt plan g) d lane)) 0 (plan .lines) st
+run-lines {o} {plan} {g} {s} {t} {c} {count} {k} {lane} r d st =
+    turns-alike (lineTurn plan g s t d c count) (runTurn o plan g k (laneTurn (boatAt plan g) d lane)) 0 (plan .lines) (plan .lines) (omega arith) (λ i less b. r .same d i less b) st
 
 -- in a loop of phase one both the loaded tables and the sorted lines stay
 pub backing-under : {plan : Plan} {a : List ℕ} {F : Search → Search} {t₀ : ℕ} {w₀ : List ℕ} {G : Search → Search} {t : ℕ} {w : List ℕ}
@@ -80,6 +81,6 @@ backing-under {plan} {w₀ = w₀} {w = w} u b =
             room = omega (arith, t .room, u .long);
             kinds = sorted-same Order.Kind plan (plan .bykind) w₀ w (t .kinds) f (behind (plan .bykind) (omega arith));
             boats = λ kept. sorted-same Order.Boat plan (plan .byboat) w₀ w (t .boats kept) f (behind (plan .byboat) (omega (arith, l .boats-at)));
-            thin = thin-same plan (plan .bykind) (plan .thin) w₀ w (t .kinds) (t .thin) (behind (plan .bykind) (omega arith)) (omega (arith, l .boats-at, l .thin-at));
+            thin = thin-same plan (plan .bykind) (plan .thin) w₀ w (t .kinds) (t .thin) (behind (plan .bykind) (omega arith)) f (omega (arith, l .boats-at, l .thin-at));
           };
     }

@@ -18,7 +18,7 @@ use Rattle.graph.specs.Loops.{turns, turns-within}
 use Rattle.graph.specs.Table.{Search, push}
 use Rattle.search.specs.Product.{Setting, stacks, state, placeOf, posOf, stackOf, popped, undoes}
 use Rattle.search.specs.Front.{stateIn, lines-many, line-at}
-use Rattle.search.specs.Loaded.{codeAt, wordAt, settingIn}
+use Rattle.search.specs.Loaded.{boatAt, codeAt, wordAt, settingIn}
 use Rattle.search.specs.Moves.{overStacks, overLines, expand}
 use Rattle.states.specs.Spots.{spotIn, off, offBy, on, onBy, okay, stackAt, stackTurn, lineTurn, targetIn, spotTurn}
 use Rattle.states.specs.declared.Spot.{Spot}
@@ -36,7 +36,7 @@ module _ (a : List ℕ) (plan : Plan) (g : List ℕ) where
   module _ (big : plan .stacks ≡ plan .radix ^ plan .keeps) where
     undone-is : (c i v : ℕ)
         → undoes S (S .node c) i v
-        ≡ (eqb (on (spot c) (off (spot c) v) (codeAt plan g i)) v && okay (plan .radix) (spot c) (codeAt plan g i) (off (spot c) v))
+        ≡ (eqb (on (spot c) (off (spot c) v) (codeAt plan g i)) v && okay (boatAt plan g) (plan .radix) (spot c) (codeAt plan g i) (off (spot c) v))
     unfolding settingIn nodeIn spotIn off on
     undone-is c i v =
         let R = plan .radix in
@@ -62,7 +62,7 @@ module _ (a : List ℕ) (plan : Plan) (g : List ℕ) where
     stacks-are : (d c i e w : ℕ) (st : Search) → i < plan .lines
         → overStacks S d c i e w st
         ≡ turns
-        (stackTurn (plan .radix) (spot c) d (stateIn plan (fromIn (wordAt plan g i)) c 0) (codeAt plan g i) (plan .radix ^ e) w)
+        (stackTurn (boatAt plan g) (plan .radix) (spot c) d (stateIn plan (fromIn (wordAt plan g i)) c 0) (codeAt plan g i) (plan .radix ^ e) w)
         0
         (plan .radix ^ (leaves (nodeIn a c) - e))
         st
@@ -72,7 +72,7 @@ module _ (a : List ℕ) (plan : Plan) (g : List ℕ) where
         n = plan .radix ^ (leaves (nodeIn a c) - e)
 
         turn′ : ℕ → Search → Search
-        turn′ = stackTurn (plan .radix) (spot c) d (stateIn plan (fromIn (wordAt plan g i)) c 0) (codeAt plan g i) (plan .radix ^ e) w
+        turn′ = stackTurn (boatAt plan g) (plan .radix) (spot c) d (stateIn plan (fromIn (wordAt plan g i)) c 0) (codeAt plan g i) (plan .radix ^ e) w
 
         same-turn : (x : ℕ) → x < n → (b : Search)
             → cond (undoes S (S .node c) i (x * plan .radix ^ e + w)) (push d (state S (lineAt (S .lines) i .from) c (popped S (S .node c) (x * plan .radix ^ e + w))) b) b

@@ -1,17 +1,17 @@
 -- Stacks whose entry at one level is given, gone over without the others: the loop over all stacks is two loops, over the entries above
 -- that level and over those below it (`turns-entry`); and where the entry is one below the weight it is the same for all (`entry-same`).
 use mathlib.Core.Path.{_≡_, refl, sym, ap, _∙_}
-use mathlib.Core.Bool.{Bool, true, false, cond}
+use mathlib.Core.Bool.{Bool, true, false, cond, _&&_}
 use Prim.Native.Nat.{ℕ, zero, suc, _+_, _*_, _/_, _%_, _<_, _≤_}
 use native.Mathlib.Nat.{zero-mul, suc-mul, add-mul, mul-assoc, mul-comm, mul-one, mul-le-mul, div-add-mod', div-div-eq-div-mul, mul-add-div-right, mul-add-mod-self-right, add-zero}
 use native.Mathlib.Omega.{arith}
 use lib.Arith.{digits-lt, digits-div, digits-mod}
 use lib.Dec.{eqb}
-use borrow.Author.Tests.{ne-eqb}
+use borrow.Author.Tests.{eq-eqb, ne-eqb}
 use Rattle.request.specs.declared.Plan.{Plan}
 use Rattle.graph.specs.Loops.{turns, turns-idle}
 use Rattle.graph.specs.Table.{Search, push}
-use Rattle.states.specs.Spots.{stackTurn}
+use Rattle.states.specs.Spots.{readBy, stackTurn}
 use Rattle.ways.proofs.Right.{at-x, turns-one, turns-alike, tested-stands}
 use Rattle.expanding.specs.Stepping.{entryState, entriesTurn, Entries, WantsSame, EntryBelow, EntryAmong}
 use Rattle.expanding.specs.Undoing.{undone, InStates}
@@ -104,7 +104,7 @@ le-product a b h = let m : a * 1 ≤ a * b = mul-le-mul {n₁ = a} {m₁ = 1} (o
 
 -- ---- the stacks of a position that takes only the boat at its level
 
-module _ (plan : Plan) (u : Undo) (home x : ℕ) (wants : WantsSame u) where
+module _ (B : ℕ → ℕ) (plan : Plan) (u : Undo) (home x : ℕ) (wants : WantsSame u) where
   abbrev R : ℕ
   R = plan .radix
 
@@ -119,41 +119,51 @@ module _ (plan : Plan) (u : Undo) (home x : ℕ) (wants : WantsSame u) where
 
   -- what one stack does
   abbrev turn : ℕ → Search → Search
-  turn = stackTurn R (u .spot) (u .d) home x W w
+  turn = stackTurn B R (u .spot) (u .d) home x W w
 
   abbrev goes : ℕ → Search → Search
   goes n = push (u .d) (home + (n * W + w))
 
-  turn-is : (n : ℕ) (b : Search) → turn n b ≡ cond (eqb x ((n * W + w) / level % R)) (goes n b) b
-  turn-is n b = tested-stands R (u .spot) (u .d) home x W w b n b (wants .plain) ∙ ap (λ z. cond z (goes n b) b) (wants .only .kept R x (n * W + w))
+  turn-is : (n : ℕ) (b : Search) → turn n b ≡ cond (readBy B x && eqb x ((n * W + w) / level % R)) (goes n b) b
+  turn-is n b = tested-stands B R (u .spot) (u .d) home x W w b n b (wants .plain) ∙ ap (λ z. cond z (goes n b) b) (wants .only .kept B R x (n * W + w))
 
-  pub same-none : 0 < level → EntryBelow R level W → (x ≡ w / level % R → ⊥) → (st : Search) → undone plan u home x st ≡ st
-  same-none some is other st = turns-idle turn 0 (u .count) st (λ n l h. idle n)
-    where
-      idle : (n : ℕ) → turn n st ≡ st
-      idle n =
-          let there : (n * W + w) / level % R ≡ w / level % R = ap (λ z. (n * z + w) / level % R) is ∙ entry-same R level (W / level / R) n w some in
-          turn-is n st ∙ ap (λ z. cond z (goes n st) st) (ne-eqb x ((n * W + w) / level % R) (λ e. other (e ∙ there)))
+  -- an unread boat is taken by none
+  pub same-unread : B x ≡ 0 → (st : Search) → undone plan u B home x st ≡ st
+  same-unread none st = turns-idle turn 0 (u .count) st (λ n l h. turn-is n st ∙ rw (eq-eqb (B x) 0 none))
 
-  pub same-entries : EntryAmong R level W (u .count) x → (st : Search) → undone plan u home x st ≡ turns (entriesTurn plan u home x (level / W)) 0 (u .count / (level / W) / R) st
-  unfolding entriesTurn
-  same-entries among st =
-      let q = level / W in
-      let n = u .count / q / R in
-      turns-alike turn (body R q x (among .some) (among .boat) goes) 0 (u .count) (u .count) (omega arith) (λ k less b. entry k b) st
-      ∙ (ap (λ k. turns (body R q x (among .some) (among .boat) goes) 0 k st) (among .count-is)
-      ∙ (turns-entry R q x (among .some) (among .boat) goes n st
-      ∙ turns-alike (λ h. turns (λ l. goes ((h * R + x) * q + l)) 0 q) (λ h. turns (λ l. push (u .d) (entryState plan u home x q h l)) 0 q) 0 n n (omega arith)
-      (λ h less b. turns-alike (λ l. goes ((h * R + x) * q + l)) (λ l. push (u .d) (entryState plan u home x q h l)) 0 q q (omega arith) (λ l lq c. ap (λ z. push (u .d) z c) (sum h l)) b) st))
-    where
-      entry : (k : ℕ) (b : Search) → turn k b ≡ cond (eqb x (k / (level / W) % R)) (goes k b) b
-      entry k b =
-          let q = level / W in
-          let there : (k * W + w) / level ≡ k / q = ap ((k * W + w) /_) (among .level-is ∙ mul-comm q W) ∙ (sym (div-div-eq-div-mul (k * W + w) W q) ∙ ap (_/ q) (digits-div k (wants .low))) in
-          turn-is k b ∙ ap (λ z. cond (eqb x (z % R)) (goes k b) b) there
+  -- ---- of a read boat
 
-      sum : (h l : ℕ) → home + (((h * R + x) * (level / W) + l) * W + w) ≡ entryState plan u home x (level / W) h l
-      sum h l = omega (arith, add-mul ((h * R + x) * (level / W)) l W)
+  module _ (read : B x ≡ 0 → ⊥) where
+    read-is : (n : ℕ) (b : Search) → turn n b ≡ cond (eqb x ((n * W + w) / level % R)) (goes n b) b
+    read-is n b = turn-is n b ∙ rw (ne-eqb (B x) 0 read)
+
+    pub same-none : 0 < level → EntryBelow R level W → (x ≡ w / level % R → ⊥) → (st : Search) → undone plan u B home x st ≡ st
+    same-none some is other st = turns-idle turn 0 (u .count) st (λ n l h. idle n)
+      where
+        idle : (n : ℕ) → turn n st ≡ st
+        idle n =
+            let there : (n * W + w) / level % R ≡ w / level % R = ap (λ z. (n * z + w) / level % R) is ∙ entry-same R level (W / level / R) n w some in
+            read-is n st ∙ ap (λ z. cond z (goes n st) st) (ne-eqb x ((n * W + w) / level % R) (λ e. other (e ∙ there)))
+
+    pub same-entries : EntryAmong R level W (u .count) x → (st : Search) → undone plan u B home x st ≡ turns (entriesTurn plan u home x (level / W)) 0 (u .count / (level / W) / R) st
+    unfolding entriesTurn
+    same-entries among st =
+        let q = level / W in
+        let n = u .count / q / R in
+        turns-alike turn (body R q x (among .some) (among .boat) goes) 0 (u .count) (u .count) (omega arith) (λ k less b. entry k b) st
+        ∙ (ap (λ k. turns (body R q x (among .some) (among .boat) goes) 0 k st) (among .count-is)
+        ∙ (turns-entry R q x (among .some) (among .boat) goes n st
+        ∙ turns-alike (λ h. turns (λ l. goes ((h * R + x) * q + l)) 0 q) (λ h. turns (λ l. push (u .d) (entryState plan u home x q h l)) 0 q) 0 n n (omega arith)
+        (λ h less b. turns-alike (λ l. goes ((h * R + x) * q + l)) (λ l. push (u .d) (entryState plan u home x q h l)) 0 q q (omega arith) (λ l lq c. ap (λ z. push (u .d) z c) (sum h l)) b) st))
+      where
+        entry : (k : ℕ) (b : Search) → turn k b ≡ cond (eqb x (k / (level / W) % R)) (goes k b) b
+        entry k b =
+            let q = level / W in
+            let there : (k * W + w) / level ≡ k / q = ap ((k * W + w) /_) (among .level-is ∙ mul-comm q W) ∙ (sym (div-div-eq-div-mul (k * W + w) W q) ∙ ap (_/ q) (digits-div k (wants .low))) in
+            read-is k b ∙ ap (λ z. cond (eqb x (z % R)) (goes k b) b) there
+
+        sum : (h l : ℕ) → home + (((h * R + x) * (level / W) + l) * W + w) ≡ entryState plan u home x (level / W) h l
+        sum h l = omega (arith, add-mul ((h * R + x) * (level / W)) l W)
 
 -- each of them is one of the states
 pub entries-low : (plan : Plan) (u : Undo) (home x : ℕ) → EntryAmong (plan .radix) (u .spot .level) (u .weight) (u .count) x → InStates plan u home

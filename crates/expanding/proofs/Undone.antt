@@ -10,7 +10,7 @@ use Rattle.request.specs.Layout.{largest, Laid, fromIn, toIn, kindIn}
 use Rattle.sorted.specs.Sorting.{packBy}
 use Rattle.request.specs.declared.Plan.{Plan}
 use Rattle.search.specs.Front.{stateIn}
-use Rattle.search.specs.Loaded.{codeAt, wordAt}
+use Rattle.search.specs.Loaded.{boatAt, codeAt, wordAt}
 use Rattle.graph.specs.Loops.{turns, turns-same}
 use Rattle.graph.specs.Table.{Search}
 use Rattle.area.specs.Area.{Under}
@@ -49,15 +49,15 @@ module _ (plan : Plan) (u : Undo) (g : List ℕ) (place c i : ℕ) (st : Search)
     unfolding lineUndone
     line-other-kind k = rw (← er, ← ex, eq-eqb _ _ h, ne-eqb _ _ k)
 
-    pub line-taken : x ≡ u .spot .kind → (q : ℕ) → q ≡ fromIn (wordAt plan g i) → (b home : ℕ) → b ≡ codeAt plan g i → home ≡ stateIn plan q c 0 → lineUndone plan u g place c i st ≡ undone plan u home b st
+    pub line-taken : x ≡ u .spot .kind → (q : ℕ) → q ≡ fromIn (wordAt plan g i) → (b home : ℕ) → b ≡ codeAt plan g i → home ≡ stateIn plan q c 0 → lineUndone plan u g place c i st ≡ undone plan u (boatAt plan g) home b st
     unfolding lineUndone
     line-taken k q eq b home eb eh = rw (← eb, ← er, ← ex, ← eq, ← eh, eq-eqb _ _ h, eq-eqb _ _ k)
 
 -- ---- a word of the sorted lines, read as r
 
-pub word-is : (plan : Plan) (u : Undo) (c e : ℕ) (st : Search) (r : ℕ) → r ≡ e → (home : ℕ) → home ≡ stateIn plan (r / packBy) c 0 → wordUndone plan u c e st ≡ undone plan u home (r % packBy) st
+pub word-is : (plan : Plan) (u : Undo) (B : ℕ → ℕ) (c e : ℕ) (st : Search) (r : ℕ) → r ≡ e → (home : ℕ) → home ≡ stateIn plan (r / packBy) c 0 → wordUndone plan u B c e st ≡ undone plan u B home (r % packBy) st
 unfolding wordUndone
-word-is plan u c e st r er home eh = rw (eh, er)
+word-is plan u B c e st r er home eh = rw (eh, er)
 
 -- ---- a target and a position
 
@@ -68,11 +68,11 @@ module _ (plan : Plan) (s : Spot) (t : Target) (d c leaves : ℕ) (st : Search) 
       one : (i : ℕ) (b : Search) → lineTurn plan g s t d c (plan .radix ^ (leaves - t .depth)) i b ≡ lineUndone plan (undoOf plan s t d leaves) g (t .place) c i b
       one i b = unfold lineTurn lineUndone in refl
 
-  pub by-word : (w : List ℕ) (lo n : ℕ)
-      → turns (λ p. stackedTurn plan s t d c (plan .radix ^ (leaves - t .depth)) (getD w p 0)) lo n st ≡ turns (λ p. wordUndone plan (undoOf plan s t d leaves) c (getD w p 0)) lo n st
-  by-word w lo n = turns-same (λ p. stackedTurn plan s t d c (plan .radix ^ (leaves - t .depth)) (getD w p 0)) (λ p. wordUndone plan (undoOf plan s t d leaves) c (getD w p 0)) (λ p b. one (getD w p 0) b) lo n st
+  pub by-word : (B : ℕ → ℕ) (w : List ℕ) (lo n : ℕ)
+      → turns (λ p. stackedTurn plan s t B d c (plan .radix ^ (leaves - t .depth)) (getD w p 0)) lo n st ≡ turns (λ p. wordUndone plan (undoOf plan s t d leaves) B c (getD w p 0)) lo n st
+  by-word B w lo n = turns-same (λ p. stackedTurn plan s t B d c (plan .radix ^ (leaves - t .depth)) (getD w p 0)) (λ p. wordUndone plan (undoOf plan s t d leaves) B c (getD w p 0)) (λ p b. one (getD w p 0) b) lo n st
     where
-      one : (e : ℕ) (b : Search) → stackedTurn plan s t d c (plan .radix ^ (leaves - t .depth)) e b ≡ wordUndone plan (undoOf plan s t d leaves) c e b
+      one : (e : ℕ) (b : Search) → stackedTurn plan s t B d c (plan .radix ^ (leaves - t .depth)) e b ≡ wordUndone plan (undoOf plan s t d leaves) B c e b
       one e b = unfold stackedTurn wordUndone in refl
 
 -- the stacks of a target and a position: what going over them goes by

@@ -8,7 +8,7 @@ use lib.ListN.{length}
 use Rattle.request.specs.Layout.{Laid, fromIn, toIn, kindIn}
 use Rattle.request.specs.declared.Plan.{Plan}
 use Rattle.search.specs.Front.{stateIn}
-use Rattle.search.specs.Loaded.{codeAt, wordAt}
+use Rattle.search.specs.Loaded.{boatAt, codeAt, wordAt}
 use Rattle.graph.specs.Loops.{turns}
 use Rattle.graph.specs.Table.{Search}
 use Rattle.sorted.specs.Sorting.{packBy}
@@ -29,20 +29,20 @@ undoOf plan s t d leaves = record { spot = s; weight = t .weight; stack = t .sta
 module _ (plan : Plan) (u : Undo) where
   -- ---- what is done
 
-  -- by a line with the boat number x; `home` is the state with the empty stack at its start
-  abbrev pub undone : ℕ → ℕ → Search → Search
-  undone home x = turns (stackTurn (plan .radix) (u .spot) (u .d) home x (u .weight) (u .stack)) 0 (u .count)
+  -- by the boats' table B, by a line with the boat number x; `home` is the state with the empty stack at its start
+  abbrev pub undone : (ℕ → ℕ) → ℕ → ℕ → Search → Search
+  undone B home x = turns (stackTurn B (plan .radix) (u .spot) (u .d) home x (u .weight) (u .stack)) 0 (u .count)
 
   -- by line i, if it leads to the place and is of the position's kind, back to the position c
   unfoldable pub lineUndone : List ℕ → ℕ → ℕ → ℕ → Search → Search
   lineUndone g place c i st =
       cond (eqb (toIn (wordAt plan g i)) place && eqb (kindIn (wordAt plan g i)) (u .spot .kind))
-      (undone (stateIn plan (fromIn (wordAt plan g i)) c 0) (codeAt plan g i) st)
+      (undone (boatAt plan g) (stateIn plan (fromIn (wordAt plan g i)) c 0) (codeAt plan g i) st)
       st
 
   -- by the word e of the sorted lines, back to the position c
-  unfoldable pub wordUndone : ℕ → ℕ → Search → Search
-  wordUndone c e = undone (stateIn plan (e / packBy) c 0) (e % packBy)
+  unfoldable pub wordUndone : (ℕ → ℕ) → ℕ → ℕ → Search → Search
+  wordUndone B c e = undone B (stateIn plan (e / packBy) c 0) (e % packBy)
 
   -- ---- what it goes by
 

@@ -19,7 +19,7 @@ ghost use Rattle.ways.specs.Stacked.{Words};
 ghost use Rattle.expanding.specs.Backing.{Backing};
 ghost use Rattle.expanding.specs.Stepping.{Steps, Entries, entriesTurn, WantsSame, EntryBelow, EntryAmong};
 ghost use Rattle.expanding.specs.Undoing.{undone, lineUndone, wordUndone, linesBack, undoOf, Undoing, InStates, LeadsTo};
-ghost use Rattle.states.specs.Spots.{front, Sane, stackAt, Aimed, Starts, spotTurn};
+ghost use Rattle.states.specs.Spots.{front, boatsIn, Sane, stackAt, Aimed, Starts, spotTurn};
 use request::Plan;
 use sorted::Order;
 use sorted::PACK;
@@ -45,11 +45,11 @@ fn one_stack(
     requires { ⌜ Laid plan (length (now work)) ⌝ }
     requires { ⌜ Sane spot ⌝ }
     requires { ⌜ (0 < d) × (d ≤ suc tail) × (home + v < plan .size) ⌝ }
-    ensures { λ r. ⌜ StepBack plan (stackAt (plan .radix) spot d home code v) tail (now (work .entry)) r (now (work .exit)) ⌝ }
+    ensures { λ r. ⌜ StepBack plan (stackAt (boatsIn plan (now (work .entry))) (plan .radix) spot d home code v) tail (now (work .entry)) r (now (work .exit)) ⌝ }
 {
     let u = states::take_off(spot, v);
     if states::put_on(spot, u, code) == v {
-        if states::passes(plan.radix, spot, code, u) {
+        if states::passes(work, plan, spot, code, u) {
             return area::push_if_new(work, plan.base, plan.size, d, home + u, tail);
         }
     }
@@ -69,7 +69,7 @@ pub struct Undo {
 fn over_each(work: &mut [u32], plan: Plan, undo: Undo, home: usize, code: u32, tail: usize) -> usize
     requires { ⌜ Undoing plan undo tail (now work) ⌝ }
     requires { ⌜ InStates plan undo home ⌝ }
-    ensures { λ r. ⌜ StepBack plan (undone plan undo home code) tail (now (work .entry)) r (now (work .exit)) ⌝ }
+    ensures { λ r. ⌜ StepBack plan (undone plan undo (boatsIn plan (now (work .entry))) home code) tail (now (work .entry)) r (now (work .exit)) ⌝ }
 {
     let spot = undo.spot;
     let count = undo.count;
@@ -165,13 +165,13 @@ fn entry_among(radix: usize, level: usize, weight: usize, count: usize, code: u3
     (code as usize) < radix
 }
 
-// Each stack, of a position that takes only the boat at its level and does not push. The entry at that level is one of the state's, the
-// same for all of them, or one of those that are gone over, of which the line's boat is taken alone.
+// Each stack, of a position that takes only the boat at its level and does not push, for a line whose boat is read. The entry at that level
+// is one of the state's, the same for all of them, or one of those that are gone over, of which the line's boat is taken alone.
 fn over_same(work: &mut [u32], plan: Plan, undo: Undo, home: usize, code: u32, tail: usize) -> usize
     requires { ⌜ Undoing plan undo tail (now work) ⌝ }
     requires { ⌜ InStates plan undo home ⌝ }
-    requires { ⌜ WantsSame undo ⌝ }
-    ensures { λ r. ⌜ StepBack plan (undone plan undo home code) tail (now (work .entry)) r (now (work .exit)) ⌝ }
+    requires { ⌜ WantsSame undo × (boatsIn plan (now work) code ≡ 0 → ⊥) ⌝ }
+    ensures { λ r. ⌜ StepBack plan (undone plan undo (boatsIn plan (now (work .entry))) home code) tail (now (work .entry)) r (now (work .exit)) ⌝ }
 {
     let spot = undo.spot;
     if entry_below(plan.radix, spot.level, undo.weight) {
@@ -213,9 +213,12 @@ fn over_stacks(
 ) -> usize
     requires { ⌜ Undoing plan undo tail (now work) ⌝ }
     requires { ⌜ InStates plan undo home ⌝ }
-    ensures { λ r. ⌜ StepBack plan (undone plan undo home code) tail (now (work .entry)) r (now (work .exit)) ⌝ }
+    ensures { λ r. ⌜ StepBack plan (undone plan undo (boatsIn plan (now (work .entry))) home code) tail (now (work .entry)) r (now (work .exit)) ⌝ }
 {
     if wants_same(undo) {
+        if states::boat_of(work, plan, code as usize) == 0 {
+            return tail;
+        }
         return over_same(work, plan, undo, home, code, tail);
     }
     over_each(work, plan, undo, home, code, tail)
@@ -327,7 +330,7 @@ fn one_stacked(work: &mut [u32], plan: Plan, undo: Undo, c: usize, p: usize, tai
     requires { ⌜ Undoing plan undo tail (now work) ⌝ }
     requires { ⌜ (p < length (now work)) × (getD (now work) p 0 / packBy < plan .places) ⌝ }
     requires { ⌜ LeadsTo plan undo c ⌝ }
-    ensures { λ r. ⌜ StepBack plan (wordUndone plan undo c (getD (now (work .entry)) p 0)) tail (now (work .entry)) r (now (work .exit)) ⌝ }
+    ensures { λ r. ⌜ StepBack plan (wordUndone plan undo (boatsIn plan (now (work .entry))) c (getD (now (work .entry)) p 0)) tail (now (work .entry)) r (now (work .exit)) ⌝ }
 {
     let e = area::word(work, p);
     let home = states::state_at(plan, (e / PACK) as usize, c, 0);
@@ -347,7 +350,7 @@ fn over_stacked(
     requires { ⌜ Undoing plan undo tail (now work) ⌝ }
     requires { ⌜ Words plan (now work) lo hi ⌝ }
     requires { ⌜ LeadsTo plan undo c ⌝ }
-    ensures { λ r. ⌜ StepBack plan (turns (λ p. wordUndone plan undo c (getD (now (work .entry)) p 0)) lo (hi - lo)) tail (now (work .entry)) r (now (work .exit)) ⌝ }
+    ensures { λ r. ⌜ StepBack plan (turns (λ p. wordUndone plan undo (boatsIn plan (now (work .entry))) c (getD (now (work .entry)) p 0)) lo (hi - lo)) tail (now (work .entry)) r (now (work .exit)) ⌝ }
 {
     let mut t = tail;
     for p in lo..hi {
@@ -385,7 +388,7 @@ fn over_kind(work: &mut [u32], plan: Plan, k: usize, lane: Lane, d: u32, tail: u
     requires { ⌜ Laid plan (length (now work)) × Filed plan (now work) × (k < keys Orders.Kind plan) ⌝ }
     requires { ⌜ Narrow lane × Gives Orders.Kind plan (front plan (now work)) k lane ⌝ }
     requires { ⌜ (0 < d) × (d ≤ suc tail) ⌝ }
-    ensures { λ r. ⌜ StepBack plan (turns (runTurn Orders.Kind plan (front plan (now (work .entry))) k (laneTurn d lane)) 0 (plan .lines)) tail (now (work .entry)) r (now (work .exit)) ⌝ }
+    ensures { λ r. ⌜ StepBack plan (turns (runTurn Orders.Kind plan (front plan (now (work .entry))) k (laneTurn (boatsIn plan (now (work .entry))) d lane)) 0 (plan .lines)) tail (now (work .entry)) r (now (work .exit)) ⌝ }
 {
     if ways::thin_lane(lane) {
         return ways::over_thin(work, plan, k, lane, d, tail);
@@ -411,10 +414,11 @@ fn over_way(
     requires { ⌜ Filed plan (now work) ⌝ }
     ensures { λ r. ⌜ StepBack plan (linesBack plan (front plan (now (work .entry))) spot target d c leaves) tail (now (work .entry)) r (now (work .exit)) ⌝ }
 {
-    match ways::way_of(plan, spot, target, leaves, c) {
+    match ways::way_of(work, plan, spot, target, leaves, c) {
         Way::ByBoat(k, lane) => ways::over_run(work, plan, Order::Boat, k, lane, d, tail),
         Way::ByKind(k, lane) => over_kind(work, plan, k, lane, d, tail),
         Way::ByStack => by_sorted(work, plan, spot, target, d, c, leaves, tail),
+        Way::Nowhere => tail,
     }
 }
 

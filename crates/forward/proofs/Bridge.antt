@@ -16,7 +16,7 @@ use Rattle.graph.specs.Loops.{turns, turns-within}
 use Rattle.graph.specs.Table.{Search}
 use Rattle.search.specs.Product.{Setting, stacks, state, placeOf, posOf, stackOf, cut, pushed}
 use Rattle.search.specs.Front.{line-at}
-use Rattle.search.specs.Loaded.{codeAt, wordAt, settingIn}
+use Rattle.search.specs.Loaded.{boatAt, codeAt, wordAt, settingIn}
 use Rattle.search.specs.Moves.{overNext, onward}
 use Rattle.states.specs.Spots.{spotIn, on, okay, nextTurn}
 use Rattle.states.specs.declared.Spot.{Spot}
@@ -86,7 +86,7 @@ module _ (a : List ℕ) (plan : Plan) (g : List ℕ) where
 
       from-is : onward S see i s st
           ≡ cond
-          (here && (eqb (kindIn (wordAt plan g i)) (spot (pos s) .kind) && okay (plan .radix) (spot (pos s)) (codeAt plan g i) (s % plan .stacks)))
+          (here && (eqb (kindIn (wordAt plan g i)) (spot (pos s) .kind) && okay (boatAt plan g) (plan .radix) (spot (pos s)) (codeAt plan g i) (s % plan .stacks)))
           (overNext S see i s st)
           st
       unfolding onward settingIn nodeIn placeOf posOf stackOf stacks spotIn
@@ -115,10 +115,10 @@ module _ (a : List ℕ) (plan : Plan) (g : List ℕ) where
           k : kindIn (wordAt plan g i) ≡ sp .kind
           k = sym ex ∙ (own ∙ (sym (kind-is c) ∙ ap (λ (z : Spot). z .kind) (sym es)))
 
-          pub from-refused : okay (plan .radix) sp b v ≡ false → onward S see i s st ≡ st
+          pub from-refused : okay (boatAt plan g) (plan .radix) sp b v ≡ false → onward S see i s st ≡ st
           from-refused o = from-is ∙ rw (← is, ← eb, ← ev, f, eq-eqb _ _ k, o)
 
-          pub from-taken : okay (plan .radix) sp b v ≡ true
+          pub from-taken : okay (boatAt plan g) (plan .radix) sp b v ≡ true
               → (u : ℕ) → u ≡ on sp v b → (mask : ℕ) → mask ≡ followAt a c → (r : ℕ) → r ≡ toIn (wordAt plan g i)
               → onward S see i s st ≡ turns (nextTurn plan a mask see r u) 0 (plan .done + 1) st
           from-taken o u eu mask em r er =

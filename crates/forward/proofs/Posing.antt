@@ -1,12 +1,12 @@
--- A request posed is one to search by: `posed-from` (the area after loading is posed), `posed-fit` (its tables fit), `posed-tables` (they
--- are those of its record).
-use mathlib.Core.Path.{_≡_, sym, ap, _∙_, subst}
+-- A request posed is one to search by: `told-radix` (what loading asks of the plan), `posed-from` (the area after loading is posed),
+-- `posed-fit` (its tables fit), `posed-tables` (they are those of its record).
+use mathlib.Core.Path.{_≡_, refl, sym, ap, _∙_, subst}
 use mathlib.Core.List.{List, _++_, map, append-assoc}
-use Prim.Native.Nat.{ℕ, _+_, _<_, _≤_}
+use Prim.Native.Nat.{ℕ, zero, suc, _+_, _<_, _≤_}
 use native.Mathlib.Omega.{arith}
 use lib.ListN.{length, getD, take, drop, length-append, length-take, length-drop, length-map}
 use lib.Seq.{take-at, drop-at, take-take}
-use Rattle.meaning.specs.Record.{Line}
+use Rattle.meaning.specs.Record.{Line, boats}
 use Rattle.meaning.specs.Writing.{lineAt}
 use Rattle.meaning.specs.Pattern.{Pattern, commands}
 use Rattle.meaning.specs.Request.{Asked, askRequest}
@@ -15,8 +15,10 @@ use Rattle.record.specs.Whole.{linesIn, linesOf}
 use Rattle.positions.specs.Program.{rowAt, Compiled}
 use Rattle.compiler.specs.Compiling.{Small}
 use Rattle.positions.specs.Limits.{compiled-depth}
+use Rattle.boats.specs.Boats.{asNumber}
 use Rattle.boats.specs.Codes.{codes, code-low, codes-length}
-use Rattle.request.specs.Layout.{Laid, Planned, lineWord, fromIn, toIn, loadedOf}
+use Rattle.boats.specs.Table.{boatTable}
+use Rattle.request.specs.Layout.{Laid, Planned, boatWords, lineWord, fromIn, toIn, boatsLoaded, loadedOf}
 use Rattle.request.specs.Told.{Parts, Told}
 use Rattle.request.specs.declared.Plan.{Plan}
 use Rattle.search.specs.Loaded.{codeAt, wordAt, settingIn}
@@ -26,31 +28,44 @@ use Rattle.search.specs.ReadBack.{loaded-same}
 use Rattle.states.specs.Spots.{front, Fit}
 use Rattle.forward.specs.Posed.{Posed}
 
--- the tables fill the words from `codes` up to `base`
-tables-long : {q : Asked} {plan : Plan} {area : ℕ} → Planned q plan → Laid plan area → plan .codes + length (loadedOf (q .day .lines)) ≡ plan .base
+-- the tables fill the words from `boats` up to `base`
+tables-long : {q : Asked} {plan : Plan} {area : ℕ} → Planned q plan → Laid plan area → plan .boats + length (loadedOf (plan .keeps) (q .day .lines)) ≡ plan .base
 tables-long {q} {plan} p l =
     let lines = q .day .lines in
     omega (
       arith,
+      length-append (boatsLoaded (plan .keeps) lines) (codes lines ++ map lineWord lines),
       length-append (codes lines) (map lineWord lines),
+      boats-long (plan .keeps),
       codes-length lines,
       length-map lines lineWord,
       p .lines-are,
+      l .codes-at,
       l .words-at,
       l .base-at,
     )
+  where
+    -- the boats fill theirs
+    boats-long : (k : ℕ) → length (boatsLoaded k (q .day .lines)) ≡ boatWords k (plan .radix)
+    boats-long zero = refl
+    boats-long (suc k) = unfold boatTable in ap suc (length-map (boats (q .day .lines)) asNumber) ∙ sym (p .radix-is)
+
+-- the plan has a number for each boat of the record, and one more: what loading asks of it
+pub told-radix : {rec pat : List ℕ} {from to area : ℕ} {plan : Plan} (t : Told (askRequest rec pat from to area) area plan) → Parts rec pat from to (t .asked)
+    → plan .radix ≡ suc (length (boats (linesOf rec)))
+told-radix t p = t .planned .radix-is ∙ sym (ap (λ ls. suc (length (boats ls))) (ap linesIn (p .day-read)))
 
 -- the area after loading, by the plan of a request that passed; `old` is what it was before
 pub posed-from : {rec pat : List ℕ} {from to : ℕ} {plan : Plan} (old : List ℕ) (t : Told (askRequest rec pat from to (length old)) (length old) plan) → Parts rec pat from to (t .asked)
-    → ((i : ℕ) → getD rec i 0 < 256) → (w : List ℕ) → w ≡ take (plan .boats) old ++ (loadedOf (linesOf rec) ++ drop (plan .base) old)
+    → ((i : ℕ) → getD rec i 0 < 256) → (w : List ℕ) → w ≡ take (plan .boats) old ++ (loadedOf (plan .keeps) (linesOf rec) ++ drop (plan .base) old)
     → Posed (t .asked) pat plan from to w
 posed-from {rec} {plan = plan} old t p low w is =
-    let g = loadedOf (t .asked .day .lines) in
+    let g = loadedOf (plan .keeps) (t .asked .day .lines) in
     let before = take (plan .boats) old in
     let after = drop (plan .base) old in
-    let made : w ≡ before ++ (g ++ after) = is ∙ ap (λ ls. before ++ (loadedOf ls ++ after)) (ap linesIn (p .day-read)) in
-    let whole : plan .codes + length g ≡ plan .base = tables-long (t .planned) (t .laid) in
-    let short : length before ≡ plan .codes = omega (arith, length-take (plan .boats) old, t .laid .codes-at, t .laid .words-at, t .laid .base-at, t .laid .room) in
+    let made : w ≡ before ++ (g ++ after) = is ∙ ap (λ ls. before ++ (loadedOf (plan .keeps) ls ++ after)) (ap linesIn (p .day-read)) in
+    let whole : plan .boats + length g ≡ plan .base = tables-long (t .planned) (t .laid) in
+    let short : length before ≡ plan .boats = omega (arith, length-take (plan .boats) old, t .laid .codes-at, t .laid .words-at, t .laid .base-at, t .laid .room) in
     let long : length w ≡ length old = omega (arith, ap length made, length-append before (g ++ after), length-append g after, short, whole, length-drop (plan .base) old, t .laid .room) in
     record {
       reads = p .pattern-read;
@@ -60,8 +75,8 @@ posed-from {rec} {plan = plan} old t p low w is =
       from-low = p .from-low;
       to-low = p .to-low;
       loaded =
-          ap (λ l. drop (plan .codes) (take (plan .base) l)) (made ∙ sym (append-assoc before g after))
-          ∙ (ap (drop (plan .codes)) (take-at (before ++ g) after (plan .base) (omega (arith, length-append before g, short, whole))) ∙ drop-at before g (plan .codes) short);
+          ap (λ l. drop (plan .boats) (take (plan .base) l)) (made ∙ sym (append-assoc before g after))
+          ∙ (ap (drop (plan .boats)) (take-at (before ++ g) after (plan .base) (omega (arith, length-append before g, short, whole))) ∙ drop-at before g (plan .boats) short);
     }
 
 module _ {q : Asked} {pat : List ℕ} {plan : Plan} {from to : ℕ} {w : List ℕ} (posed : Posed q pat plan from to w) where
@@ -71,8 +86,8 @@ module _ {q : Asked} {pat : List ℕ} {plan : Plan} {from to : ℕ} {w : List �
   abbrev tree : Pattern
   tree = q .pattern
 
-  pub posed-tables : tables plan (front plan w) ≡ loadedOf lines
-  posed-tables = ap (drop (plan .codes)) (take-take (plan .base) (plan .base) w (omega arith)) ∙ posed .loaded
+  pub posed-tables : tables plan (front plan w) ≡ loadedOf (plan .keeps) lines
+  posed-tables = ap (drop (plan .boats)) (take-take (plan .base) (plan .base) w (omega arith)) ∙ posed .loaded
 
   module _ {program : List ℕ} {begin : ℕ} (compiled : Compiled tree program begin) (small : (k : ℕ) → k ≤ commands tree → Small (rowAt program k)) where
     -- the tables' lines are the request's

@@ -19,7 +19,7 @@ pub record Posed (q : Asked) (pat : List ℕ) (plan : Plan) (from to : ℕ) (w :
   pub fit : Fit (q .day .lines) (q .day .places)
   pub from-low : from < q .day .places
   pub to-low : to < q .day .places
-  pub loaded : tables plan w ≡ loadedOf (q .day .lines)
+  pub loaded : tables plan w ≡ loadedOf (plan .keeps) (q .day .lines)
 
 -- the area is that of some request
 abbrev pub SomePosed : List ℕ → Plan → ℕ → ℕ → List ℕ → Type 0

@@ -102,7 +102,7 @@ pub fn from_state(
         let at = here.position;
         if request::kind_of(line) == positions::kind_at(program, at) {
             let code = area::word(work, plan.codes + i);
-            if states::passes_at(program, plan.radix, at, code, here.stack) {
+            if states::passes_at(work, plan, program, at, code, here.stack) {
                 let u = states::put_on_at(program, plan.radix, at, here.stack, code);
                 let follow = positions::follow_at(program, at);
                 let to = request::to_of(line);

@@ -1,8 +1,9 @@
 -- The language of a pattern: source document 001, section 3, "Semantics", clause by clause and in its order; 001 has no clause for the
--- empty word, so that of `nothing` is document 01's.
+-- empty word, so that of `nothing` is document 01's. The clauses of a[x=] and a[x≠] are 001's with document 02's request One over them: what
+-- an equal and another data value are is said by `compared` and `meets`.
 -- A word is the kind and boat of each line of a chain: 001's data word, the kind its letter and the boat its data value.
 use mathlib.Core.Path.{_≡_}
-use mathlib.Core.Bool.{Bool, cond, true, false}
+use mathlib.Core.Bool.{Bool, cond, true, false, _&&_, _||_}
 use mathlib.Core.List.{List, [], _∷_, _++_}
 use mathlib.Core.Logic.{_⊎_}
 use mathlib.Core.Option.{Option, none, some}
@@ -32,15 +33,21 @@ bind ν s b t = cond (eqb t s) (some b) (ν t)
 
 -- ---- a line's boat against a slot's boat
 
+-- class 0 with number 0: the number was not read, and two such boats need not be one
+abbrev pub isUnread : Boat → Bool
+isUnread b = eqb (b .class) 0 && eqb (b .sail) 0
+
 -- what comparing two boats tells
 pub data Compared : Type 0 where
-  same-boat other-boat : Compared
+  unread same-boat other-boat : Compared
 
 abbrev pub compared : Boat → Boat → Compared
-compared a b = cond (agree a b) same-boat other-boat
+compared a b = cond (isUnread a || isUnread b) unread (cond (agree a b) same-boat other-boat)
 
--- what a command asks of it
+-- what a command asks of it; of an unread boat nothing is known, so it meets neither
 abbrev pub meets : Rule → Compared → Bool
+meets same unread = false
+meets other unread = false
 meets same same-boat = true
 meets same other-boat = false
 meets other same-boat = false

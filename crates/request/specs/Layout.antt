@@ -1,8 +1,8 @@
 -- The layout of the work area: the limits, where the tables of a plan stand (`Laid`), the plan of a request (`Planned`), a line in one word,
 -- and what is loaded.
 use mathlib.Core.Path.{_≡_}
-use mathlib.Core.List.{List, _++_, map}
-use Prim.Native.Nat.{ℕ, suc, _+_, _*_, _^_, _≤_, _<_, _/_, _%_}
+use mathlib.Core.List.{List, [], _++_, map}
+use Prim.Native.Nat.{ℕ, zero, suc, _+_, _*_, _^_, _≤_, _<_, _/_, _%_}
 use native.Mathlib.Omega.{arith}
 use lib.Dec.{leb}
 use lib.ListN.{length}
@@ -10,6 +10,7 @@ use Rattle.meaning.specs.Record.{Line, boats}
 use Rattle.meaning.specs.Pattern.{commands, keeps}
 use Rattle.meaning.specs.Request.{Asked}
 use Rattle.boats.specs.Codes.{codes}
+use Rattle.boats.specs.Table.{boatTable}
 use Rattle.request.specs.declared.Plan.{Plan}
 
 -- ---- limits
@@ -18,7 +19,7 @@ use Rattle.request.specs.declared.Plan.{Plan}
 abbrev pub largest : ℕ
 largest = 1048576
 
--- the last word at which the search's stretches may begin, after all that is loaded; requests One, Five and Ten raise it
+-- the last word at which the search's stretches may begin, after all that is loaded; requests Five and Ten raise it
 abbrev pub mostFront : ℕ
 mostFront = 16384
 
@@ -31,6 +32,11 @@ scale = 4398046511104
 -- the lines in order of a key: for each key a word, one word more, and a word for each line
 abbrev pub tableWords : ℕ → ℕ → ℕ
 tableWords keys lines = suc keys + lines
+
+-- the boats by their numbers: a word for each, and one for 0, where boats are kept; nothing compares boats otherwise
+abbrev pub boatWords : ℕ → ℕ → ℕ
+boatWords zero radix = 0
+boatWords (suc keeps) radix = radix
 
 -- the first word after phase one's sorted lines and the two words for each place
 abbrev pub filedEnd : Plan → ℕ
@@ -55,7 +61,7 @@ pub record Laid (plan : Plan) (area : ℕ) : Type 0 where
   pub size-is : plan .size ≡ plan .places * (plan .done + 1) * plan .stacks
   pub small : plan .size ≤ largest
   -- what is loaded, end to end
-  pub codes-at : plan .codes ≡ plan .boats
+  pub codes-at : plan .codes ≡ plan .boats + boatWords (plan .keeps) (plan .radix)
   pub words-at : plan .words ≡ plan .codes + plan .lines
   pub base-at : plan .base ≡ plan .words + plan .lines
   pub few-words : plan .base ≤ mostFront
@@ -83,8 +89,8 @@ pub record Fitting (places lines done keeps radix size at area : ℕ) : Type 0 w
   pub few-boats : radix ≤ 4097
   pub size-is : size ≡ places * (done + 1) * radix ^ keeps
   pub small : size ≤ largest
-  pub few-words : at + lines + lines ≤ mostFront
-  pub room : at + lines + lines + 3 * size ≤ area
+  pub few-words : at + boatWords keeps radix + lines + lines ≤ mostFront
+  pub room : at + boatWords keeps radix + lines + lines + 3 * size ≤ area
 
 -- the plan's numbers are those of what is asked about
 pub record Planned (q : Asked) (plan : Plan) : Type 0 where
@@ -121,6 +127,11 @@ module _ (l : Line) (from-low : l .from < 1024) (to-low : l .to < 1024) (kind-lo
 
 -- ---- what is loaded
 
--- each line's boat number, the lines
-abbrev pub loadedOf : List Line → List ℕ
-loadedOf lines = codes lines ++ map lineWord lines
+-- the boats, where some are kept
+abbrev pub boatsLoaded : ℕ → List Line → List ℕ
+boatsLoaded zero lines = []
+boatsLoaded (suc keeps) lines = boatTable lines
+
+-- the boats, each line's boat number, the lines; for a pattern with so many keeps
+abbrev pub loadedOf : ℕ → List Line → List ℕ
+loadedOf keeps lines = boatsLoaded keeps lines ++ (codes lines ++ map lineWord lines)

@@ -2,13 +2,16 @@
 ghost use mathlib.Core.Path.{_≡_};
 ghost use mathlib.Core.List.{_++_, map};
 ghost use Prim.Native.Nat.{suc, _+_, _*_, _^_, _<_, _≤_};
-ghost use lib.ListN.{length, take, drop, replicate};
+ghost use lib.ListN.{length, getD, take, drop, replicate};
 ghost use Rattle.meaning.specs.Outcome.{told};
 ghost use Rattle.meaning.specs.Request.{need, askBoth, askRequest, wordsOf};
 ghost use Rattle.meaning.specs.Writing.{lineAt};
+ghost use Rattle.meaning.specs.Record.{boats};
 ghost use Rattle.boats.specs.Codes.{codes};
+ghost use Rattle.boats.specs.Table.{boatTable};
+ghost use Rattle.request.specs.Loading.{BoatsNoted};
 ghost use Rattle.record.specs.Whole.{linesOf};
-ghost use Rattle.request.specs.Layout.{largest, tableWords, Laid, Fitting, lineWord, fromIn, toIn, kindIn, loadedOf};
+ghost use Rattle.request.specs.Layout.{largest, tableWords, boatWords, Laid, Fitting, lineWord, fromIn, toIn, kindIn, boatsLoaded, loadedOf};
 ghost use Rattle.request.specs.Promise.{wordsReply};
 ghost use Rattle.request.specs.Asking.{bothTold, bothNumber, patternNumber, Small, sizingTold, measuredTold, Answers, Numbers, requestNumber};
 use pattern::PatternReply;
@@ -38,7 +41,7 @@ pub struct Plan {
     pub inverse: usize,
     // The search size: places, positions and stacks.
     pub size: usize,
-    // What is loaded, from `boats` on: each line's boat number, and the lines.
+    // What is loaded, from `boats` on: the boats by their numbers, where some are kept, each line's boat number, and the lines.
     pub codes: usize,
     pub words: usize,
     // The search's pairs of stretches of `size` words: phase one's distances and its queue from `base` on, phase two's marks and its
@@ -53,7 +56,7 @@ pub struct Plan {
     pub byboat: u32,
     // Phase two's sorted lines, after its pair: by the place that they come from. `ordered` says that there is room.
     pub bystart: u32,
-    // The boats, of which no words stand here yet. All tables stand from this word on.
+    // The boats by their numbers. All tables stand from this word on.
     pub boats: u32,
     pub keeps: u8,
     pub filed: bool,
@@ -191,6 +194,13 @@ fn table_words(keys: usize, lines: usize) -> usize
     keys + 1 + lines
 }
 
+// How many words the boats' table has.
+fn boat_words(keeps: usize, radix: usize) -> usize
+    ensures { λ r. ⌜ r ≡ boatWords keeps radix ⌝ }
+{
+    if keeps == 0 { 0 } else { radix }
+}
+
 // The layout of an area of `area` words, from word `at` on, computed here and nowhere else.
 fn planned(
     places: usize,
@@ -208,7 +218,8 @@ fn planned(
 {
     let stacks = size / (places * (done + 1));
     let inverse = SCALE / stacks + 1;
-    let words = at + lines;
+    let codes = at + boat_words(keeps, radix);
+    let words = codes + lines;
     let base = words + lines;
     let marks = base + size;
     let bykind = base + 2 * size;
@@ -226,7 +237,7 @@ fn planned(
         stacks,
         inverse,
         size,
-        codes: at,
+        codes,
         words,
         base,
         marks,
@@ -399,16 +410,61 @@ fn load_codes(numbers: &[u16], part: &mut [u32])
     }
 }
 
-// Puts a record that passed, and the numbers of its boats, into a work area: each line's boat number and the lines, each in its own
-// stretch. All other words stay as they were.
+// The boat of line `i`, whose number is `number`, if it is the next one: a boat that no earlier line has. Returns the number after it.
+fn load_boat(day: &[u8], i: usize, number: u16, part: &mut [u32], next: usize) -> usize
+    requires { ⌜ (i < length (linesOf (now day))) × (number ≡ getD (codes (linesOf (now day))) i 0) ⌝ }
+    requires { ⌜ BoatsNoted (linesOf (now day)) i next (now part) ⌝ }
+    ensures { λ r. ⌜ BoatsNoted (linesOf (now (day .entry))) (suc i) r (now (part .exit)) ⌝ }
+{
+    if number as usize == next {
+        part[next] = boats::boat_at(day, i);
+        return next + 1;
+    }
+    next
+}
+
+// The boats by their numbers; word 0 is 0.
+fn load_boats(day: &[u8], lines: usize, numbers: &[u16], part: &mut [u32])
+    requires { ⌜ (lines ≡ length (linesOf (now day))) × (take lines (now numbers) ≡ codes (linesOf (now day))) ⌝ }
+    requires { ⌜ length (now part) ≡ suc (length (boats (linesOf (now day)))) ⌝ }
+    ensures { λ _. ⌜ now (part .exit) ≡ boatTable (linesOf (now (day .entry))) ⌝ }
+{
+    part[0] = 0;
+    let mut next: usize = 1;
+    let mut i: usize = 0;
+    while i < lines {
+        next = load_boat(day, i, numbers[i], part, next);
+        i += 1;
+    }
+}
+
+// The boats, where some are kept.
+fn load_table(day: &[u8], plan: Plan, numbers: &[u16; 4096], work: &mut [u32])
+    requires { ⌜ Laid plan (length (now work)) × (plan .lines ≡ length (linesOf (now day))) ⌝ }
+    requires { ⌜ take (plan .lines) (now numbers) ≡ codes (linesOf (now day)) ⌝ }
+    requires { ⌜ plan .radix ≡ suc (length (boats (linesOf (now day)))) ⌝ }
+    ensures { λ _. ⌜ now (work .exit) ≡ take (plan .boats) (now (work .entry)) ++ (boatsLoaded (plan .keeps) (linesOf (now (day .entry))) ++ drop (plan .codes) (now (work .entry))) ⌝ }
+{
+    if plan.keeps == 0 {
+        return;
+    }
+    let boats = plan.boats as usize;
+    let codes = plan.codes;
+    load_boats(day, plan.lines, numbers, &mut work[boats..codes]);
+}
+
+// Puts a record that passed, and the numbers of its boats, into a work area: the boats where some are kept, each line's boat number and the
+// lines, each in its own stretch. All other words stay as they were.
 pub fn load(day: &[u8], plan: Plan, numbers: &[u16; 4096], work: &mut [u32])
     requires { ⌜ Laid plan (length (now work)) × (plan .lines ≡ length (linesOf (now day))) ⌝ }
     requires { ⌜ take (plan .lines) (now numbers) ≡ codes (linesOf (now day)) ⌝ }
-    ensures { λ _. ⌜ now (work .exit) ≡ take (plan .boats) (now (work .entry)) ++ (loadedOf (linesOf (now (day .entry))) ++ drop (plan .base) (now (work .entry))) ⌝ }
+    requires { ⌜ plan .radix ≡ suc (length (boats (linesOf (now day)))) ⌝ }
+    ensures { λ _. ⌜ now (work .exit) ≡ take (plan .boats) (now (work .entry)) ++ (loadedOf (plan .keeps) (linesOf (now (day .entry))) ++ drop (plan .base) (now (work .entry))) ⌝ }
 {
     let codes = plan.codes;
     let words = plan.words;
     let base = plan.base;
+    load_table(day, plan, numbers, work);
     load_codes(numbers, &mut work[codes..words]);
     load_lines(day, &mut work[words..base]);
 }

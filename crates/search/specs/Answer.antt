@@ -35,7 +35,7 @@ setting lines p =
     let bs = boats lines in
     let cs = codes lines in
     let ns = nodes p [] in
-    record { lines = lines; code = λ i. getD cs i 0; tells = telling; node = nodeAt ns; done = commands p; radix = suc (length bs); deepest = keeps p }
+    record { lines = lines; code = λ i. getD cs i 0; tells = telling bs; node = nodeAt ns; done = commands p; radix = suc (length bs); deepest = keeps p }
 
 -- where the chains from place a begin
 unfoldable pub starts : Setting → Pattern → ℕ → List ℕ

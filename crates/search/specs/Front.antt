@@ -33,12 +33,12 @@ module _ (plan : Plan) (g : List ℕ) where
 
 -- ---- the tables in an area
 
--- the words from `codes` up to `base`
+-- the words from `boats` up to `base`
 abbrev pub tables : Plan → List ℕ → List ℕ
-tables plan g = drop (plan .codes) (take (plan .base) g)
+tables plan g = drop (plan .boats) (take (plan .base) g)
 
-pub table-at : (plan : Plan) (g : List ℕ) (j : ℕ) → plan .codes + j < plan .base → getD g (plan .codes + j) 0 ≡ getD (tables plan g) j 0
-table-at plan g j less = sym (getD-drop (plan .codes) (take (plan .base) g) j 0 ∙ getD-take (plan .base) g (plan .codes + j) 0 less)
+pub table-at : (plan : Plan) (g : List ℕ) (j : ℕ) → plan .boats + j < plan .base → getD g (plan .boats + j) 0 ≡ getD (tables plan g) j 0
+table-at plan g j less = sym (getD-drop (plan .boats) (take (plan .base) g) j 0 ∙ getD-take (plan .base) g (plan .boats + j) 0 less)
 
 -- ---- states by the plan's numbers
 

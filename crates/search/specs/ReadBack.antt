@@ -1,24 +1,31 @@
 -- The loaded words, read back, say the request: `loaded-same`, for a plan with the request's numbers and tables loaded of its lines.
 -- So what code finds that searches by them is `answer` and `check`: `loaded-answer`, `loaded-check`, and for counting loops `loaded-ended`.
 use mathlib.Core.Path.{_≡_, refl, sym, ap, _∙_, subst}
-use mathlib.Core.Bool.{Bool, true, false, _&&_}
-use mathlib.Core.List.{List, [], _∷_, map, Memᴰ·map, Memᴰ·of-map}
+use mathlib.Core.Bool.{Bool, true, false, cond, _&&_, _||_}
+use mathlib.Core.List.{List, [], _∷_, _++_, map, Memᴰ·map, Memᴰ·of-map}
 use mathlib.Core.Logic.{_↔_}
-use Prim.Native.Nat.{ℕ, suc, _+_, _*_, _^_, _<_}
+use Prim.Native.Nat.{ℕ, zero, suc, _+_, _*_, _^_, _/_, _%_, _<_, _≤_}
+use native.Mathlib.Nat.{mod-lt}
 use native.Mathlib.Omega.{arith}
-use lib.ListN.{length, getD, List·getD-append, List·getD-map}
+use lib.Dec.{eqb}
+use lib.ListN.{length, getD, length-map, List·getD-append, List·getD-map}
 use lib.Seq.{getD-append-add}
+use borrow.Author.Tests.{lt-ltb}
 use Rattle.meaning.specs.Record.{Line, boats}
 use Rattle.meaning.specs.Writing.{noLine, lineAt}
 use Rattle.meaning.specs.Pattern.{Pattern, commands, keeps}
+use Rattle.meaning.specs.Language.{Compared, unread, same-boat, other-boat, meets}
 use Rattle.meaning.specs.Request.{Asked, searchSize}
 use Rattle.meaning.specs.Chain.{exist}
 use Rattle.record.specs.Fit.{Fit}
 use Rattle.lists.specs.Listed.{_∈_}
-use Rattle.automaton.specs.Automaton.{nodes, nodeAt, start}
+use Rattle.automaton.specs.Automaton.{Test, never, always, against, nodes, nodeAt, start}
+use Rattle.automaton.specs.Shape.{deeper, Reads, shape}
 use Rattle.positions.specs.Program.{Compiled, members}
-use Rattle.boats.specs.Codes.{codes, codes-length}
-use Rattle.request.specs.Layout.{Laid, Planned, lineWord, line-from, line-to, line-kind, loadedOf}
+use Rattle.boats.specs.Boats.{asNumber}
+use Rattle.boats.specs.Codes.{codes, codes-length, code-low, telling}
+use Rattle.boats.specs.Table.{boatTable, toldBy, table-told}
+use Rattle.request.specs.Layout.{Laid, Planned, lineWord, line-from, line-to, line-kind, boatWords, boatsLoaded, loadedOf}
 use Rattle.request.specs.declared.Plan.{Plan}
 use Rattle.graph.specs.Plain.{memb, solve}
 use Rattle.graph.specs.Sets.{memb-same}
@@ -31,9 +38,9 @@ use Rattle.search.specs.Product.{Setting, state, passes, succs, preds}
 use Rattle.search.specs.Along.{goal, starting}
 use Rattle.search.specs.Answer.{setting, starts, answer, starts-ok, goal-ok, sound, below-size, answer-any}
 use Rattle.search.specs.Check.{moved, moved-members, check}
-use Rattle.search.specs.Loaded.{codeAt, wordAt, lineIn, linesIn, settingIn}
+use Rattle.search.specs.Loaded.{boatAt, codeAt, wordAt, lineIn, linesIn, settingIn}
 use Rattle.search.specs.Steps.{Ok, next-ok, preds-ok}
-use Rattle.search.specs.Same.{Same, passes-same, same-succs, same-preds, same-goal, same-starting, same-solve, same-moved}
+use Rattle.search.specs.Same.{Same, same-succs, same-preds, same-goal, same-starting, same-solve, same-moved}
 use Rattle.search.specs.Front.{lines-many, line-at, tables, table-at}
 
 -- ---- of a request
@@ -68,22 +75,77 @@ module _ (q : Asked) (plan : Plan) (area : ℕ) (planned : Planned q plan) (laid
 
   -- ---- the words of its tables
 
-  module _ (g : List ℕ) (loaded : tables plan g ≡ loadedOf lines) where
+  module _ (g : List ℕ) (loaded : tables plan g ≡ loadedOf (plan .keeps) lines) where
+    -- the boats that are loaded, and what is loaded after them
+    abbrev table : List ℕ
+    table = boatsLoaded (plan .keeps) lines
+
+    abbrev rest : List ℕ
+    rest = codes lines ++ map lineWord lines
+
+    codes-from : plan .codes ≡ plan .boats + length table
+    codes-from = laid .codes-at ∙ ap (plan .boats +_) (ap (boatWords (plan .keeps)) (planned .radix-is) ∙ sym (table-long (plan .keeps)))
+      where
+        table-long : (k : ℕ) → length (boatsLoaded k lines) ≡ boatWords k (suc (length (boats lines)))
+        table-long zero = refl
+        table-long (suc k) = unfold boatTable in ap suc (length-map (boats lines) asNumber)
+
     -- word i of the tables
-    table-word : (n i : ℕ) → n ≡ plan .codes + i → n < plan .base → getD g n 0 ≡ getD (loadedOf lines) i 0
+    table-word : (n i : ℕ) → n ≡ plan .boats + i → n < plan .base → getD g n 0 ≡ getD (table ++ rest) i 0
     table-word n i e less = ap (λ k. getD g k 0) e ∙ (table-at plan g i (omega arith) ∙ ap (λ l. getD l i 0) loaded)
+
+    -- word i of those after the boats
+    rest-word : (n i : ℕ) → n ≡ plan .codes + i → n < plan .base → getD g n 0 ≡ getD rest i 0
+    rest-word n i e less = table-word n (length table + i) (omega (arith, e, codes-from)) less ∙ getD-append-add table rest i 0
 
     code-back : (i : ℕ) → i < length lines → codeAt plan g i ≡ getD (codes lines) i 0
     code-back i less =
-        table-word (plan .codes + i) i refl (omega (arith, laid .words-at, laid .base-at, planned .lines-are))
+        rest-word (plan .codes + i) i refl (omega (arith, laid .words-at, laid .base-at, planned .lines-are))
         ∙ List·getD-append (codes lines) (map lineWord lines) 0 i (omega (arith, codes-length lines))
 
     line-back : (i : ℕ) → i < length lines → lineAt (linesIn plan g 0 (plan .lines)) i ≡ lineIn (lineWord (lineAt lines i))
     line-back i less =
         let stands : wordAt plan g i ≡ lineWord (lineAt lines i) =
-        table-word (plan .words + i) (length (codes lines) + i) (omega (arith, laid .words-at, planned .lines-are, codes-length lines)) (omega (arith, laid .base-at, planned .lines-are))
+        rest-word (plan .words + i) (length (codes lines) + i) (omega (arith, laid .words-at, planned .lines-are, codes-length lines)) (omega (arith, laid .base-at, planned .lines-are))
         ∙ (getD-append-add (codes lines) (map lineWord lines) i 0 ∙ List·getD-map lineWord lines i noLine) in
         line-at plan g i (omega (arith, planned .lines-are)) ∙ ap lineIn stands
+
+    -- ---- boats compared
+
+    -- where boats are kept their table stands there
+    boat-back : 0 < plan .keeps → (x : ℕ) → x ≤ length (boats lines) → boatAt plan g x ≡ getD (boatTable lines) x 0
+    boat-back some x low =
+        let is : table ≡ boatTable lines = kept-table (plan .keeps) some in
+        let long : length table ≡ suc (length (boats lines)) = ap length is ∙ (unfold boatTable in ap suc (length-map (boats lines) asNumber)) in
+        let under : plan .boats + x < plan .codes = omega (arith, codes-from, long, low) in
+        ap (λ t. cond t (getD g (plan .boats + x) 0) 0) (lt-ltb _ _ under)
+        ∙ (table-word (plan .boats + x) x refl (omega (arith, under, laid .words-at, laid .base-at))
+        ∙ (List·getD-append table rest 0 x (omega (arith, long, low)) ∙ ap (λ l. getD l x 0) is))
+      where
+        kept-table : (k : ℕ) → 0 < k → boatsLoaded k lines ≡ boatTable lines
+        kept-table zero h = absurd (omega (arith, h))
+        kept-table (suc k) h = refl
+
+    told-back : 0 < plan .keeps → (x y : ℕ) → x ≤ length (boats lines) → y ≤ length (boats lines) → toldBy (boatAt plan g) x y ≡ telling (boats lines) x y
+    told-back some x y hx hy = (λ t. told (boat-back some x hx t) (boat-back some y hy t)) ∙ table-told lines x y hx hy
+      where
+        told : ℕ → ℕ → Compared
+        told a b = cond (eqb a 0 || eqb b 0) unread (cond (eqb x y) same-boat other-boat)
+
+    -- a test of the automaton, whatever the stack: only where boats are kept is there one that compares
+    module _ (program : List ℕ) (v i : ℕ) (less : i < length lines) where
+      test-back : (n : Test) (d : ℕ) → Reads n d → d ≤ keeps p
+          → passes (settingIn program plan g) n v (getD (codes lines) i 0) ≡ passes (setting lines p) n v (getD (codes lines) i 0)
+      unfolding settingIn setting
+      test-back never d reads deep = refl
+      test-back always d reads deep = refl
+      test-back (against r j) d reads deep =
+          let x = getD (codes lines) i 0 in
+          let y = v / suc (length (boats lines)) ^ j % suc (length (boats lines)) in
+          let low : y < suc (length (boats lines)) = mod-lt _ (omega arith) in
+          let some : 0 < plan .keeps = omega (arith, reads, deep, planned .keeps-are) in
+          (λ t. meets r (toldBy (boatAt plan g) x (v / planned .radix-is t ^ j % planned .radix-is t)))
+          ∙ ap (meets r) (told-back some x y (omega (arith, code-low lines i less)) (omega (arith, low)))
 
     module _ (fit : Fit lines places) where
       -- ---- the setting that they say
@@ -104,9 +166,17 @@ module _ (q : Asked) (plan : Plan) (area : ℕ) (planned : Planned q plan) (laid
           node = compiled .nodes-are;
           pass = λ c v i hc less.
               (λ t. passes (settingIn program plan g) (compiled .nodes-are c hc .test t) v (code-back i less t))
-              ∙ passes-same (settingIn program plan g) (setting lines p) (planned .radix-is) refl (nodeAt (nodes p []) c .test) v (getD (codes lines) i 0);
+              ∙ test-back program v i less (nodeAt (nodes p []) c .test) (nodeAt (nodes p []) c .depth) (shape p [] {deepest = keeps p} (omega arith) .reads c) (depth-low c);
         }
           where
+            -- no stack is deeper than the keeps
+            depth-low : (c : ℕ) → nodeAt (nodes p []) c .depth ≤ keeps p
+            depth-low c = go (nodeAt (nodes p []) c .push) (shape p [] {deepest = keeps p} (omega arith) .depth c)
+              where
+                go : (b : Bool) → deeper b (nodeAt (nodes p []) c .depth) ≤ keeps p → nodeAt (nodes p []) c .depth ≤ keeps p
+                go true h = omega (arith, h)
+                go false h = h
+
             low : (i : ℕ) → i < length lines → (lineAt lines i .from < 1024) × (lineAt lines i .to < 1024)
             low i less = let (from, to) = fit .within i less in (omega (arith, fit .few-places, from), omega (arith, fit .few-places, to))
 

@@ -12,15 +12,13 @@ use lib.Dec.{eqb, ltb}
 use lib.ListN.{length}
 use borrow.Author.Tests.{ltb-true}
 use Rattle.meaning.specs.Writing.{lineAt}
-use Rattle.meaning.specs.Language.{meets}
 use Rattle.meaning.specs.Chain.{exist}
 use Rattle.lists.specs.Listed.{_∈_, when}
-use Rattle.automaton.specs.Automaton.{Test, never, always, against}
 use Rattle.automaton.specs.Shape.{deeper}
 use Rattle.positions.specs.Program.{Alike}
 use Rattle.graph.specs.Plain.{memb, nub, filt, flat, count, level, next, first, pick, nearest, chosen, found, look, solve}
 use Rattle.graph.specs.Sets.{memb-same, filt-in, count-in}
-use Rattle.search.specs.Digits.{entry, pushOn, popOff}
+use Rattle.search.specs.Digits.{pushOn, popOff}
 use Rattle.search.specs.Product.{Setting, stacks, state, placeOf, posOf, stackOf, cut, passes, takes, pushed, popped, following, succs, uncut, undoes, positions, linesInto, sources, preds}
 use Rattle.search.specs.Along.{goal, starting}
 use Rattle.search.specs.Check.{moved}
@@ -41,15 +39,6 @@ pub record Same (S T : Setting) (m : ℕ) : Type 0 where
   pub node : (c : ℕ) → c ≤ T .done → Alike (S .node c) (T .node c)
   -- a test has the same outcome, whatever the stack
   pub pass : (c v i : ℕ) → c ≤ T .done → i < m → passes S (S .node c .test) v (S .code i) ≡ passes T (T .node c .test) v (T .code i)
-
--- ---- tests
-
--- two settings whose comparisons agree
-module _ (S T : Setting) (radix : S .radix ≡ T .radix) (tells : S .tells ≡ T .tells) where
-  pub passes-same : (n : Test) (v x : ℕ) → passes S n v x ≡ passes T n v x
-  passes-same never v x = refl
-  passes-same always v x = refl
-  passes-same (against r j) v x = λ t. meets r (tells t x (entry (radix t) v j))
 
 -- ---- lists made alike
 

@@ -12,8 +12,11 @@ use lib.Seq.{getD-take}
 use Rattle.positions.specs.Program.{rowAt, depthAt}
 use Rattle.request.specs.Layout.{largest, Laid, toIn}
 use Rattle.request.specs.declared.Plan.{Plan}
-use Rattle.search.specs.Loaded.{codeAt, wordAt}
-use Rattle.states.specs.Spots.{front, Starts, Fit, spotIn, Sane, off, offBy, targetIn, Aimed, Stacks}
+use Rattle.graph.specs.Table.{Search}
+use Rattle.search.specs.Loaded.{boatAt, codeAt, wordAt}
+use Rattle.area.specs.Area.{Under}
+use Rattle.area.proofs.Changes.{under-front}
+use Rattle.states.specs.Spots.{front, boatsIn, Starts, Fit, spotIn, Sane, off, offBy, targetIn, Aimed, Stacks}
 use Rattle.states.specs.declared.Spot.{Spot}
 use Rattle.states.specs.declared.Target.{Target}
 
@@ -137,6 +140,11 @@ fit-same {plan} l e f =
       depths-low = f .depths-low;
       leaves-low = f .leaves-low;
     }
+
+-- in a loop of phase one the boats' table stays
+pub boats-under : (plan : Plan) {F : Search → Search} {t₀ : ℕ} {w₀ : List ℕ} {G : Search → Search} {t : ℕ} {w : List ℕ}
+    → Under (plan .base) (plan .size) F t₀ w₀ G t w → boatsIn plan w ≡ boatsIn plan w₀
+boats-under plan u = ap (λ g. boatAt plan g) (under-front u (plan .base) (omega arith))
 
 -- a state's place is one of the places
 pub place-at : {plan : Plan} {area : ℕ} → Laid plan area → (t : ℕ) → t < plan .size → t / plan .stacks / (plan .done + 1) < plan .places

@@ -11,12 +11,12 @@ use borrow.Author.Tests.{eq-eqb, ne-eqb}
 use Rattle.positions.specs.Program.{bitOf, membersFrom, members, rowAt, testIn}
 use Rattle.positions.specs.declared.Rule.{Rule}
 use Rattle.positions.specs.declared.Rule.the-variants as Rule
-use Rattle.boats.specs.Codes.{telling}
+use Rattle.boats.specs.Table.{toldBy}
 use Rattle.request.specs.declared.Plan.{Plan}
 use Rattle.graph.specs.Plain.{memb}
 use Rattle.search.specs.Digits.{pushOn, popOff}
 use Rattle.search.specs.Product.{passes}
-use Rattle.search.specs.Loaded.{settingIn}
+use Rattle.search.specs.Loaded.{boatAt, settingIn}
 use Rattle.states.specs.Spots.{metBy, spotIn, okay, offBy, onBy}
 
 -- ---- a mask's positions
@@ -69,13 +69,13 @@ push-on R d v x false = refl
 -- ---- a boat passes
 
 module _ (a : List ℕ) (plan : Plan) (g : List ℕ) where
-  passes-rule : (t : Rule) (j v x : ℕ) → passes (settingIn a plan g) (testIn t j) v x ≡ metBy t (telling x (v / plan .radix ^ j % plan .radix))
+  passes-rule : (t : Rule) (j v x : ℕ) → passes (settingIn a plan g) (testIn t j) v x ≡ metBy t (toldBy (boatAt plan g) x (v / plan .radix ^ j % plan .radix))
   unfolding settingIn
   passes-rule Rule.Never j v x = refl
   passes-rule Rule.Always j v x = refl
   passes-rule Rule.Same j v x = refl
   passes-rule Rule.Other j v x = refl
 
-  pub passes-is : (c v x : ℕ) → passes (settingIn a plan g) (testIn (rowAt a c .rule) (rowAt a c .level)) v x ≡ okay (plan .radix) (spotIn a (plan .radix) c) x v
+  pub passes-is : (c v x : ℕ) → passes (settingIn a plan g) (testIn (rowAt a c .rule) (rowAt a c .level)) v x ≡ okay (boatAt plan g) (plan .radix) (spotIn a (plan .radix) c) x v
   unfolding okay spotIn
   passes-is c v x = passes-rule (rowAt a c .rule) (rowAt a c .level) v x

@@ -7,17 +7,17 @@ use Prim.Native.Nat.{ℕ, _+_, _*_, _-_, _^_, _/_, _%_, _≤_, _<_}
 use lib.Dec.{eqb}
 use lib.ListN.{length, take}
 use Rattle.meaning.specs.Pattern.{same, other}
-use Rattle.meaning.specs.Language.{Compared, same-boat, other-boat, meets}
+use Rattle.meaning.specs.Language.{Compared, unread, same-boat, other-boat, meets}
 use Rattle.positions.specs.Program.{bitOf, rowAt, followAt, depthAt, leavesAt}
 use Rattle.positions.specs.declared.Rule.{Rule}
 use Rattle.positions.specs.declared.Rule.the-variants as Rule
-use Rattle.boats.specs.Codes.{telling}
+use Rattle.boats.specs.Table.{toldBy}
 use Rattle.request.specs.Layout.{largest, Laid, fromIn, toIn, kindIn}
 use Rattle.request.specs.declared.Plan.{Plan}
 use Rattle.graph.specs.Loops.{turns}
 use Rattle.graph.specs.Table.{Search, push}
 use Rattle.search.specs.Front.{stateIn}
-use Rattle.search.specs.Loaded.{codeAt, wordAt}
+use Rattle.search.specs.Loaded.{boatAt, codeAt, wordAt}
 use Rattle.states.specs.declared.Spot.{Spot}
 use Rattle.states.specs.declared.Target.{Target}
 use Rattle.states.specs.declared.Takes.{Takes}
@@ -30,6 +30,10 @@ use Rattle.states.specs.declared.Told.the-variants as Told
 -- the words before the search's stretches: boat numbers and lines stand there
 abbrev pub front : Plan → List ℕ → List ℕ
 front plan w = take (plan .base) w
+
+-- the boats' table that stands there
+abbrev pub boatsIn : Plan → List ℕ → ℕ → ℕ
+boatsIn plan w = boatAt plan (front plan w)
 
 -- lines start at places
 abbrev pub Starts : Plan → List ℕ → Type 0
@@ -48,12 +52,19 @@ pub record Fit (plan : Plan) (a : List ℕ) (w : List ℕ) : Type 0 where
 -- ---- the comparison of two boats
 
 abbrev pub toldShown : Told → Compared
+toldShown Told.Unread = unread
 toldShown Told.SameBoat = same-boat
 toldShown Told.OtherBoat = other-boat
 
 abbrev pub sameShown : Told → Bool
+sameShown Told.Unread = false
 sameShown Told.SameBoat = true
 sameShown Told.OtherBoat = false
+
+abbrev pub otherShown : Told → Bool
+otherShown Told.Unread = false
+otherShown Told.SameBoat = false
+otherShown Told.OtherBoat = true
 
 -- does a rule take it?
 abbrev pub metBy : Rule → Compared → Bool
@@ -90,25 +101,33 @@ off s v = offBy (s .push) (s .weight) v
 unfoldable pub on : Spot → ℕ → ℕ → ℕ
 on s u x = onBy (s .push) (s .weight) u x
 
--- does the boat number x pass, against the stack v of boat numbers below R?
-unfoldable pub okay : ℕ → Spot → ℕ → ℕ → Bool
-okay R s x v = metBy (s .rule) (telling x (v / s .level % R))
+-- by the boats' table B: does the boat number x pass, against the stack v of boat numbers below R?
+unfoldable pub okay : (ℕ → ℕ) → ℕ → Spot → ℕ → ℕ → Bool
+okay B R s x v = metBy (s .rule) (toldBy B x (v / s .level % R))
+
+-- is x the number of a read boat?
+abbrev pub readBy : (ℕ → ℕ) → ℕ → Bool
+readBy B x = not (eqb (B x) 0)
+
+-- is x the number of a read boat other than y's?
+abbrev pub readBut : (ℕ → ℕ) → ℕ → ℕ → Bool
+readBut B y x = readBy B x && not (eqb x y)
 
 -- which boat numbers pass
-abbrev pub TakenBy : ℕ → Spot → ℕ → Takes → Type 0
-TakenBy R s v Takes.Any = (x : ℕ) → okay R s x v ≡ true
-TakenBy R s v (Takes.Only y) = (y < R) × ((x : ℕ) → okay R s x v ≡ eqb x y)
-TakenBy R s v (Takes.AllBut y) = (y < R) × ((x : ℕ) → okay R s x v ≡ not (eqb x y))
-TakenBy R s v Takes.Nobody = (x : ℕ) → okay R s x v ≡ false
-TakenBy R s v Takes.Ask = Unit {0}
+abbrev pub TakenBy : (ℕ → ℕ) → ℕ → Spot → ℕ → Takes → Type 0
+TakenBy B R s v Takes.Any = (x : ℕ) → okay B R s x v ≡ true
+TakenBy B R s v (Takes.Only y) = (y < R) × ((x : ℕ) → okay B R s x v ≡ eqb x y)
+TakenBy B R s v (Takes.ReadBut y) = (y < R) × ((x : ℕ) → okay B R s x v ≡ readBut B y x)
+TakenBy B R s v Takes.Nobody = (x : ℕ) → okay B R s x v ≡ false
+TakenBy B R s v Takes.Ask = Unit {0}
 
--- only the boat at the rule's level does
+-- only the boat at the rule's level does, where it is read
 pub record OnlyKept (s : Spot) : Type 0 where
-  pub kept : (R x v : ℕ) → okay R s x v ≡ eqb x (v / s .level % R)
+  pub kept : (B : ℕ → ℕ) (R x v : ℕ) → okay B R s x v ≡ (readBy B x && eqb x (v / s .level % R))
 
 -- every boat does
 pub record TakesAll (s : Spot) : Type 0 where
-  pub every : (R x v : ℕ) → okay R s x v ≡ true
+  pub every : (B : ℕ → ℕ) (R x v : ℕ) → okay B R s x v ≡ true
 
 -- ---- a state that is expanded, by its numbers
 
@@ -160,18 +179,18 @@ nextTurn plan a mask seen to v k st = cond (eqb (bitOf mask k) 1) (seen (stateIn
 -- ---- backward
 
 -- the stack v undone for the boat number x; `home` is the state with the empty stack at the line's start
-unfoldable pub stackAt : ℕ → Spot → ℕ → ℕ → ℕ → ℕ → Search → Search
-stackAt R s d home x v st = cond (eqb (on s (off s v) x) v && okay R s x (off s v)) (push d (home + off s v) st) st
+unfoldable pub stackAt : (ℕ → ℕ) → ℕ → Spot → ℕ → ℕ → ℕ → ℕ → Search → Search
+stackAt B R s d home x v st = cond (eqb (on s (off s v) x) v && okay B R s x (off s v)) (push d (home + off s v) st) st
 
-unfoldable pub stackTurn : ℕ → Spot → ℕ → ℕ → ℕ → ℕ → ℕ → ℕ → Search → Search
-stackTurn R s d home x weight w n = stackAt R s d home x (n * weight + w)
+unfoldable pub stackTurn : (ℕ → ℕ) → ℕ → Spot → ℕ → ℕ → ℕ → ℕ → ℕ → ℕ → Search → Search
+stackTurn B R s d home x weight w n = stackAt B R s d home x (n * weight + w)
 
 module _ (plan : Plan) (g : List ℕ) where
   -- line i, if it leads to the target's place and is of the position's kind, for `count` stacks
   unfoldable pub lineTurn : Spot → Target → ℕ → ℕ → ℕ → ℕ → Search → Search
   lineTurn s t d c count i st =
       cond (eqb (toIn (wordAt plan g i)) (t .place) && eqb (kindIn (wordAt plan g i)) (s .kind))
-      (turns (stackTurn (plan .radix) s d (stateIn plan (fromIn (wordAt plan g i)) c 0) (codeAt plan g i) (t .weight) (t .stack)) 0 count st)
+      (turns (stackTurn (boatAt plan g) (plan .radix) s d (stateIn plan (fromIn (wordAt plan g i)) c 0) (codeAt plan g i) (t .weight) (t .stack)) 0 count st)
       st
 
 -- every stack tried is one of the stacks

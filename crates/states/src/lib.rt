@@ -4,18 +4,32 @@ ghost use mathlib.Core.Bool.{true};
 ghost use Prim.Native.Nat.{ℕ, _+_, _*_, _-_, _^_, _/_, _%_, _≤_, _<_};
 ghost use lib.Dec.{eqb};
 ghost use Rattle.positions.specs.Program.{rowAt, depthAt};
-ghost use Rattle.boats.specs.Codes.{telling};
-ghost use Rattle.request.specs.Layout.{largest, scale};
+ghost use lib.ListN.{length};
+ghost use Rattle.boats.specs.Table.{toldBy};
+ghost use Rattle.request.specs.Layout.{largest, scale, Laid};
 ghost use Rattle.states.specs.Served.{Thinnable};
-ghost use Rattle.states.specs.Spots.{toldShown, sameShown, metBy, spotIn, off, on, okay, TakenBy, OnlyKept, TakesAll, Lowest, From, Entries, targetIn};
+ghost use Rattle.states.specs.Spots.{boatsIn, toldShown, sameShown, otherShown, metBy, spotIn, off, on, okay, TakenBy, OnlyKept, TakesAll, Lowest, From, Entries, targetIn};
 use positions::Rule;
 use request::Plan;
 use request::SCALE;
 
 // ---- boats
 
+// The boat of a number as a word, from the boats' table in the area. 0 is the word of an unread boat, and of a number without one.
+pub fn boat_of(work: &[u32], plan: Plan, x: usize) -> u32
+    requires { ⌜ Laid plan (length (now work)) × (x < 4294967296) ⌝ }
+    ensures { λ r. ⌜ r ≡ boatsIn plan (now (work .entry)) x ⌝ }
+{
+    let at = plan.boats as usize + x;
+    if at < plan.codes {
+        return area::word(work, at);
+    }
+    0
+}
+
 // What comparing two boats tells.
 pub enum Told {
+    Unread,
     SameBoat,
     OtherBoat,
 }
@@ -25,16 +39,34 @@ impl Told {
         ensures { λ r. ⌜ r ≡ sameShown self ⌝ }
     {
         match self {
+            Told::Unread => false,
             Told::SameBoat => true,
             Told::OtherBoat => false,
         }
     }
+
+    fn other(self) -> bool
+        ensures { λ r. ⌜ r ≡ otherShown self ⌝ }
+    {
+        match self {
+            Told::Unread => false,
+            Told::SameBoat => false,
+            Told::OtherBoat => true,
+        }
+    }
 }
 
-// Two boats compared by their numbers. Whoever compares boats does it here.
-pub fn compared(a: usize, b: usize) -> Told
-    ensures { λ r. ⌜ toldShown r ≡ telling a b ⌝ }
+// Two boats compared, given by their numbers. Whoever compares boats does it here.
+pub fn compared(work: &[u32], plan: Plan, a: usize, b: usize) -> Told
+    requires { ⌜ Laid plan (length (now work)) × (a < 4294967296) × (b < 4294967296) ⌝ }
+    ensures { λ r. ⌜ toldShown r ≡ toldBy (boatsIn plan (now (work .entry))) a b ⌝ }
 {
+    if boat_of(work, plan, a) == 0 {
+        return Told::Unread;
+    }
+    if boat_of(work, plan, b) == 0 {
+        return Told::Unread;
+    }
     if a == b {
         Told::SameBoat
     } else {
@@ -53,7 +85,7 @@ pub fn meets(rule: Rule, told: Told) -> bool
         return told.same();
     }
     if let Rule::Other = rule {
-        return !told.same();
+        return told.other();
     }
     false
 }
@@ -169,32 +201,39 @@ pub fn entry_at(stack: usize, level: usize, radix: usize) -> usize
 }
 
 // Does the boat number `code` pass the rule, against the stack before the position?
-pub fn passes(radix: usize, spot: Spot, code: u32, v: usize) -> bool
-    requires { ⌜ (0 < radix) × (0 < spot .level) ⌝ }
-    ensures { λ r. ⌜ r ≡ okay radix spot code v ⌝ }
+pub fn passes(work: &[u32], plan: Plan, spot: Spot, code: u32, v: usize) -> bool
+    requires { ⌜ Laid plan (length (now work)) × (0 < spot .level) ⌝ }
+    ensures { λ r. ⌜ r ≡ okay (boatsIn plan (now (work .entry))) (plan .radix) spot code v ⌝ }
 {
     let rule = spot.rule;
     if let Rule::Always = rule {
         return true;
     }
-    meets(
-        rule,
-        compared(code as usize, entry_at(v, spot.level, radix)),
-    )
+    let kept = entry_at(v, spot.level, plan.radix);
+    meets(rule, compared(work, plan, code as usize, kept))
 }
 
 // Does the boat number `code` pass at position `c`, against the stack `v` before it? A power is made only where boats are compared.
-pub fn passes_at(program: &[u64; 128], radix: usize, c: usize, code: u32, v: usize) -> bool
-    requires { ⌜ (c < 64) × (0 < radix) × (radix ^ rowAt (now program) c .level ≤ largest) ⌝ }
-    ensures { λ r. ⌜ r ≡ okay radix (spotIn (now (program .entry)) radix c) code v ⌝ }
+pub fn passes_at(
+    work: &[u32],
+    plan: Plan,
+    program: &[u64; 128],
+    c: usize,
+    code: u32,
+    v: usize,
+) -> bool
+    requires { ⌜ Laid plan (length (now work)) ⌝ }
+    requires { ⌜ (c < 64) × (plan .radix ^ rowAt (now program) c .level ≤ largest) ⌝ }
+    ensures { λ r. ⌜ r ≡ okay (boatsIn plan (now (work .entry))) (plan .radix) (spotIn (now (program .entry)) (plan .radix) c) code v ⌝ }
 {
     let row = positions::row_at(program, c);
     let rule = row.rule;
     if let Rule::Always = rule {
         return true;
     }
-    let level = power(radix, wide(row.level));
-    meets(rule, compared(code as usize, entry_at(v, level, radix)))
+    let level = power(plan.radix, wide(row.level));
+    let kept = entry_at(v, level, plan.radix);
+    meets(rule, compared(work, plan, code as usize, kept))
 }
 
 // The stack after position `c`, of the stack before it and the line's boat number. A power is made only where there is a push.
@@ -213,12 +252,12 @@ pub fn put_on_at(program: &[u64; 128], radix: usize, c: usize, u: usize, code: u
 pub enum Takes {
     Any,
     Only(usize),
-    AllBut(usize),
+    ReadBut(usize),
     Nobody,
     Ask,
 }
 
-// Whatever the stack, does only the boat pass that stands at the rule's level?
+// Whatever the stack, does only the boat pass that stands at the rule's level, if it is read?
 pub fn wants_kept(spot: Spot) -> bool
     ensures { λ r. ⌜ (r ≡ true → OnlyKept spot) ⌝ }
 {
@@ -385,10 +424,10 @@ fn kept_at(radix: usize, target: Target, level: usize) -> usize
     entry_at(target.stack, level, radix)
 }
 
-// The boats that pass against its stack, as the stack before the position.
-pub fn taken_by(radix: usize, spot: Spot, target: Target) -> Takes
-    requires { ⌜ (0 < radix) × (0 < spot .level) × Entries radix target ⌝ }
-    ensures { λ r. ⌜ TakenBy radix spot (target .stack) r ⌝ }
+// The boats that pass against its stack, as the stack before the position. Where the kept boat is unread, nobody does.
+pub fn taken_by(work: &[u32], plan: Plan, spot: Spot, target: Target) -> Takes
+    requires { ⌜ Laid plan (length (now work)) × (0 < spot .level) × Entries (plan .radix) target ⌝ }
+    ensures { λ r. ⌜ TakenBy (boatsIn plan (now (work .entry))) (plan .radix) spot (target .stack) r ⌝ }
 {
     let rule = spot.rule;
     if let Rule::Always = rule {
@@ -397,12 +436,15 @@ pub fn taken_by(radix: usize, spot: Spot, target: Target) -> Takes
     if let Rule::Never = rule {
         return Takes::Nobody;
     }
-    let kept = kept_at(radix, target, spot.level);
+    let kept = kept_at(plan.radix, target, spot.level);
+    if boat_of(work, plan, kept) == 0 {
+        return Takes::Nobody;
+    }
     if let Rule::Same = rule {
         return Takes::Only(kept);
     }
     if let Rule::Other = rule {
-        return Takes::AllBut(kept);
+        return Takes::ReadBut(kept);
     }
     Takes::Ask
 }

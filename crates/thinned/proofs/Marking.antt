@@ -1,22 +1,23 @@
 -- One word of a run read: a word that is left out is covered (`covered`), and the marks are right again (`going-read`).
 use mathlib.Core.Path.{_≡_, refl, sym, ap, _∙_, subst}
-use mathlib.Core.Bool.{Bool, true, not, false≢true}
+use mathlib.Core.Bool.{Bool, true, false≢true}
 use mathlib.Core.Logic.{_⊎_, inl, inr, ⊎-elim}
 use mathlib.Core.List.{List, [], _∷_, _++_, List·Memᴰ·head, Memᴰ·append-left, Memᴰ·append-right}
 use Prim.Native.Nat.{ℕ, suc, _+_, _*_, _-_, _/_, _%_, _≤_, _<_}
 use native.Mathlib.Decide.{ℕ-discrete}
 use native.Mathlib.Omega.{arith}
 use lib.ListN.{length, getD, set, take, drop, length-set, length-drop}
-use borrow.Author.Tests.{ne-eqb}
+use borrow.Author.Tests.{eq-eqb, ne-eqb}
 use lib.Seq.{take-suc, getD-drop, getD-set-same, getD-set-other}
 use Rattle.lists.specs.Listed.{_∈_}
 use Rattle.sorted.specs.Sorting.{packBy, Kept}
 use Rattle.sorted.proofs.Turns.{kept-none, kept-then, kept-set, kept-get}
 use Rattle.area.specs.Area.{stretch}
-use Rattle.states.specs.Served.{Served, everybody, all-but, nobody}
+use Rattle.states.specs.Spots.{readBut}
+use Rattle.states.specs.Served.{Served, everybody, read-but, nobody}
 use Rattle.area.proofs.Stretches.{stretch-none, stretch-above, stretch-push}
 use Rattle.thinned.specs.Thinning.{Covered, empty, kept, left}
-use Rattle.thinned.specs.Marks.{first, other, Stale, Marked, Read, new, more, spare, Ahead, Going}
+use Rattle.thinned.specs.Marks.{first, other, Stale, Both, Marked, Read, new, more, spare, Ahead, Going}
 
 -- a stretch with one word more
 stretch-more : (b p : ℕ) (w : List ℕ) → b ≤ p → p < length w → stretch b (p + 1 - b) w ≡ stretch b (p - b) w ++ (getD w p 0 ∷ [])
@@ -28,39 +29,52 @@ stretch-more b p w h l =
     ∙ (take-suc (drop b w) (p - b) 0 (omega (arith, length-drop b w))
     ∙ ap (λ x. take (p - b) (drop b w) ++ (x ∷ [])) (getD-drop b w (p - b) 0 ∙ ap (λ x. getD w x 0) sum))
 
--- where somebody passes, one of two different boats does
-one-of-two : {T : ℕ → Bool} → Served T → (x : ℕ) → T x ≡ true → (y z : ℕ) → (y ≡ z → ⊥) → (T y ≡ true) ⊎ (T z ≡ true)
-one-of-two (everybody h) x passes y z differs = inl (h y)
-one-of-two (all-but n h) x passes y z differs = elim (ℕ-discrete y n) [
-  | yes e ↦ inr (h z ∙ ap not (ne-eqb z n (λ q. differs (e ∙ sym q))))
-  | no d ↦ inl (h y ∙ ap not (ne-eqb y n d))
-]
-one-of-two (nobody h) x passes y z differs = absurd (false≢true (sym (h x) ∙ passes))
+-- a read boat other than n's
+read-other : (B : ℕ → ℕ) (n y : ℕ) → (B y ≡ 0 → ⊥) → (y ≡ n → ⊥) → readBut B n y ≡ true
+read-other B n y read differs = rw (ne-eqb (B y) 0 read, ne-eqb y n differs)
 
-module _ (s n : ℕ) where
+-- where somebody passes, one of two different read boats does
+one-of-two : {B : ℕ → ℕ} {T : ℕ → Bool} → Served B T → (x : ℕ) → T x ≡ true → (y z : ℕ) → (B y ≡ 0 → ⊥) → (B z ≡ 0 → ⊥) → (y ≡ z → ⊥) → (T y ≡ true) ⊎ (T z ≡ true)
+one-of-two (everybody h) x passes y z read-y read-z differs = inl (h y)
+one-of-two {B} (read-but n h) x passes y z read-y read-z differs = elim (ℕ-discrete y n) [
+  | yes e ↦ inr (h z ∙ read-other B n z read-z (λ q. differs (e ∙ sym q)))
+  | no d ↦ inl (h y ∙ read-other B n y read-y d)
+]
+one-of-two (nobody h) x passes y z read-y read-z differs = absurd (false≢true (sym (h x) ∙ passes))
+
+-- where an unread boat passes, everybody does
+unread-passes : {B : ℕ → ℕ} {T : ℕ → Bool} → Served B T → (x : ℕ) → B x ≡ 0 → T x ≡ true → (y : ℕ) → T y ≡ true
+unread-passes (everybody h) x e passes y = h y
+unread-passes {B} (read-but n h) x e passes y = absurd (false≢true (sym (h x ∙ rw (eq-eqb (B x) 0 e)) ∙ passes))
+unread-passes (nobody h) x e passes y = absurd (false≢true (sym (h x) ∙ passes))
+
+module _ (s n : ℕ) (B : ℕ → ℕ) where
   -- ---- a word left out
 
   pub covered : (t x : ℕ) (vs w : List ℕ)
-      → Marked s n t vs w → x / packBy < n → first s n (x / packBy) w / packBy ≡ t → (first s n (x / packBy) w % packBy ≡ x % packBy) ⊎ (other s n (x / packBy) w ≡ t) → Covered vs x
+      → Marked s n B t vs w → x / packBy < n → first s n (x / packBy) w / packBy ≡ t
+      → (B (x % packBy) ≡ 0) ⊎ ((first s n (x / packBy) w % packBy ≡ x % packBy) ⊎ (other s n (x / packBy) w ≡ t)) → Covered B vs x
   covered t x vs w m low h (inl e) T served passes =
       let (y, has, from, is) = m .has-first (x / packBy) low h in
-      (y, has, record { from = from; passes = ap T (is ∙ e) ∙ passes })
-  covered t x vs w m low h (inr e) T served passes =
+      (y, has, record { from = from; passes = unread-passes served (x % packBy) e passes (y % packBy) })
+  covered t x vs w m low h (inr (inl e)) T served passes =
       let (y, has, from, is) = m .has-first (x / packBy) low h in
-      let (z, has′, from′, differs) = m .has-other (x / packBy) low e .1 in
+      (y, has, record { from = from; passes = ap T (is ∙ e) ∙ passes })
+  covered t x vs w m low h (inr (inr e)) T served passes =
+      let (y, has, from, is) = m .has-first (x / packBy) low h in
+      let o = m .has-other (x / packBy) low e in
       ⊎-elim
       (λ p. (y, has, record { from = from; passes = p }))
-      (λ p. (z, has′, record { from = from′; passes = p }))
-      (one-of-two served (x % packBy) passes (y % packBy) (z % packBy) (λ q. differs (sym q ∙ is)))
+      (λ p. (o .second, o .is-kept, record { from = o .from; passes = p }))
+      (one-of-two served (x % packBy) passes (y % packBy) (o .second % packBy) (λ q. o .first-read (ap B (sym is) ∙ q)) (o .is-read) (λ q. o .differs (sym q ∙ is)))
 
   -- ---- a word kept
 
   -- the marks of other places say what they said, and those of its own place say what is so
-  module _ (t x : ℕ) (vs w v : List ℕ) (m : Marked s n t vs w)
+  module _ (t x : ℕ) (vs w v : List ℕ) (m : Marked s n B t vs w)
       (same : (g : ℕ) → g < n → (g ≡ x / packBy → ⊥) → (first s n g v ≡ first s n g w) × (other s n g v ≡ other s n g w))
       (own-first : (y : ℕ) × (y ∈ (vs ++ (x ∷ []))) × (y / packBy ≡ x / packBy) × (y % packBy ≡ first s n (x / packBy) v % packBy))
-      (own-other : other s n (x / packBy) v ≡ t
-      → (first s n (x / packBy) v / packBy ≡ t) × ((y : ℕ) × (y ∈ (vs ++ (x ∷ []))) × (y / packBy ≡ x / packBy) × (y % packBy ≡ first s n (x / packBy) v % packBy → ⊥)))
+      (own-other : other s n (x / packBy) v ≡ t → Both s n B t (vs ++ (x ∷ [])) v (x / packBy))
       (own-stale : (first s n (x / packBy) v / packBy < suc t) × (other s n (x / packBy) v < suc t)) where
     all-first : (g : ℕ) → g < n → first s n g v / packBy ≡ t → (y : ℕ) × (y ∈ (vs ++ (x ∷ []))) × (y / packBy ≡ g) × (y % packBy ≡ first s n g v % packBy)
     all-first g l h = elim (ℕ-discrete g (x / packBy)) [
@@ -71,16 +85,21 @@ module _ (s n : ℕ) where
           (r .0, Memᴰ·append-left (x ∷ []) (r .1), r .2, r .3 ∙ ap (λ z. z % packBy) (sym a)))
     ]
 
-    all-other : (g : ℕ) → g < n → other s n g v ≡ t
-        → (first s n g v / packBy ≡ t) × ((y : ℕ) × (y ∈ (vs ++ (x ∷ []))) × (y / packBy ≡ g) × (y % packBy ≡ first s n g v % packBy → ⊥))
+    all-other : (g : ℕ) → g < n → other s n g v ≡ t → Both s n B t (vs ++ (x ∷ [])) v g
     all-other g l h = elim (ℕ-discrete g (x / packBy)) [
-      | yes e ↦
-          (subst (λ z. (first s n z v / packBy ≡ t) × ((y : ℕ) × (y ∈ (vs ++ (x ∷ []))) × (y / packBy ≡ z) × (y % packBy ≡ first s n z v % packBy → ⊥))) (sym e)
-          (own-other (ap (λ z. other s n z v) (sym e) ∙ h)))
+      | yes e ↦ subst (Both s n B t (vs ++ (x ∷ [])) v) (sym e) (own-other (ap (λ z. other s n z v) (sym e) ∙ h))
       | no d ↦
           (let a = same g l d .0 in
           let r = m .has-other g l (sym (same g l d .1) ∙ h) in
-          (ap (λ z. z / packBy) a ∙ r .0, (r .1 .0, Memᴰ·append-left (x ∷ []) (r .1 .1), r .1 .2, λ z. r .1 .3 (z ∙ ap (λ y. y % packBy) a))))
+          record {
+            stamped = ap (λ z. z / packBy) a ∙ r .stamped;
+            first-read = λ z. r .first-read (ap (λ y. B (y % packBy)) (sym a) ∙ z);
+            second = r .second;
+            is-kept = Memᴰ·append-left (x ∷ []) (r .is-kept);
+            from = r .from;
+            is-read = r .is-read;
+            differs = λ z. r .differs (z ∙ ap (λ y. y % packBy) a);
+          })
     ]
 
     all-stale : Stale s n (suc t) v
@@ -92,7 +111,7 @@ module _ (s n : ℕ) where
           (subst (λ z. z / packBy < suc t) (sym (a .0)) (r .0), subst (λ z. z < suc t) (sym (a .1)) (r .1)))
     ]
 
-    pub marked-kept : Marked s n t (vs ++ (x ∷ [])) v
+    pub marked-kept : Marked s n B t (vs ++ (x ∷ [])) v
     marked-kept = record { has-first = all-first; has-other = all-other; stale = all-stale }
 
   -- one mark q becomes y, and the word x comes to stand before the marks
@@ -118,14 +137,14 @@ module _ (s n : ℕ) where
 
   -- ---- the marks after a word kept
 
-  module _ (t x i : ℕ) (vs w : List ℕ) (m : Marked s n t vs w) (under : i < s) (fits : s + n + n ≤ length w) (low : x / packBy < n) where
+  module _ (t x i : ℕ) (vs w : List ℕ) (m : Marked s n B t vs w) (under : i < s) (fits : s + n + n ≤ length w) (low : x / packBy < n) where
     abbrev f : ℕ
     f = x / packBy
 
     last-in : x ∈ (vs ++ (x ∷ []))
     last-in = Memᴰ·append-right vs (List·Memᴰ·head refl)
 
-    pub marked-new : (first s n f w / packBy ≡ t → ⊥) → Marked s n t (vs ++ (x ∷ [])) (set (set w (s + f) (t * packBy + x % packBy)) i x)
+    pub marked-new : (first s n f w / packBy ≡ t → (B (first s n f w % packBy) ≡ 0) × (B (x % packBy) ≡ 0 → ⊥)) → Marked s n B t (vs ++ (x ∷ [])) (set (set w (s + f) (t * packBy + x % packBy)) i x)
     marked-new d =
         let y = t * packBy + x % packBy in
         let v = set (set w (s + f) y) i x in
@@ -137,11 +156,11 @@ module _ (s n : ℕ) where
         marked-kept t x vs w v m
         (λ g l c. (keeps (s + g) (omega arith) (λ e. c (omega (arith, e))), beside g))
         (x, last-in, refl, (let is : x % packBy ≡ y % packBy = omega arith in is ∙ ap (λ z. z % packBy) (sym own)))
-        (λ e. absurd (d (m .has-other f low (sym (beside f) ∙ e) .0)))
+        (λ e. let o = m .has-other f low (sym (beside f) ∙ e) in absurd (o .first-read (d (o .stamped) .0)))
         (omega (arith, own), subst (λ z. z < suc t) (sym (beside f)) (m .stale f low .1))
 
-    pub marked-more : first s n f w / packBy ≡ t → (first s n f w % packBy ≡ x % packBy → ⊥) → Marked s n t (vs ++ (x ∷ [])) (set (set w (s + n + f) t) i x)
-    marked-more h d =
+    pub marked-more : first s n f w / packBy ≡ t → (B (first s n f w % packBy) ≡ 0 → ⊥) → (B (x % packBy) ≡ 0 → ⊥) → (first s n f w % packBy ≡ x % packBy → ⊥) → Marked s n B t (vs ++ (x ∷ [])) (set (set w (s + n + f) t) i x)
+    marked-more h first-read is-read d =
         let v = set (set w (s + n + f) t) i x in
         let in-marks : s ≤ s + n + f = omega arith in
         let high : s + n + f < s + n + n = omega (arith, low) in
@@ -153,13 +172,21 @@ module _ (s n : ℕ) where
         marked-kept t x vs w v m
         (λ g l c. (beside g l, keeps (s + n + g) (omega arith) (λ e. c (omega (arith, e)))))
         (a .0, Memᴰ·append-left (x ∷ []) (a .1), a .2, a .3 ∙ ap (λ z. z % packBy) (sym is))
-        (λ e. (ap (λ z. z / packBy) is ∙ h, (x, last-in, refl, λ z. d (sym (z ∙ ap (λ y. y % packBy) is)))))
+        (λ e. record {
+          stamped = ap (λ z. z / packBy) is ∙ h;
+          first-read = λ z. first-read (ap (λ y. B (y % packBy)) (sym is) ∙ z);
+          second = x;
+          is-kept = last-in;
+          from = refl;
+          is-read = is-read;
+          differs = λ z. d (sym (z ∙ ap (λ y. y % packBy) is));
+        })
         (subst (λ z. z / packBy < suc t) (sym is) (m .stale f low .0), omega (arith, own))
 
 -- ---- a run under way
 
-module _ {s n : ℕ} where
-  pub going-none : {t lo hi b : ℕ} {w : List ℕ} → Ahead s n t lo hi b w → Going s n t lo b lo b w w
+module _ {s n : ℕ} {B : ℕ → ℕ} where
+  pub going-none : {t lo hi b : ℕ} {w : List ℕ} → Ahead s n t lo hi b w → Going s n B t lo b lo b w w
   going-none {t} {lo} {hi} {b} {w} a =
       let none : (c : ℕ) → stretch c (c - c) w ≡ [] = λ c. (let z : c - c ≡ 0 = omega arith in ap (λ m. stretch c m w) z ∙ stretch-none c w) in
       record {
@@ -175,7 +202,7 @@ module _ {s n : ℕ} where
         };
       }
 
-  module _ {t lo hi b p u : ℕ} {w₀ w : List ℕ} (a : Ahead s n t lo hi b w₀) (g : Going s n t lo b p u w₀ w) (less : p < hi) where
+  module _ {t lo hi b p u : ℕ} {w₀ w : List ℕ} (a : Ahead s n t lo hi b w₀) (g : Going s n B t lo b p u w₀ w) (less : p < hi) where
     -- the word read is one of the run
     read-same : getD w p 0 ≡ getD w₀ p 0
     read-same = kept-get (g .kept) p (omega (arith, less, a .apart))
@@ -197,31 +224,31 @@ module _ {s n : ℕ} where
           ∙ ap (λ z. stretch lo (p - lo) w₀ ++ (z ∷ [])) (sym (e ∙ read-same))
 
       -- a word kept with the mark q
-      going-kept : (q y : ℕ) → s ≤ q → q < s + n + n → Marked s n t (stretch b (u - b) w ++ (x ∷ [])) (set (set w q y) u x)
-          → Going s n t lo b (p + 1) (u + 1) w₀ (set (set w q y) u x)
+      going-kept : (q y : ℕ) → s ≤ q → q < s + n + n → Marked s n B t (stretch b (u - b) w ++ (x ∷ [])) (set (set w q y) u x)
+          → Going s n B t lo b (p + 1) (u + 1) w₀ (set (set w q y) u x)
       going-kept q y h l m =
-          let vs = kept-more s n w u x q y next-low h going-fits l b (g .rising) in
+          let vs = kept-more s n B w u x q y next-low h going-fits l b (g .rising) in
           record {
             begun = omega (arith, g .begun);
             rising = omega (arith, g .rising);
             few = omega (arith, g .few);
-            kept = kept-then (g .kept) (kept-both s n w u x q y next-low h going-fits l b (g .rising));
+            kept = kept-then (g .kept) (kept-both s n B w u x q y next-low h going-fits l b (g .rising));
             thin = kept (stretch lo (p - lo) w₀) (stretch b (u - b) w) x us-more vs (g .thin);
-            marked = subst (λ k. Marked s n t k (set (set w q y) u x)) (sym vs) m;
+            marked = subst (λ k. Marked s n B t k (set (set w q y) u x)) (sym vs) m;
           }
 
-      shown-as : {r i : ℕ} {v l : List ℕ} → r ≡ i → v ≡ l → Going s n t lo b (p + 1) i w₀ l → Going s n t lo b (p + 1) r w₀ v
-      shown-as {r} {i} {v} {l} er ev x = subst (λ j. Going s n t lo b (p + 1) j w₀ v) (sym er) (subst (λ k. Going s n t lo b (p + 1) i w₀ k) (sym ev) x)
+      shown-as : {r i : ℕ} {v l : List ℕ} → r ≡ i → v ≡ l → Going s n B t lo b (p + 1) i w₀ l → Going s n B t lo b (p + 1) r w₀ v
+      shown-as {r} {i} {v} {l} er ev x = subst (λ j. Going s n B t lo b (p + 1) j w₀ v) (sym er) (subst (λ k. Going s n B t lo b (p + 1) i w₀ k) (sym ev) x)
 
-      pub going-read : {r : ℕ} {v : List ℕ} → Read s n t x u w r v → Going s n t lo b (p + 1) r w₀ v
+      pub going-read : {r : ℕ} {v : List ℕ} → Read s n B t x u w r v → Going s n B t lo b (p + 1) r w₀ v
       going-read (new d er ev) =
           shown-as er ev
           (going-kept (s + x / packBy) (t * packBy + x % packBy) (omega arith) (omega (arith, read-low e))
-          (marked-new s n t x u (stretch b (u - b) w) w (g .marked) next-low going-fits (read-low e) d))
-      going-read (more h d er ev) =
+          (marked-new s n B t x u (stretch b (u - b) w) w (g .marked) next-low going-fits (read-low e) d))
+      going-read (more h first-read is-read d er ev) =
           shown-as er ev
           (going-kept (s + n + x / packBy) t (omega arith) (omega (arith, read-low e))
-          (marked-more s n t x u (stretch b (u - b) w) w (g .marked) next-low going-fits (read-low e) h d))
+          (marked-more s n B t x u (stretch b (u - b) w) w (g .marked) next-low going-fits (read-low e) h first-read is-read d))
       going-read (spare h d er ev) =
           shown-as er ev
           (record {
@@ -229,6 +256,6 @@ module _ {s n : ℕ} where
             rising = g .rising;
             few = omega (arith, g .few);
             kept = g .kept;
-            thin = left (stretch lo (p - lo) w₀) x us-more (g .thin) (covered s n t x (stretch b (u - b) w) w (g .marked) (read-low e) h d);
+            thin = left (stretch lo (p - lo) w₀) x us-more (g .thin) (covered s n B t x (stretch b (u - b) w) w (g .marked) (read-low e) h d);
             marked = g .marked;
           })

@@ -67,7 +67,7 @@ run-places plan of w k places r room p l h =
 module _ {plan : Plan} {of at : ℕ} where
   -- ---- the run of a key, by the numbers that the code has of it
 
-  module _ {w : List ℕ} (d : Ground plan of at w) {k : ℕ} (under : k < keys Order.Kind plan) (m : Made plan of at k w) {s t lo hi b : ℕ}
+  module _ {B : ℕ → ℕ} {w : List ℕ} (d : Ground plan of at w) {k : ℕ} (under : k < keys Order.Kind plan) (m : Made plan of at B k w) {s t lo hi b : ℕ}
       (es : s ≡ sortedEnd Order.Kind plan at) (et : t ≡ suc k) (el : lo ≡ getD w (of + k) 0) (eh : hi ≡ getD w (of + suc k) 0) (eb : b ≡ getD w (at + k) 0) where
     run : Run Order.Kind plan of w k
     run = d .sorted k under
@@ -85,7 +85,7 @@ module _ {plan : Plan} {of at : ℕ} where
 
     -- ---- the key after its run: the word at its end says where the next key's words begin
 
-    module _ {u : List ℕ} {r q : ℕ} (eq : q ≡ at + suc k) (g : Going s (plan .places) t lo b hi r w u) where
+    module _ {u : List ℕ} {r q : ℕ} (eq : q ≡ at + suc k) (g : Going s (plan .places) B t lo b hi r w u) where
       abbrev v : List ℕ
       v = set u q r
 
@@ -127,7 +127,7 @@ module _ {plan : Plan} {of at : ℕ} where
           stretch-below c n u q r (omega (arith, x .low, eq, under)) ∙ kept-stretch (g .kept) c n (omega (arith, x .rising, m .before i h, eb)) room
 
       -- its own run
-      own-run : ThinRun plan of at v k
+      own-run : ThinRun B plan of at v k
       own-run =
           let start = same-at k (omega arith) ∙ sym eb in
           let xs = cut-as _ _ _ _ v w (same-of k (omega (arith, under))) (same-of (suc k) under) (same-run k under) in
@@ -139,12 +139,12 @@ module _ {plan : Plan} {of at : ℕ} where
             has = thin-as (xs ∙ (λ z. stretch (sym el z) (sym eh z - sym el z) w)) ys (g .thin);
           }
 
-      all-runs : (j : ℕ) → j < suc k → ThinRun plan of at v j
+      all-runs : (j : ℕ) → j < suc k → ThinRun B plan of at v j
       all-runs j h = elim (ℕ-discrete j k) [
-        | yes e ↦ subst (ThinRun plan of at v) (sym e) own-run
+        | yes e ↦ subst (ThinRun B plan of at v) (sym e) own-run
         | no c ↦
             (let less : j < k = omega (arith, c, h) in
-            thin-run-as plan of at w v j (same-of j (omega (arith, less, under))) (same-of (suc j) (omega (arith, less, under))) (same-at j (omega (arith, less))) (same-at (suc j) less)
+            thin-run-as B plan of at w v j (same-of j (omega (arith, less, under))) (same-of (suc j) (omega (arith, less, under))) (same-at j (omega (arith, less))) (same-at (suc j) less)
             (same-run j (omega (arith, less, under))) (same-thin j less) (m .runs j less))
       ]
 
@@ -165,7 +165,7 @@ module _ {plan : Plan} {of at : ℕ} where
           let two = same (sortedEnd Order.Kind plan at + plan .places + f) (omega arith) in
           (subst (λ z. z / packBy < suc (suc k)) (sym one) (run-stale f l .0), subst (λ z. z < suc (suc k)) (sym two) (run-stale f l .1))
 
-      pub made-key : Made plan of at (suc k) v
+      pub made-key : Made plan of at B (suc k) v
       made-key = record {
         begins = omega (arith, end-at, past, g .rising);
         few = omega (arith, end-at, same-of (suc k) under, eh, el, eb, g .few, m .few);
@@ -210,8 +210,8 @@ module _ {plan : Plan} {of at : ℕ} where
         ∙ (sym (stretch-get b n zeros i h)
         ∙ (ap (λ l. getD l i 0) (patch-same b n (replicate n 0) w (length-replicate n 0) fits) ∙ getD-replicate n i 0 0 h)))
 
-    pub made-none : Made plan of at 0 (set zeros at u)
-    made-none =
+    pub made-none : (B : ℕ → ℕ) → Made plan of at B 0 (set zeros at u)
+    made-none B =
         let here : at + 0 ≡ at = omega arith in
         let head : getD (set zeros at u) (at + 0) 0 ≡ u = ap (λ x. getD (set zeros at u) x 0) here ∙ getD-set-same zeros at u 0 (omega (arith, zeros-kept .long, d .room)) in
         let run : getD (set zeros at u) (of + 0) 0 ≡ getD w (of + 0) 0 = kept-get none-kept (of + 0) (omega (arith, d .apart)) in

@@ -16,11 +16,11 @@ use Rattle.thinned.specs.Thinning.{Thin, thinEnd, ThinRun, FromPlaces}
 -- ---- marks: n words from word s on, and n more; t is the stamp of the run at hand, and no other run has it
 
 module _ (s n : ℕ) where
-  -- the stamp times packBy and the boat number of the first word of place f that is kept
+  -- the stamp times packBy and the boat number of the first word of place f that is kept, or, if that is unread, of the first read one
   abbrev pub first : ℕ → List ℕ → ℕ
   first f w = getD w (s + f) 0
 
-  -- the stamp, where a word of place f with another boat number is kept too
+  -- the stamp, where a word of place f with another read boat is kept too
   abbrev pub other : ℕ → List ℕ → ℕ
   other f w = getD w (s + n + f) 0
 
@@ -28,18 +28,29 @@ module _ (s n : ℕ) where
   abbrev pub Stale : ℕ → List ℕ → Type 0
   Stale t w = (f : ℕ) → f < n → (first f w / packBy < t) × (other f w < t)
 
-  -- vs are the words kept of the run: what the marks with its stamp say is so
-  pub record Marked (t : ℕ) (vs w : List ℕ) : Type 0 where
+  -- of place f two different read boats are kept
+  pub record Both (B : ℕ → ℕ) (t : ℕ) (vs w : List ℕ) (f : ℕ) : Type 0 where
+    pub stamped : first f w / packBy ≡ t
+    pub first-read : B (first f w % packBy) ≡ 0 → ⊥
+    pub second : ℕ
+    pub is-kept : second ∈ vs
+    pub from : second / packBy ≡ f
+    pub is-read : B (second % packBy) ≡ 0 → ⊥
+    pub differs : second % packBy ≡ first f w % packBy → ⊥
+
+  -- vs are the words kept of the run, by the boats' table B: what the marks with its stamp say is so
+  pub record Marked (B : ℕ → ℕ) (t : ℕ) (vs w : List ℕ) : Type 0 where
     pub has-first : (f : ℕ) → f < n → first f w / packBy ≡ t → (y : ℕ) × (y ∈ vs) × (y / packBy ≡ f) × (y % packBy ≡ first f w % packBy)
-    pub has-other : (f : ℕ) → f < n → other f w ≡ t
-        → (first f w / packBy ≡ t) × ((y : ℕ) × (y ∈ vs) × (y / packBy ≡ f) × (y % packBy ≡ first f w % packBy → ⊥))
+    pub has-other : (f : ℕ) → f < n → other f w ≡ t → Both B t vs w f
     pub stale : Stale (suc t) w
 
   -- the word x is read, and the next word kept is to stand at word i; u is where the one after it is to stand then
-  pub data Read (t x i : ℕ) (w : List ℕ) (u : ℕ) (v : List ℕ) : Type 0 where
-    new : (first (x / packBy) w / packBy ≡ t → ⊥) → u ≡ i + 1 → v ≡ set (set w (s + x / packBy) (t * packBy + x % packBy)) i x → Read t x i w u v
-    more : first (x / packBy) w / packBy ≡ t → (first (x / packBy) w % packBy ≡ x % packBy → ⊥) → u ≡ i + 1 → v ≡ set (set w (s + n + x / packBy) t) i x → Read t x i w u v
-    spare : first (x / packBy) w / packBy ≡ t → (first (x / packBy) w % packBy ≡ x % packBy) ⊎ (other (x / packBy) w ≡ t) → u ≡ i → v ≡ w → Read t x i w u v
+  pub data Read (B : ℕ → ℕ) (t x i : ℕ) (w : List ℕ) (u : ℕ) (v : List ℕ) : Type 0 where
+    new : (first (x / packBy) w / packBy ≡ t → (B (first (x / packBy) w % packBy) ≡ 0) × (B (x % packBy) ≡ 0 → ⊥))
+        → u ≡ i + 1 → v ≡ set (set w (s + x / packBy) (t * packBy + x % packBy)) i x → Read B t x i w u v
+    more : first (x / packBy) w / packBy ≡ t → (B (first (x / packBy) w % packBy) ≡ 0 → ⊥) → (B (x % packBy) ≡ 0 → ⊥) → (first (x / packBy) w % packBy ≡ x % packBy → ⊥)
+        → u ≡ i + 1 → v ≡ set (set w (s + n + x / packBy) t) i x → Read B t x i w u v
+    spare : first (x / packBy) w / packBy ≡ t → (B (x % packBy) ≡ 0) ⊎ ((first (x / packBy) w % packBy ≡ x % packBy) ⊎ (other (x / packBy) w ≡ t)) → u ≡ i → v ≡ w → Read B t x i w u v
 
   -- the marks are words of the area
   abbrev pub MarksFit : List ℕ → Type 0
@@ -57,13 +68,13 @@ module _ (s n : ℕ) where
     pub stamp-low : t ≤ 16384
 
   -- its words before word p are read, and those kept stand before word u; w₀ are the words at its start
-  pub record Going (t lo b p u : ℕ) (w₀ w : List ℕ) : Type 0 where
+  pub record Going (B : ℕ → ℕ) (t lo b p u : ℕ) (w₀ w : List ℕ) : Type 0 where
     pub begun : lo ≤ p
     pub rising : b ≤ u
     pub few : u + lo ≤ b + p
     pub kept : Kept b (s + n + n) w₀ w
-    pub thin : Thin (stretch lo (p - lo) w₀) (stretch b (u - b) w)
-    pub marked : Marked t (stretch b (u - b) w) w
+    pub thin : Thin B (stretch lo (p - lo) w₀) (stretch b (u - b) w)
+    pub marked : Marked B t (stretch b (u - b) w) w
 
 -- ---- all keys
 
@@ -79,9 +90,9 @@ module _ (plan : Plan) (of at : ℕ) where
     pub small : thinEnd plan at < 4294967296
 
   -- the keys below k are done: the words of key k are to begin where its word says, as far on at most as those of the sorted table
-  pub record Made (k : ℕ) (w : List ℕ) : Type 0 where
+  pub record Made (B : ℕ → ℕ) (k : ℕ) (w : List ℕ) : Type 0 where
     pub begins : linesFrom Order.Kind plan at ≤ getD w (at + k) 0
     pub few : getD w (at + k) 0 + of ≤ getD w (of + k) 0 + at
-    pub runs : (j : ℕ) → j < k → ThinRun plan of at w j
+    pub runs : (j : ℕ) → j < k → ThinRun B plan of at w j
     pub before : (j : ℕ) → j < k → getD w (at + suc j) 0 ≤ getD w (at + k) 0
     pub stale : Stale (sortedEnd Order.Kind plan at) (plan .places) (suc k) w

@@ -7,14 +7,14 @@ use native.Mathlib.Omega.{arith}
 use lib.ListN.{length, getD, drop}
 use Rattle.request.specs.Layout.{Laid, filedEnd}
 use Rattle.request.specs.declared.Plan.{Plan}
-use Rattle.search.specs.Loaded.{codeAt}
+use Rattle.search.specs.Loaded.{boatAt, codeAt}
 use Rattle.sorted.specs.Sorting.{packBy, keys, packIn, having, sortedEnd, Sorted, Kept}
 use Rattle.sorted.specs.Runs.{same-word, same-stretch}
 use Rattle.sorted.specs.declared.Order.{Order}
 use Rattle.sorted.specs.declared.Order.the-variants as Order
 use Rattle.sorted.proofs.Turns.{kept-take, kept-get}
 use Rattle.area.specs.Area.{stretch}
-use Rattle.states.specs.Spots.{front, Starts}
+use Rattle.states.specs.Spots.{front, boatsIn, Starts}
 use Rattle.area.proofs.Stretches.{stretch-take}
 use Rattle.thinned.specs.Thinning.{Thin, FromPlaces, thinEnd, ThinRun, Thinned}
 
@@ -32,8 +32,17 @@ module _ {plan : Plan} {area : ℕ} (l : Laid plan area) where
   unfolding keys
   stamps-are = omega (arith, l .stamps-at)
 
+  -- and what is loaded before it
+  pub base-before : plan .base ≤ plan .thin
+  base-before = omega (arith, l .kinds-at, l .boats-at, l .thin-at)
+
   pub filed-end : filedEnd plan ≡ thinEnd plan (plan .thin)
   filed-end = omega (arith, stamps-are)
+
+-- ---- the boats' table stands before the words that change
+
+pub boats-kept : (plan : Plan) {from to : ℕ} {w v : List ℕ} → Kept from to w v → plan .base ≤ from → boatsIn plan v ≡ boatsIn plan w
+boats-kept plan c past = ap (λ g. boatAt plan g) (kept-take c (plan .base) past)
 
 -- ---- a run as it was
 
@@ -41,16 +50,16 @@ module _ {plan : Plan} {area : ℕ} (l : Laid plan area) where
 pub cut-as : (a b c d : ℕ) (v w : List ℕ) → a ≡ c → b ≡ d → stretch c (d - c) v ≡ stretch c (d - c) w → stretch a (b - a) v ≡ stretch c (d - c) w
 cut-as a b c d v w e f h = (λ t. stretch (e t) (f t - e t) v) ∙ h
 
-pub thin-as : {xs ys us vs : List ℕ} → us ≡ xs → vs ≡ ys → Thin xs ys → Thin us vs
-thin-as {xs} {ys} {us} {vs} e f t = subst (λ l. Thin l vs) (sym e) (subst (Thin xs) (sym f) t)
+pub thin-as : {B : ℕ → ℕ} {xs ys us vs : List ℕ} → us ≡ xs → vs ≡ ys → Thin B xs ys → Thin B us vs
+thin-as {B} {xs} {ys} {us} {vs} e f t = subst (λ l. Thin B l vs) (sym e) (subst (Thin B xs) (sym f) t)
 
 -- its words say the same, and the words there are the same
-module _ (plan : Plan) (of at : ℕ) (w v : List ℕ) (k : ℕ)
+module _ (B : ℕ → ℕ) (plan : Plan) (of at : ℕ) (w v : List ℕ) (k : ℕ)
     (lo : getD v (of + k) 0 ≡ getD w (of + k) 0) (hi : getD v (of + suc k) 0 ≡ getD w (of + suc k) 0)
     (b : getD v (at + k) 0 ≡ getD w (at + k) 0) (e : getD v (at + suc k) 0 ≡ getD w (at + suc k) 0)
     (xs : stretch (getD w (of + k) 0) (getD w (of + suc k) 0 - getD w (of + k) 0) v ≡ stretch (getD w (of + k) 0) (getD w (of + suc k) 0 - getD w (of + k) 0) w)
     (ys : stretch (getD w (at + k) 0) (getD w (at + suc k) 0 - getD w (at + k) 0) v ≡ stretch (getD w (at + k) 0) (getD w (at + suc k) 0 - getD w (at + k) 0) w) where
-  pub thin-run-as : ThinRun plan of at w k → ThinRun plan of at v k
+  pub thin-run-as : ThinRun B plan of at w k → ThinRun B plan of at v k
   thin-run-as r =
       record {
         low = rw b (r .low);
@@ -59,9 +68,9 @@ module _ (plan : Plan) (of at : ℕ) (w v : List ℕ) (k : ℕ)
         has = thin-as (cut-as _ _ _ _ v w lo hi xs) (cut-as _ _ _ _ v w b e ys) (r .has);
       }
 
--- ---- a thin table, its words and those of the sorted one being as they were
+-- ---- a thin table, its words, those of the sorted one and those of the loaded record being as they were
 
-module _ (plan : Plan) (of at : ℕ) (w v : List ℕ) (s : Sorted Order.Kind plan of w) (t : Thinned plan of at w) (d : drop of v ≡ drop of w) (h : of ≤ at) where
+module _ (plan : Plan) (of at : ℕ) (w v : List ℕ) (s : Sorted Order.Kind plan of w) (t : Thinned plan of at w) (d : drop of v ≡ drop of w) (f : front plan v ≡ front plan w) (h : of ≤ at) where
   word-at : (n : ℕ) → getD v (at + n) 0 ≡ getD w (at + n) 0
   word-at n =
       let sum : at + n ≡ of + (at - of + n) = omega arith in
@@ -69,8 +78,8 @@ module _ (plan : Plan) (of at : ℕ) (w v : List ℕ) (s : Sorted Order.Kind pla
 
   pub thin-same : Thinned plan of at v
   thin-same k l =
-      let r = t k l in
-      thin-run-as plan of at w v k (same-word of w v d k) (same-word of w v d (suc k)) (word-at k) (word-at (suc k))
+      let r = subst (λ g. ThinRun (boatAt plan g) plan of at w k) (sym f) (t k l) in
+      thin-run-as (boatsIn plan v) plan of at w v k (same-word of w v d k) (same-word of w v d (suc k)) (word-at k) (word-at (suc k))
       (same-stretch of w v d (getD w (of + k) 0) (getD w (of + suc k) 0 - getD w (of + k) 0) (omega (arith, s k l .low)))
       (same-stretch of w v d (getD w (at + k) 0) (getD w (at + suc k) 0 - getD w (at + k) 0) (omega (arith, r .low, h)))
       r

@@ -1,6 +1,6 @@
 -- What the stacks of one line do where a way by one run is chosen, case by case: one push at most (`Single`).
 use mathlib.Core.Path.{_≡_, refl, sym, ap, _∙_}
-use mathlib.Core.Bool.{Bool, true, false, cond, not}
+use mathlib.Core.Bool.{Bool, true, false, cond, not, _&&_}
 use Prim.Native.Nat.{ℕ, suc, _+_, _*_, _^_, _/_, _%_, _<_, _≤_}
 use native.Mathlib.Nat.{mul-zero, mul-comm, mul-le-mul, pow-suc, mod-le}
 use native.Mathlib.Omega.{arith}
@@ -9,15 +9,15 @@ use lib.Dec.{eqb}
 use borrow.Author.Tests.{ne-eqb}
 use Rattle.request.specs.Layout.{largest}
 use Rattle.request.specs.declared.Plan.{Plan}
-use Rattle.graph.specs.Loops.{turns}
-use Rattle.graph.specs.Table.{Search, push}
-use Rattle.states.specs.Spots.{okay, OnlyKept, stackTurn}
+use Rattle.graph.specs.Table.{push}
+use Rattle.states.specs.Spots.{okay, readBy, readBut, OnlyKept}
 use Rattle.states.specs.declared.Spot.{Spot}
 use Rattle.states.specs.declared.Target.{Target}
 use Rattle.states.proofs.Bounds.{power-fits, power-small}
 use Rattle.sorted.specs.Sorting.{packBy}
-use Rattle.ways.specs.Ways.{Single, Before}
-use Rattle.ways.proofs.Right.{stack-plain, stack-pushed, stack-forgotten, stack-left, stack-fits}
+use Rattle.ways.specs.Ways.{takenBy, Single, Before}
+use Rattle.ways.specs.declared.Taking.the-variants as Taking
+use Rattle.ways.proofs.Right.{both, stack-plain, stack-pushed, stack-forgotten, stack-left, stack-fits}
 
 -- keys of places and boats are small
 pub by-boat : (p R x : ℕ) → p < 1024 → R ≤ 4097 → x < R → (p * R ≤ 4195328) × (p * R + x < 4200000)
@@ -28,6 +28,13 @@ pub shallow : {plan : Plan} {s : Spot} {t : Target} {c leaves : ℕ} → Before 
 shallow b = record { area = b .area; laid = b .laid; aimed = b .aimed; sane = b .sane; kind-low = b .kind-low; position-low = b .position-low; leaves-low = b .aimed .depth-low }
 
 module _ (plan : Plan) (s : Spot) (t : Target) (c leaves : ℕ) (b : Before plan s t c leaves) where
+  pub before-fits : t .stack % s .weight < plan .stacks
+  before-fits = omega (arith, mod-le (t .stack) (s .weight), stack-fits plan s t c leaves b)
+
+  pub weight-small : t .weight ≤ largest
+  weight-small = omega (arith, b .aimed .weight-is, power-small (b .laid) (t .depth) (b .aimed .depth-low))
+
+module _ (B : ℕ → ℕ) (plan : Plan) (s : Spot) (t : Target) (c leaves : ℕ) (b : Before plan s t c leaves) where
   abbrev R : ℕ
   R = plan .radix
 
@@ -37,7 +44,7 @@ module _ (plan : Plan) (s : Spot) (t : Target) (c leaves : ℕ) (b : Before plan
 
   -- ---- the same, said otherwise
 
-  single-as : {count : ℕ} {p : ℕ → Bool} {u : ℕ → ℕ} (q : ℕ → Bool) (v : ℕ → ℕ) → ((x : ℕ) → x < R → p x ≡ q x) → ((x : ℕ) → u x ≡ v x) → Single plan s t count p u → Single plan s t count q v
+  single-as : {count : ℕ} {p : ℕ → Bool} {u : ℕ → ℕ} (q : ℕ → Bool) (v : ℕ → ℕ) → ((x : ℕ) → x < R → p x ≡ q x) → ((x : ℕ) → u x ≡ v x) → Single B plan s t count p u → Single B plan s t count q v
   single-as q v same is one =
       record {
         fits = λ x low. omega (arith, one .fits x low, is x);
@@ -45,55 +52,60 @@ module _ (plan : Plan) (s : Spot) (t : Target) (c leaves : ℕ) (b : Before plan
       }
 
   -- with the line's number at the weight 0
-  flat : {count : ℕ} {p : ℕ → Bool} → Single plan s t count p (λ x. t .stack) → Single plan s t count p (λ x. t .stack + x * 0)
+  flat : {count : ℕ} {p : ℕ → Bool} → Single B plan s t count p (λ x. t .stack) → Single B plan s t count p (λ x. t .stack + x * 0)
   flat {p = p} one = single-as p (λ x. t .stack + x * 0) (λ x low. refl) (λ x. omega (arith, mul-zero x)) one
 
   -- ---- the stack after the position is the state's
 
-  plain : s .push ≡ false → (p : ℕ → Bool) → ((x : ℕ) → x < R → okay R s x (t .stack) ≡ p x) → Single plan s t 1 p (λ x. t .stack)
+  plain : s .push ≡ false → (p : ℕ → Bool) → ((x : ℕ) → x < R → okay B R s x (t .stack) ≡ p x) → Single B plan s t 1 p (λ x. t .stack)
   plain e p is =
       record {
         fits = λ x low. stack-fits plan s t c leaves b;
-        law = λ d home x low st. stack-plain R s d home x (t .weight) (t .stack) st e ∙ ap (λ z. cond z (push d (home + t .stack) st) st) (is x low);
+        law = λ d home x low st. stack-plain B R s d home x (t .weight) (t .stack) st e ∙ ap (λ z. cond z (push d (home + t .stack) st) st) (is x low);
       }
 
-  pub any-single : s .push ≡ false → ((x : ℕ) → okay R s x (t .stack) ≡ true) → Single plan s t 1 (λ x. not (eqb x packBy)) (λ x. t .stack + x * 0)
-  any-single e any = flat (plain e (λ x. not (eqb x packBy)) (λ x low. any x ∙ sym (no-number x low)))
+  pub any-single : s .push ≡ false → (n : ℕ) → ((x : ℕ) → okay B R s x (t .stack) ≡ true) → Single B plan s t 1 (λ x. takenBy B Taking.All x n) (λ x. t .stack + x * 0)
+  any-single e n any = flat (plain e (λ x. true) (λ x low. any x))
 
-  pub only-single : s .push ≡ false → (y : ℕ) → ((x : ℕ) → okay R s x (t .stack) ≡ eqb x y) → Single plan s t 1 (λ x. eqb x y) (λ x. t .stack)
+  pub only-single : s .push ≡ false → (y : ℕ) → ((x : ℕ) → okay B R s x (t .stack) ≡ eqb x y) → Single B plan s t 1 (λ x. eqb x y) (λ x. t .stack)
   only-single e y is = plain e (λ x. eqb x y) (λ x low. is x)
 
-  pub but-single : s .push ≡ false → (y : ℕ) → ((x : ℕ) → okay R s x (t .stack) ≡ not (eqb x y)) → Single plan s t 1 (λ x. not (eqb x y)) (λ x. t .stack + x * 0)
-  but-single e y is = flat (plain e (λ x. not (eqb x y)) (λ x low. is x))
+  pub but-single : s .push ≡ false → (y : ℕ) → ((x : ℕ) → okay B R s x (t .stack) ≡ readBut B y x) → Single B plan s t 1 (λ x. takenBy B Taking.ReadBut x y) (λ x. t .stack + x * 0)
+  but-single e y is = flat (plain e (λ x. readBut B y x) (λ x low. is x))
 
-  pub before-fits : t .stack % s .weight < plan .stacks
-  before-fits = omega (arith, mod-le (t .stack) (s .weight), stack-fits plan s t c leaves b)
-
-  pub push-single : s .push ≡ true → ((x : ℕ) → okay R s x (t .stack % s .weight) ≡ true) → Single plan s t 1 (λ x. eqb x (t .stack / s .weight)) (λ x. t .stack % s .weight)
+  pub push-single : s .push ≡ true → ((x : ℕ) → okay B R s x (t .stack % s .weight) ≡ true) → Single B plan s t 1 (λ x. eqb x (t .stack / s .weight)) (λ x. t .stack % s .weight)
   push-single e any =
       record {
-        fits = λ x low. before-fits;
-        law = λ d home x low st. stack-pushed R s d home x (t .weight) (t .stack) st e (b .sane .some-weight) (any x);
+        fits = λ x low. before-fits plan s t c leaves b;
+        law = λ d home x low st. stack-pushed B R s d home x (t .weight) (t .stack) st e (b .sane .some-weight) (any x);
       }
 
   -- ---- it has one boat more, which is forgotten
 
-  -- each line is taken
-  each : {u : ℕ → ℕ} → ((x : ℕ) → x < R → u x < plan .stacks)
-      → ((d home x : ℕ) → x < R → (st : Search) → turns (stackTurn R s d home x (t .weight) (t .stack)) 0 R st ≡ push d (home + u x) st) → Single plan s t R (λ x. not (eqb x packBy)) u
-  each {u} fits h = single-as (λ x. not (eqb x packBy)) u (λ x low. sym (no-number x low)) (λ x. refl) (record { fits = fits; law = h })
+  pub drop-single : s .push ≡ true → s .weight ≡ t .weight → (n : ℕ) → ((x : ℕ) → okay B R s x (t .stack) ≡ true) → Single B plan s t R (λ x. takenBy B Taking.All x n) (λ x. t .stack + x * 0)
+  drop-single e same n any =
+      flat
+      (record {
+        fits = λ x low. stack-fits plan s t c leaves b;
+        law = λ d home x low st. stack-forgotten B R s d home x (t .weight) (t .stack) st e same (any x) (b .aimed .stack-low) low;
+      })
 
-  pub drop-single : s .push ≡ true → s .weight ≡ t .weight → ((x : ℕ) → okay R s x (t .stack) ≡ true) → Single plan s t R (λ x. not (eqb x packBy)) (λ x. t .stack + x * 0)
-  drop-single e same any =
-      flat (each (λ x low. stack-fits plan s t c leaves b) (λ d home x low st. stack-forgotten R s d home x (t .weight) (t .stack) st e same (any x) (b .aimed .stack-low) low))
-
-  pub weight-small : t .weight ≤ largest
-  weight-small = omega (arith, b .aimed .weight-is, power-small (b .laid) (t .depth) (b .aimed .depth-low))
-
-  pub left-single : s .push ≡ false → OnlyKept s → s .level ≡ t .weight → leaves ≡ suc (t .depth) → Single plan s t R (λ x. not (eqb x packBy)) (λ x. t .stack + x * t .weight)
+  -- every read boat is another than one that has no number
+  pub left-single : s .push ≡ false → OnlyKept s → s .level ≡ t .weight → leaves ≡ suc (t .depth) → Single B plan s t R (λ x. takenBy B Taking.ReadBut x packBy) (λ x. t .stack + x * t .weight)
   left-single e only same deep =
-      each fits (λ d home x low st. stack-left R s d home x (t .weight) (t .stack) st e only same (b .aimed .stack-low) low ∙ ap (λ z. push d z st) (omega arith))
+      record {
+        fits = fits;
+        law = λ d home x low st.
+            stack-left B R s d home x (t .weight) (t .stack) st e only same (b .aimed .stack-low) low
+            ∙ (λ i. cond (read-is x low i) (push d (home + sum x i) st) st);
+      }
     where
+      read-is : (x : ℕ) → x < R → readBy B x ≡ readBut B packBy x
+      read-is x low = sym (ap (readBy B x &&_) (no-number x low) ∙ both (readBy B x))
+
+      sum : (x : ℕ) → x * t .weight + t .stack ≡ t .stack + x * t .weight
+      sum x = omega arith
+
       fits : (x : ℕ) → x < R → t .stack + x * t .weight < plan .stacks
       fits x low =
           let in-one : x * t .weight + t .stack < R * t .weight = digits-lt low (b .aimed .stack-low) in

@@ -23,19 +23,19 @@ use Rattle.area.proofs.Stretches.{stretch-get, stretch-length}
 use Rattle.ways.specs.Ways.{laneState, takenBy, laneTurn, runTurn}
 use Rattle.ways.specs.declared.Lane.{Lane}
 
-module _ (lane : Lane) (d e : ℕ) (st : Search) where
-  pub lane-taken : (s : ℕ) → takenBy (lane .only) (e % packBy) (lane .number) ≡ true → s ≡ laneState lane e → laneTurn d lane e st ≡ push d s st
+module _ (B : ℕ → ℕ) (lane : Lane) (d e : ℕ) (st : Search) where
+  pub lane-taken : (s : ℕ) → takenBy B (lane .taking) (e % packBy) (lane .number) ≡ true → s ≡ laneState lane e → laneTurn B d lane e st ≡ push d s st
   unfolding laneTurn
   lane-taken s goes is = rw (goes, ← is)
 
-  pub lane-passed : takenBy (lane .only) (e % packBy) (lane .number) ≡ false → laneTurn d lane e st ≡ st
+  pub lane-passed : takenBy B (lane .taking) (e % packBy) (lane .number) ≡ false → laneTurn B d lane e st ≡ st
   unfolding laneTurn
   lane-passed stays = rw stays
 
   -- a state that has been met is not pushed, whether the word is taken or not
-  pub lane-met : (s : ℕ) → s ≡ laneState lane e → (getD (st .dist) s 0 ≡ 0 → ⊥) → laneTurn d lane e st ≡ st
+  pub lane-met : (s : ℕ) → s ≡ laneState lane e → (getD (st .dist) s 0 ≡ 0 → ⊥) → laneTurn B d lane e st ≡ st
   unfolding laneTurn
-  lane-met s is met = go (takenBy (lane .only) (e % packBy) (lane .number))
+  lane-met s is met = go (takenBy B (lane .taking) (e % packBy) (lane .number))
     where
       go : (b : Bool) → cond b (push d (laneState lane e) st) st ≡ st
       go true = ap (λ n. push d n st) (sym is) ∙ push-met d s st met

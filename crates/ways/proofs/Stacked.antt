@@ -16,7 +16,7 @@ use Rattle.sorted.specs.Sorting.{packBy, keys, packIn, Run}
 use Rattle.sorted.specs.declared.Order.the-variants as Order
 use Rattle.area.specs.Area.{stretch}
 use Rattle.states.specs.Served.{Thinnable}
-use Rattle.states.specs.Spots.{front, lineTurn}
+use Rattle.states.specs.Spots.{front, boatsIn, lineTurn}
 use Rattle.states.specs.declared.Spot.{Spot}
 use Rattle.states.specs.declared.Target.{Target}
 use Rattle.states.proofs.Bounds.{state-low}
@@ -43,7 +43,7 @@ module _ (plan : Plan) (w : List ℕ) (laid : Laid plan (length w)) (told : Told
   run : Run Order.Kind plan (plan .bykind) w key
   run = filed .kinds key (key-low plan (t .place) (s .kind) place-low kind-low)
 
-  thin : ThinRun plan (plan .bykind) (plan .thin) w key
+  thin : ThinRun (boatsIn plan w) plan (plan .bykind) (plan .thin) w key
   thin = filed .thin key (key-low plan (t .place) (s .kind) place-low kind-low)
 
   -- a line's word says a place
@@ -51,9 +51,9 @@ module _ (plan : Plan) (w : List ℕ) (laid : Laid plan (length w)) (told : Told
   pack-low = from-places plan w (told .starts) (λ i h. omega (arith, told .codes-low i h, laid .few-boats))
 
   -- going over all lines is going over those of the key
-  by-key : (d c count : ℕ) (st : Search) → turns (lineTurn plan (front plan w) s t d c count) 0 (plan .lines) st ≡ turns (runTurn Order.Kind plan (front plan w) key (stackedTurn plan s t d c count)) 0 (plan .lines) st
+  by-key : (d c count : ℕ) (st : Search) → turns (lineTurn plan (front plan w) s t d c count) 0 (plan .lines) st ≡ turns (runTurn Order.Kind plan (front plan w) key (stackedTurn plan s t (boatsIn plan w) d c count)) 0 (plan .lines) st
   by-key d c count st =
-      turns-alike (lineTurn plan (front plan w) s t d c count) (runTurn Order.Kind plan (front plan w) key (stackedTurn plan s t d c count)) 0 (plan .lines) (plan .lines) (omega arith)
+      turns-alike (lineTurn plan (front plan w) s t d c count) (runTurn Order.Kind plan (front plan w) key (stackedTurn plan s t (boatsIn plan w) d c count)) 0 (plan .lines) (plan .lines) (omega arith)
       (λ i less b. stacked-line plan (front plan w) told (laid .few-boats) i less s t d c count b kind-low) st
 
   module _ (lo hi : ℕ) (rising : lo ≤ hi) (inside : hi ≤ length w) where
@@ -71,8 +71,8 @@ module _ (plan : Plan) (w : List ℕ) (laid : Laid plan (length w)) (told : Told
               };
           same = λ d c count some low fits st long.
               by-key d c count st
-              ∙ (turns-run Order.Kind plan (plan .bykind) w key run (kinds-fit laid filed) _ (stackedTurn plan s t d c count) (λ i less b. run-turn _ _ _ _ _ i b) st
-              ∙ (λ n. turns (λ p. stackedTurn plan s t d c count (getD w p 0)) (sym el n) (sym eh n - sym el n) st));
+              ∙ (turns-run Order.Kind plan (plan .bykind) w key run (kinds-fit laid filed) _ (stackedTurn plan s t (boatsIn plan w) d c count) (λ i less b. run-turn _ _ _ _ _ i b) st
+              ∙ (λ n. turns (λ p. stackedTurn plan s t (boatsIn plan w) d c count (getD w p 0)) (sym el n) (sym eh n - sym el n) st));
         }
 
     pub thin-enough : Thinnable s → lo ≡ getD w (plan .thin + key) 0 → hi ≡ getD w (plan .thin + suc key) 0 → Enough plan s t w lo hi
@@ -84,16 +84,16 @@ module _ (plan : Plan) (w : List ℕ) (laid : Laid plan (length w)) (told : Told
                 rising = rising;
                 inside = inside;
                 starts = λ p from less.
-                    place-of (getD w p 0) (thin-word plan (plan .bykind) (plan .thin) w key run thin (thin-fit laid filed) p (omega (arith, el, from)) (omega (arith, eh, less)));
+                    place-of (getD w p 0) (thin-word (boatsIn plan w) plan (plan .bykind) (plan .thin) w key run thin (thin-fit laid filed) p (omega (arith, el, from)) (omega (arith, eh, less)));
               };
           same = λ d c count some low fits st long.
               by-key d c count st
-              ∙ (thin-turns plan (plan .bykind) (plan .thin) w key run thin (thin-fit laid filed) (kinds-fit laid filed) (stack-pushing plan s t c count few d some) st
+              ∙ (thin-turns (boatsIn plan w) plan (plan .bykind) (plan .thin) w key run thin (thin-fit laid filed) (kinds-fit laid filed) (stack-pushing (boatsIn plan w) plan s t c count few d some) st
               (λ y m u gets.
               let (n, less, goes, there) = gets in
               let small = state-low (plan .places) (plan .done + 1) (plan .stacks) (plan .size) (y / packBy) c (n * t .weight + t .stack) (laid .size-is) (place-of y m) (omega (arith, low)) (fits n less) in
               omega (arith, there, small, long))
-              ∙ (λ n. turns (λ p. stackedTurn plan s t d c count (getD w p 0)) (sym el n) (sym eh n - sym el n) st));
+              ∙ (λ n. turns (λ p. stackedTurn plan s t (boatsIn plan w) d c count (getD w p 0)) (sym el n) (sym eh n - sym el n) st));
         }
       where
         place-of : (y : ℕ) → y ∈ stretch (getD w (plan .bykind + key) 0) (getD w (plan .bykind + suc key) 0 - getD w (plan .bykind + key) 0) w → y / packBy < plan .places

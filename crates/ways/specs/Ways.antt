@@ -2,24 +2,26 @@
 -- the word written of it, which gives one state before. A lane says which of the run's words are taken and what state each gives.
 -- `proofs/Right` shows that the way chosen does what going over all lines and all stacks does.
 use mathlib.Core.Path.{_≡_}
-use mathlib.Core.Bool.{Bool, cond, not}
+use mathlib.Core.Bool.{Bool, cond, true}
 use mathlib.Core.List.{List}
 use Prim.Native.Nat.{ℕ, _+_, _*_, _-_, _/_, _%_, _≤_, _<_}
 use lib.Dec.{eqb}
 use lib.ListN.{getD}
 use Rattle.request.specs.Layout.{largest, Laid, fromIn, toIn}
 use Rattle.request.specs.declared.Plan.{Plan}
-use Rattle.search.specs.Loaded.{codeAt, wordAt}
+use Rattle.search.specs.Loaded.{boatAt, codeAt, wordAt}
 use Rattle.graph.specs.Loops.{turns}
 use Rattle.graph.specs.Table.{Search, push}
 use Rattle.sorted.specs.Sorting.{packBy, keys, keyIn, packIn}
 use Rattle.sorted.specs.declared.Order.{Order}
 use Rattle.sorted.specs.declared.Order.the-variants as Order
 use Rattle.states.specs.Served.{Served}
-use Rattle.states.specs.Spots.{stackTurn, lineTurn, Aimed, Sane}
+use Rattle.states.specs.Spots.{readBut, stackTurn, lineTurn, Aimed, Sane}
 use Rattle.states.specs.declared.Spot.{Spot}
 use Rattle.states.specs.declared.Target.{Target}
 use Rattle.ways.specs.declared.Lane.{Lane}
+use Rattle.ways.specs.declared.Taking.{Taking}
+use Rattle.ways.specs.declared.Taking.the-variants as Taking
 use Rattle.ways.specs.declared.Way.{Way}
 use Rattle.ways.specs.declared.Way.the-variants as Way
 
@@ -29,20 +31,22 @@ use Rattle.ways.specs.declared.Way.the-variants as Way
 unfoldable pub laneState : Lane → ℕ → ℕ
 laneState lane e = e / packBy * lane .block + (lane .home + e % packBy * lane .weight)
 
--- is a line with the number y taken? Only those with the lane's number x, or only the others
-unfoldable pub takenBy : Bool → ℕ → ℕ → Bool
-takenBy only y x = cond only (eqb y x) (not (eqb y x))
+-- is a line with the number y taken, by the boats' table B? All, only those with the lane's number x, or the read ones of the others
+abbrev pub takenBy : (ℕ → ℕ) → Taking → ℕ → ℕ → Bool
+takenBy B Taking.All y x = true
+takenBy B Taking.Only y x = eqb y x
+takenBy B Taking.ReadBut y x = readBut B x y
 
-unfoldable pub laneTurn : ℕ → Lane → ℕ → Search → Search
-laneTurn d lane e st = cond (takenBy (lane .only) (e % packBy) (lane .number)) (push d (laneState lane e) st) st
+unfoldable pub laneTurn : (ℕ → ℕ) → ℕ → Lane → ℕ → Search → Search
+laneTurn B d lane e st = cond (takenBy B (lane .taking) (e % packBy) (lane .number)) (push d (laneState lane e) st) st
 
 -- the lane to position c with the stack u
-pub record LaneTo (plan : Plan) (c u weight number : ℕ) (only : Bool) (lane : Lane) : Type 0 where
+pub record LaneTo (plan : Plan) (c u weight number : ℕ) (taking : Taking) (lane : Lane) : Type 0 where
   pub block-is : lane .block ≡ (plan .done + 1) * plan .stacks
   pub home-is : lane .home ≡ c * plan .stacks + u
   pub weight-is : lane .weight ≡ weight
   pub number-is : lane .number ≡ number
-  pub only-is : lane .only ≡ only
+  pub taking-is : lane .taking ≡ taking
 
 -- its numbers are small
 pub record Narrow (lane : Lane) : Type 0 where
@@ -51,9 +55,9 @@ pub record Narrow (lane : Lane) : Type 0 where
   pub weight-low : lane .weight ≤ largest
 
 -- the thin words do for it: only the place that a word says and whether its number is taken matter, and the numbers taken are a set that is served
-pub record ThinLane (lane : Lane) : Type 0 where
+pub record ThinLane (B : ℕ → ℕ) (lane : Lane) : Type 0 where
   pub flat : lane .weight ≡ 0
-  pub served : Served (λ y. takenBy (lane .only) y (lane .number))
+  pub served : Served B (λ y. takenBy B (lane .taking) y (lane .number))
 
 -- each of the words from lo up to hi gives one of so many states
 abbrev pub Within : Lane → ℕ → ℕ → ℕ → List ℕ → Type 0
@@ -77,23 +81,25 @@ Gives o plan g k lane = (i : ℕ) → i < plan .lines → laneState lane (packIn
 
 -- ---- a way
 
--- the run of the key k and the lane do what line i does for all `count` stacks
-pub record Runs (o : Order) (plan : Plan) (s : Spot) (t : Target) (c count k : ℕ) (lane : Lane) : Type 0 where
+-- by the loaded words g, the run of the key k and the lane do what line i does for all `count` stacks
+pub record Runs (o : Order) (plan : Plan) (g : List ℕ) (s : Spot) (t : Target) (c count k : ℕ) (lane : Lane) : Type 0 where
   pub key-low : k < keys o plan
   pub narrow : Narrow lane
-  pub gives : (g : List ℕ) → Told plan g → Gives o plan g k lane
-  pub same : (g : List ℕ) → Told plan g → (d i : ℕ) → i < plan .lines → (st : Search) → lineTurn plan g s t d c count i st ≡ runTurn o plan g k (laneTurn d lane) i st
+  pub gives : Gives o plan g k lane
+  pub same : (d i : ℕ) → i < plan .lines → (st : Search) → lineTurn plan g s t d c count i st ≡ runTurn o plan g k (laneTurn (boatAt plan g) d lane) i st
 
 -- a way is right for so many stacks
-abbrev pub Right : Plan → Spot → Target → ℕ → ℕ → Way → Type 0
-Right plan s t c count (Way.ByBoat k lane) = (0 < plan .keeps) × Runs Order.Boat plan s t c count k lane
-Right plan s t c count (Way.ByKind k lane) = Runs Order.Kind plan s t c count k lane
-Right plan s t c count Way.ByStack = Unit {0}
+abbrev pub Right : Plan → List ℕ → Spot → Target → ℕ → ℕ → Way → Type 0
+Right plan g s t c count (Way.ByBoat k lane) = (0 < plan .keeps) × Runs Order.Boat plan g s t c count k lane
+Right plan g s t c count (Way.ByKind k lane) = Runs Order.Kind plan g s t c count k lane
+Right plan g s t c count Way.ByStack = Unit {0}
+Right plan g s t c count Way.Nowhere = (d i : ℕ) → i < plan .lines → (st : Search) → lineTurn plan g s t d c count i st ≡ st
 
--- what `count` stacks of a line do, whatever line: if p has its boat's number x, the state with the stack u x is pushed, else nothing is done
-pub record Single (plan : Plan) (s : Spot) (t : Target) (count : ℕ) (p : ℕ → Bool) (u : ℕ → ℕ) : Type 0 where
+-- by the boats' table B, what `count` stacks of a line do, whatever line: if p has its boat's number x, the state with the stack u x is pushed,
+-- else nothing is done
+pub record Single (B : ℕ → ℕ) (plan : Plan) (s : Spot) (t : Target) (count : ℕ) (p : ℕ → Bool) (u : ℕ → ℕ) : Type 0 where
   pub fits : (x : ℕ) → x < plan .radix → u x < plan .stacks
-  pub law : (d home x : ℕ) → x < plan .radix → (st : Search) → turns (stackTurn (plan .radix) s d home x (t .weight) (t .stack)) 0 count st ≡ cond (p x) (push d (home + u x) st) st
+  pub law : (d home x : ℕ) → x < plan .radix → (st : Search) → turns (stackTurn B (plan .radix) s d home x (t .weight) (t .stack)) 0 count st ≡ cond (p x) (push d (home + u x) st) st
 
 -- what a way is chosen from: a state and a position before it, by their numbers
 pub record Before (plan : Plan) (s : Spot) (t : Target) (c leaves : ℕ) : Type 0 where

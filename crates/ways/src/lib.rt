@@ -4,16 +4,17 @@ ghost use Prim.Native.Nat.{ℕ, suc, _+_, _*_, _-_, _^_, _/_, _%_, _≤_, _<_};
 ghost use lib.ListN.{length, getD};
 ghost use Rattle.request.specs.Layout.{largest, Laid, filedEnd};
 ghost use Rattle.graph.specs.Loops.{turns};
-ghost use Rattle.area.specs.Area.{Ready, Step};
-ghost use Rattle.states.specs.Pairs.{StepBack};
+ghost use Rattle.states.specs.Pairs.{ReadyBack, StepBack};
 ghost use Rattle.ways.specs.Ways.{laneState, takenBy, laneTurn, LaneTo, Narrow, ThinLane, Within, runTurn, Told, Gives, Single, Right, Before};
-ghost use mathlib.Core.Bool.{true, not};
+ghost use mathlib.Core.Bool.{true};
+ghost use mathlib.Core.List.{List};
 ghost use lib.Dec.{eqb};
 ghost use Rattle.sorted.specs.Sorting.{keys, tableAt, tableEnd, Keyed, Sorted, Kept};
 ghost use Rattle.ways.specs.Stacked.{Enough};
 ghost use Rattle.ways.specs.Filed.{Filed};
 ghost use Rattle.sorted.specs.declared.Order.the-variants as Orders;
-ghost use Rattle.states.specs.Spots.{front};
+ghost use Rattle.search.specs.Loaded.{boatAt};
+ghost use Rattle.states.specs.Spots.{front, boatsIn, readBut};
 use request::Plan;
 use sorted::Bounds;
 use sorted::Order;
@@ -22,14 +23,21 @@ use states::Spot;
 use states::Takes;
 use states::Target;
 
-// What the words written of lines give: `from` times `block`, `home`, and the word's number times `weight` is the state before. Only words
-// with `number` are taken, or, where `only` is false, all others.
+// Which words are taken: all, only those with a number, or those of read boats with another.
+pub enum Taking {
+    All,
+    Only,
+    ReadBut,
+}
+
+// What the words written of lines give: `from` times `block`, `home`, and the word's number times `weight` is the state before. `taking` says
+// which words are taken, by `number`.
 pub struct Lane {
     pub block: usize,
     pub home: usize,
     pub weight: usize,
     pub number: usize,
-    pub only: bool,
+    pub taking: Taking,
 }
 
 // A number that no word has.
@@ -37,14 +45,27 @@ const NONE: usize = PACK as usize;
 
 // ---- the loop
 
-// Is a word with the number `y` taken?
-fn taken(lane: Lane, y: usize) -> bool
-    ensures { λ r. ⌜ r ≡ takenBy (lane .only) y (lane .number) ⌝ }
+// Is `y` the number of a read boat other than `number`'s?
+fn read_but(work: &[u32], plan: Plan, number: usize, y: usize) -> bool
+    requires { ⌜ Laid plan (length (now work)) × (y < 4294967296) ⌝ }
+    ensures { λ r. ⌜ r ≡ readBut (boatsIn plan (now (work .entry))) number y ⌝ }
 {
-    if lane.only {
-        y == lane.number
-    } else {
-        y != lane.number
+    if y == number {
+        return false;
+    }
+    states::boat_of(work, plan, y) != 0
+}
+
+// Is a word with the number `y` taken?
+fn taken(work: &[u32], plan: Plan, lane: Lane, y: usize) -> bool
+    requires { ⌜ Laid plan (length (now work)) × (y < 4294967296) ⌝ }
+    ensures { λ r. ⌜ r ≡ takenBy (boatsIn plan (now (work .entry))) (lane .taking) y (lane .number) ⌝ }
+{
+    let taking = lane.taking;
+    match taking {
+        Taking::All => true,
+        Taking::Only => y == lane.number,
+        Taking::ReadBut => read_but(work, plan, lane.number, y),
     }
 }
 
@@ -59,27 +80,19 @@ fn lane_state(lane: Lane, e: u32) -> usize
 }
 
 // Word `p`: the state that it gives is pushed, if it is taken. Most states have been met before, so that is asked first.
-fn one_word(
-    work: &mut [u32],
-    base: usize,
-    size: usize,
-    lane: Lane,
-    d: u32,
-    p: usize,
-    tail: usize,
-) -> usize
-    requires { ⌜ Ready base size tail (now work) ⌝ }
-    requires { ⌜ Narrow lane ⌝ }
-    requires { ⌜ (0 < d) × (d ≤ suc tail) × (p < length (now work)) × (laneState lane (getD (now work) p 0) < size) ⌝ }
-    ensures { λ r. ⌜ Step base size (laneTurn d lane (getD (now (work .entry)) p 0)) tail (now (work .entry)) r (now (work .exit)) ⌝ }
+fn one_word(work: &mut [u32], plan: Plan, lane: Lane, d: u32, p: usize, tail: usize) -> usize
+    requires { ⌜ ReadyBack plan tail (now work) ⌝ }
+    requires { ⌜ Laid plan (length (now work)) × Narrow lane ⌝ }
+    requires { ⌜ (0 < d) × (d ≤ suc tail) × (p < length (now work)) × (laneState lane (getD (now work) p 0) < plan .size) ⌝ }
+    ensures { λ r. ⌜ StepBack plan (laneTurn (boatsIn plan (now (work .entry))) d lane (getD (now (work .entry)) p 0)) tail (now (work .entry)) r (now (work .exit)) ⌝ }
 {
     let e = area::word(work, p);
     let s = lane_state(lane, e);
-    if area::dist_at(work, base, size, tail, s) != 0 {
+    if area::dist_at(work, plan.base, plan.size, tail, s) != 0 {
         return tail;
     }
-    if taken(lane, (e % PACK) as usize) {
-        return area::push_if_new(work, base, size, d, s, tail);
+    if taken(work, plan, lane, (e % PACK) as usize) {
+        return area::push_if_new(work, plan.base, plan.size, d, s, tail);
     }
     tail
 }
@@ -87,75 +100,84 @@ fn one_word(
 // The words from `lo` up to `hi`, which stand after the pair of stretches.
 pub fn over_words(
     work: &mut [u32],
-    base: usize,
-    size: usize,
+    plan: Plan,
     lane: Lane,
     d: u32,
     lo: usize,
     hi: usize,
     tail: usize,
 ) -> usize
-    requires { ⌜ Ready base size tail (now work) ⌝ }
-    requires { ⌜ Narrow lane ⌝ }
-    requires { ⌜ (0 < d) × (d ≤ suc tail) × (base + size + size ≤ lo) × (lo ≤ hi) × (hi ≤ length (now work)) ⌝ }
-    requires { ⌜ Within lane size lo hi (now work) ⌝ }
-    ensures { λ r. ⌜ Step base size (turns (λ p. laneTurn d lane (getD (now (work .entry)) p 0)) lo (hi - lo)) tail (now (work .entry)) r (now (work .exit)) ⌝ }
+    requires { ⌜ ReadyBack plan tail (now work) ⌝ }
+    requires { ⌜ Laid plan (length (now work)) × Narrow lane ⌝ }
+    requires { ⌜ (0 < d) × (d ≤ suc tail) × (plan .base + plan .size + plan .size ≤ lo) × (lo ≤ hi) × (hi ≤ length (now work)) ⌝ }
+    requires { ⌜ Within lane (plan .size) lo hi (now work) ⌝ }
+    ensures { λ r. ⌜ StepBack plan (turns (λ p. laneTurn (boatsIn plan (now (work .entry))) d lane (getD (now (work .entry)) p 0)) lo (hi - lo)) tail (now (work .entry)) r (now (work .exit)) ⌝ }
 {
     let mut t = tail;
     for p in lo..hi {
-        t = one_word(work, base, size, lane, d, p, t);
+        t = one_word(work, plan, lane, d, p, t);
     }
     t
 }
 
 // ---- the way
 
-// The way from a state back to a position: by the lines of one boat into its place, by those of one kind, or with each stack, one by one.
+// The way from a state back to a position: by the lines of one boat into its place, by those of one kind, with each stack, one by one, or
+// by no line.
 pub enum Way {
     ByBoat(usize, Lane),
     ByKind(usize, Lane),
     ByStack,
+    Nowhere,
 }
 
 // The lane to position `c`, for the stack `u`.
-fn lane_at(plan: Plan, c: usize, u: usize, weight: usize, number: usize, only: bool) -> Lane
+fn lane_at(plan: Plan, c: usize, u: usize, weight: usize, number: usize, taking: Taking) -> Lane
     requires { ⌜ (c ≤ 63) × (plan .done ≤ 63) × (plan .stacks ≤ largest) × (u < 4294967296) ⌝ }
-    ensures { λ r. ⌜ LaneTo plan c u weight number only r ⌝ }
+    ensures { λ r. ⌜ LaneTo plan c u weight number taking r ⌝ }
 {
     Lane {
         block: (plan.done + 1) * plan.stacks,
         home: c * plan.stacks + u,
         weight,
         number,
-        only,
+        taking,
     }
 }
 
 // The lines of the boat number `boat`: the stack before is `u`. Where no boat is kept the lines are not sorted by boat.
 fn boat_way(plan: Plan, spot: Spot, target: Target, c: usize, u: usize, boat: usize) -> Way
     requires { ⌜ Before plan spot target c (target .depth) × (u < plan .stacks) × (boat < plan .radix) ⌝ }
-    ensures { λ r. ⌜ ((count : ℕ) → Single plan spot target count (λ x. eqb x boat) (λ x. u) → Right plan spot target c count r) ⌝ }
+    ensures { λ r. ⌜ ((g : List ℕ) (count : ℕ) → Told plan g → Single (boatAt plan g) plan spot target count (λ x. eqb x boat) (λ x. u) → Right plan g spot target c count r) ⌝ }
 {
     if plan.keeps == 0 {
         return Way::ByStack;
     }
-    let lane = lane_at(plan, c, u, 0, spot.kind, true);
+    let lane = lane_at(plan, c, u, 0, spot.kind, Taking::Only);
     Way::ByBoat(target.place * plan.radix + boat, lane)
 }
 
-// All lines of the position's kind but those of the boat number `boat`: the stack before is the state's, with the line's number at `weight`.
-fn kind_way(plan: Plan, spot: Spot, target: Target, c: usize, weight: usize, boat: usize) -> Way
+// Those lines of the position's kind that are taken: the stack before is the state's, with the line's number at `weight`.
+fn kind_way(
+    plan: Plan,
+    spot: Spot,
+    target: Target,
+    c: usize,
+    weight: usize,
+    number: usize,
+    taking: Taking,
+) -> Way
     requires { ⌜ Before plan spot target c (target .depth) × (weight ≤ largest) ⌝ }
-    ensures { λ r. ⌜ ((count : ℕ) → Single plan spot target count (λ x. not (eqb x boat)) (λ x. target .stack + x * weight) → Right plan spot target c count r) ⌝ }
+    ensures { λ r. ⌜ ((g : List ℕ) (count : ℕ) → Told plan g → Single (boatAt plan g) plan spot target count (λ x. takenBy (boatAt plan g) taking x number) (λ x. target .stack + x * weight) → Right plan g spot target c count r) ⌝ }
 {
-    let lane = lane_at(plan, c, target.stack, weight, boat, false);
+    let lane = lane_at(plan, c, target.stack, weight, number, taking);
     Way::ByKind(target.place * 16 + spot.kind, lane)
 }
 
 // Of a position that pushes, where the stack after it is the state's: the boat on top is the line's.
 fn pushing_way(plan: Plan, spot: Spot, target: Target, c: usize) -> Way
     requires { ⌜ Before plan spot target c (target .depth) × (spot .push ≡ true) ⌝ }
-    ensures { λ r. ⌜ Right plan spot target c 1 r ⌝ }
+    ensures { λ r. ⌜ ((g : List ℕ) → Told plan g → Right plan g spot target c 1 r) ⌝ }
 {
     let x = target.stack / spot.weight;
     if plan.radix <= x {
@@ -169,18 +191,19 @@ fn pushing_way(plan: Plan, spot: Spot, target: Target, c: usize) -> Way
 }
 
 // The stack after the position is the state's.
-fn exact_way(plan: Plan, spot: Spot, target: Target, c: usize) -> Way
+fn exact_way(work: &[u32], plan: Plan, spot: Spot, target: Target, c: usize) -> Way
     requires { ⌜ Before plan spot target c (target .depth) ⌝ }
-    ensures { λ r. ⌜ Right plan spot target c 1 r ⌝ }
+    requires { ⌜ Laid plan (length (now work)) × Told plan (front plan (now work)) ⌝ }
+    ensures { λ r. ⌜ Right plan (front plan (now (work .entry))) spot target c 1 r ⌝ }
 {
     if spot.push {
         return pushing_way(plan, spot, target, c);
     }
-    match states::taken_by(plan.radix, spot, target) {
-        Takes::Any => kind_way(plan, spot, target, c, 0, NONE),
+    match states::taken_by(work, plan, spot, target) {
+        Takes::Any => kind_way(plan, spot, target, c, 0, NONE, Taking::All),
         Takes::Only(x) => boat_way(plan, spot, target, c, target.stack, x),
-        Takes::AllBut(x) => kind_way(plan, spot, target, c, 0, x),
-        Takes::Nobody => Way::ByStack,
+        Takes::ReadBut(x) => kind_way(plan, spot, target, c, 0, x, Taking::ReadBut),
+        Takes::Nobody => Way::Nowhere,
         Takes::Ask => Way::ByStack,
     }
 }
@@ -188,13 +211,13 @@ fn exact_way(plan: Plan, spot: Spot, target: Target, c: usize) -> Way
 // Of a position that pushes, where the boat on top is forgotten after it.
 fn dropping_way(plan: Plan, spot: Spot, target: Target, c: usize) -> Way
     requires { ⌜ Before plan spot target c (suc (target .depth)) × (spot .push ≡ true) ⌝ }
-    ensures { λ r. ⌜ Right plan spot target c (plan .radix) r ⌝ }
+    ensures { λ r. ⌜ ((g : List ℕ) → Told plan g → Right plan g spot target c (plan .radix) r) ⌝ }
 {
     if spot.weight != target.weight {
         return Way::ByStack;
     }
     if states::takes_all(spot) {
-        return kind_way(plan, spot, target, c, 0, NONE);
+        return kind_way(plan, spot, target, c, 0, NONE, Taking::All);
     }
     Way::ByStack
 }
@@ -202,26 +225,27 @@ fn dropping_way(plan: Plan, spot: Spot, target: Target, c: usize) -> Way
 // The stack after the position has one boat more than the state's: any, or, where the position wants just that boat, the line's.
 fn forgetting_way(plan: Plan, spot: Spot, target: Target, c: usize) -> Way
     requires { ⌜ Before plan spot target c (suc (target .depth)) ⌝ }
-    ensures { λ r. ⌜ Right plan spot target c (plan .radix) r ⌝ }
+    ensures { λ r. ⌜ ((g : List ℕ) → Told plan g → Right plan g spot target c (plan .radix) r) ⌝ }
 {
     if spot.push {
         return dropping_way(plan, spot, target, c);
     }
     if spot.level == target.weight {
         if states::wants_kept(spot) {
-            return kind_way(plan, spot, target, c, target.weight, NONE);
+            return kind_way(plan, spot, target, c, target.weight, NONE, Taking::ReadBut);
         }
     }
     Way::ByStack
 }
 
 // The way from a state back to position `c`, which leaves stacks of the depth `leaves`.
-pub fn way_of(plan: Plan, spot: Spot, target: Target, leaves: usize, c: usize) -> Way
+pub fn way_of(work: &[u32], plan: Plan, spot: Spot, target: Target, leaves: usize, c: usize) -> Way
     requires { ⌜ Before plan spot target c leaves ⌝ }
-    ensures { λ r. ⌜ Right plan spot target c (plan .radix ^ (leaves - target .depth)) r ⌝ }
+    requires { ⌜ Laid plan (length (now work)) × Told plan (front plan (now work)) ⌝ }
+    ensures { λ r. ⌜ Right plan (front plan (now (work .entry))) spot target c (plan .radix ^ (leaves - target .depth)) r ⌝ }
 {
     if leaves == target.depth {
-        return exact_way(plan, spot, target, c);
+        return exact_way(work, plan, spot, target, c);
     }
     if leaves == target.depth + 1 {
         return forgetting_way(plan, spot, target, c);
@@ -241,35 +265,37 @@ pub fn over_run(
     d: u32,
     tail: usize,
 ) -> usize
-    requires { ⌜ Ready (plan .base) (plan .size) tail (now work) ⌝ }
+    requires { ⌜ ReadyBack plan tail (now work) ⌝ }
     requires { ⌜ Laid plan (length (now work)) × (k < keys order plan) ⌝ }
     requires { ⌜ Sorted order plan (tableAt order plan) (now work) × (tableEnd order plan ≤ length (now work)) ⌝ }
     requires { ⌜ Narrow lane × Gives order plan (front plan (now work)) k lane × (0 < d) × (d ≤ suc tail) ⌝ }
-    ensures { λ r. ⌜ StepBack plan (turns (runTurn order plan (front plan (now (work .entry))) k (laneTurn d lane)) 0 (plan .lines)) tail (now (work .entry)) r (now (work .exit)) ⌝ }
+    ensures { λ r. ⌜ StepBack plan (turns (runTurn order plan (front plan (now (work .entry))) k (laneTurn (boatsIn plan (now (work .entry))) d lane)) 0 (plan .lines)) tail (now (work .entry)) r (now (work .exit)) ⌝ }
 {
     let run = sorted::run_of(work, plan, order, k);
-    over_words(work, plan.base, plan.size, lane, d, run.lo, run.hi, tail)
+    over_words(work, plan, lane, d, run.lo, run.hi, tail)
 }
 
 // Are the thin lines enough for the lane? Their numbers must have no weight, and those that it takes be a set that is served.
 pub fn thin_lane(lane: Lane) -> bool
-    ensures { λ r. ⌜ (r ≡ true → ThinLane lane) ⌝ }
+    ensures { λ r. ⌜ (r ≡ true → (B : ℕ → ℕ) → ThinLane B lane) ⌝ }
 {
-    if lane.only {
-        return false;
+    let taking = lane.taking;
+    match taking {
+        Taking::All => lane.weight == 0,
+        Taking::Only => false,
+        Taking::ReadBut => lane.weight == 0,
     }
-    lane.weight == 0
 }
 
 // The lines of the kind that the key `k` says, by the thin ones: for a lane for which they are enough.
 pub fn over_thin(work: &mut [u32], plan: Plan, k: usize, lane: Lane, d: u32, tail: usize) -> usize
-    requires { ⌜ Ready (plan .base) (plan .size) tail (now work) ⌝ }
+    requires { ⌜ ReadyBack plan tail (now work) ⌝ }
     requires { ⌜ Laid plan (length (now work)) × Filed plan (now work) × (k < keys Orders.Kind plan) ⌝ }
-    requires { ⌜ Narrow lane × Gives Orders.Kind plan (front plan (now work)) k lane × ThinLane lane × (0 < d) × (d ≤ suc tail) ⌝ }
-    ensures { λ r. ⌜ StepBack plan (turns (runTurn Orders.Kind plan (front plan (now (work .entry))) k (laneTurn d lane)) 0 (plan .lines)) tail (now (work .entry)) r (now (work .exit)) ⌝ }
+    requires { ⌜ Narrow lane × Gives Orders.Kind plan (front plan (now work)) k lane × ThinLane (boatsIn plan (now work)) lane × (0 < d) × (d ≤ suc tail) ⌝ }
+    ensures { λ r. ⌜ StepBack plan (turns (runTurn Orders.Kind plan (front plan (now (work .entry))) k (laneTurn (boatsIn plan (now (work .entry))) d lane)) 0 (plan .lines)) tail (now (work .entry)) r (now (work .exit)) ⌝ }
 {
     let run = thinned::thin_of(work, plan, k);
-    over_words(work, plan.base, plan.size, lane, d, run.lo, run.hi, tail)
+    over_words(work, plan, lane, d, run.lo, run.hi, tail)
 }
 
 // ---- the tables

@@ -12,7 +12,7 @@ use Rattle.record.specs.Whole.{linesOf}
 use Rattle.request.specs.Asking.{Numbers, requestNumber}
 use Rattle.request.specs.Told.{Parts, asked-parts, answers-refused, Told, answers-asked, told-loading, all-zero}
 use Rattle.request.specs.declared.Plan.{Plan}
-use Rattle.forward.proofs.Posing.{posed-from}
+use Rattle.forward.proofs.Posing.{told-radix, posed-from}
 use Rattle.checker.specs.Promise.{checkOf, Demand2}
 use Rattle.checker.specs.Demand.{check-demand}
 use Rattle.checker.proofs.Replies.{check-refused, check-missing, check-said}
@@ -110,7 +110,8 @@ returns-2 c =
 load-requires : tie.Need-load-requires
 load-requires c κs =
     let k = c .before .before .before .before in
-    (told-loading (passed-on k) (parts k), subst (Numbers (linesOf (start k .args .day .now)) (k .before .before .before .ask-request .last .1 .1 .1 .1 .1 .0)) (k .before .asked .given .1) (k .before .before .before .ask-request .ensures .1))
+    let numbers = subst (Numbers (linesOf (start k .args .day .now)) (k .before .before .before .ask-request .last .1 .1 .1 .1 .1 .0)) (k .before .asked .given .1) (k .before .before .before .ask-request .ensures .1) in
+    (told-loading (passed-on k) (parts k), (numbers, told-radix (passed-on k) (parts k)))
 
 -- ---- where the record is loaded
 

@@ -4,6 +4,7 @@ use Prim.Native.Nat.{_-_}
 use lib.ListN.{getD}
 use Rattle.graph.specs.Loops.{turns}
 use Rattle.area.specs.Area.{found}
+use Rattle.states.specs.Spots.{boatsIn}
 use Rattle.area.proofs.Changes.{step-as}
 use Rattle.ways.proofs.Lanes.{found-long}
 use Rattle.expanding.specs.Undoing.{wordUndone}
@@ -41,7 +42,7 @@ returns c =
     let st = found (x .plan .base) (x .plan .size) (x .tail) w in
     step-as _ (c .before .before .over-stacked .ensures)
     (run .ensures .same (x .d) (x .c) _ (a .pre .1 .1 .1 .0 .0) (b .position-low) (undo-fits b) st (found-long (x .plan .base) (x .plan .size) (x .tail) w (a .pre .0))
-    ∙ (by-word (x .plan) (x .spot) (x .target) (x .d) (x .c) (x .leaves) st w lo n ∙ sym (ap (λ u. turns (λ p. wordUndone (x .plan) u (x .c) (getD w p 0)) lo n st) (c .before .before .before .before .before .before .undo-of .ensures))))
+    ∙ (by-word (x .plan) (x .spot) (x .target) (x .d) (x .c) (x .leaves) st (boatsIn (x .plan) w) w lo n ∙ sym (ap (λ u. turns (λ p. wordUndone (x .plan) u (boatsIn (x .plan) w) (x .c) (getD w p 0)) lo n st) (c .before .before .before .before .before .before .undo-of .ensures))))
 
 pub by-sorted-spec : {M : Type 1} → statement M
 by-sorted-spec =

@@ -37,7 +37,7 @@ same-length c = search needs
 
 returns : tie.Need-returns
 returns c =
-    step-as _ (c .before .before .over-stacks .ensures) (word-is _ _ _ _ _ _ (c .before .before .before .before .before .word .ensures) _ (c .before .before .before .before .state-at .ensures .0))
+    step-as _ (c .before .before .over-stacks .ensures) (word-is _ _ _ _ _ _ _ (c .before .before .before .before .before .word .ensures) _ (c .before .before .before .before .state-at .ensures .0))
 
 pub one-stacked-spec : {M : Type 1} → statement M
 one-stacked-spec =

@@ -1,4 +1,5 @@
 -- `expanding::over_kind` meets its contract, by either table. Assumes nothing.
+use Rattle.states.specs.Spots.{boatsIn}
 use Rattle.ways.proofs.Filing.{kinds-fit}
 use borrow.Author.Needs.{needs}
 use Rattle.expanding.proofs.over_kind.Statement.{statement}
@@ -12,7 +13,7 @@ over-thin-requires c κs =
     let a = c .before .before .before .before in
     let (narrow, gives) = a .pre .1 .1 .0 in
     let (some, near) = a .pre .1 .1 .1 in
-    (a .pre .0, (a .pre .1 .0, (narrow, gives, c .before .before .thin-lane .ensures (c .before .if1 .taken), some, near)))
+    (a .pre .0, (a .pre .1 .0, (narrow, gives, c .before .before .thin-lane .ensures (c .before .if1 .taken) (boatsIn (a .args .plan) (a .args .work .now)), some, near)))
 
 same-length : tie.Need-same-length
 same-length c = search needs

@@ -1,5 +1,6 @@
 -- `expanding::over_same` meets its contract: the entry compared is the same for all stacks, or the line's boat alone is gone over. Assumes nothing.
 use native.Mathlib.Omega.{arith}
+use Rattle.states.specs.Spots.{boatsIn}
 use Rattle.area.proofs.Changes.{step-as, step-none}
 use Rattle.expanding.proofs.Entries.{same-none, same-entries, entries-low}
 use borrow.Author.Needs.{needs}
@@ -18,7 +19,7 @@ returns c =
     let x = a .args in
     let h = a .pre .0 in
     step-none _ (h .ready)
-    (same-none (x .plan) (x .undo) (x .home) (x .code) (a .pre .1 .1) (h .sane .some-level) (c .before .before .before .entry-below .ensures (c .before .before .if1 .taken)) (λ e. absurd (omega (arith, e, c .before .entry-at .ensures .0, c .if2 .taken))) _)
+    (same-none (boatsIn (x .plan) (x .work .now)) (x .plan) (x .undo) (x .home) (x .code) (a .pre .1 .1 .0) (a .pre .1 .1 .1) (h .sane .some-level) (c .before .before .before .entry-below .ensures (c .before .before .if1 .taken)) (λ e. absurd (omega (arith, e, c .before .entry-at .ensures .0, c .if2 .taken))) _)
 
 over-each-requires : tie.Need-over-each-requires
 over-each-requires c κs = search needs
@@ -46,7 +47,7 @@ over-entries-requires c κs =
     let a = c .before .before .before .before .before .before .before .before .before .before .before in
     let x = a .args in
     let among = c .before .before .before .before .entry-among .ensures (c .before .before .before .if3 .taken) in
-    (a .pre .0, (omega (arith, a .pre .1 .1 .low), among .some, entries-low (x .plan) (x .undo) (x .home) (x .code) among (a .pre .1 .0)))
+    (a .pre .0, (omega (arith, a .pre .1 .1 .0 .low), among .some, entries-low (x .plan) (x .undo) (x .home) (x .code) among (a .pre .1 .0)))
 
 same-length-2 : tie.Need-same-length-2
 same-length-2 c = search needs
@@ -56,7 +57,7 @@ returns-3 c =
     let a = c .before .before .before .before .before .before .before .before .before .before .before .before .before .before in
     let x = a .args in
     let among = c .before .before .before .before .before .before .before .entry-among .ensures (c .before .before .before .before .before .before .if3 .taken) in
-    step-as _ (c .before .before .over-entries .ensures) (same-entries (x .plan) (x .undo) (x .home) (x .code) (a .pre .1 .1) among _)
+    step-as _ (c .before .before .over-entries .ensures) (same-entries (boatsIn (x .plan) (x .work .now)) (x .plan) (x .undo) (x .home) (x .code) (a .pre .1 .1 .0) (a .pre .1 .1 .1) among _)
 
 over-each-requires-2 : tie.Need-over-each-requires-2
 over-each-requires-2 c κs = search needs

@@ -11,7 +11,7 @@ use Rattle.request.specs.Asking.{Numbers, requestNumber}
 use Rattle.request.specs.Told.{Parts, asked-parts, answers-refused, Told, answers-asked, told-loading, all-zero}
 use Rattle.request.specs.declared.Plan.{Plan}
 use Rattle.search.specs.Answer.{answer}
-use Rattle.forward.proofs.Posing.{posed-from}
+use Rattle.forward.proofs.Posing.{told-radix, posed-from}
 use Rattle.finder.specs.Promise.{Finding, findOf, Said, refusal, said, outAfter}
 use Rattle.finder.specs.Promise.{Demand3}
 use Rattle.finder.specs.Demand.{finds}
@@ -80,7 +80,8 @@ low k i = omega (arith, k .before .before .before .before .before .before .befor
 load-requires : tie.Need-load-requires
 load-requires c κs =
     let k = c .before .before in
-    (told-loading (passed-on k) (parts k), subst (Numbers (linesOf (start k .args .day .now)) (k .before .before .before .ask-request .last .1 .1 .1 .1 .1 .0)) (k .before .asked .given .1) (k .before .before .before .ask-request .ensures .1))
+    let numbers = subst (Numbers (linesOf (start k .args .day .now)) (k .before .before .before .ask-request .last .1 .1 .1 .1 .1 .0)) (k .before .asked .given .1) (k .before .before .before .ask-request .ensures .1) in
+    (told-loading (passed-on k) (parts k), (numbers, told-radix (passed-on k) (parts k)))
 
 search-loaded-requires : tie.Need-search-loaded-requires
 search-loaded-requires c κs =

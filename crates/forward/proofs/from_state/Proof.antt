@@ -96,17 +96,17 @@ word-requires-2 c κs = in-area (start (line (c .before .before .before .before)
 
 passes-at-requires : tie.Need-passes-at-requires
 passes-at-requires c κs =
-    let k = c .before .before .before .before .before in
+    let k = c .before .before .before .before .before .before in
     let f = fit (start (line k)) in
     let low = position-low k in
-    (omega (arith, low, f .laid .few-commands), f .laid .some-radix, power-small (f .laid) _ (f .levels-low _ low))
+    (f .laid, (omega (arith, low, f .laid .few-commands), power-small (f .laid) _ (f .levels-low _ low)))
 
 abbrev kinds : tie.After-passes-at → tie.After-kind-of
-kinds w = w .before .before .before .before .before .before
+kinds w = w .before .before .before .before .before .before .before
 
 -- the boat's number is that of the loaded line
-code-is : (w : tie.After-passes-at) → let a = start (line (kinds w)) .args in w .before .word2 .result ≡ codeAt (a .plan) (front (a .plan) (a .work .now)) (a .i)
-code-is w = let a = start (line (kinds w)) in code-front (fit a .laid) _ _ (a .pre .1 .1 .0) _ (w .before .word2 .ensures)
+code-is : (w : tie.After-passes-at) → let a = start (line (kinds w)) .args in w .before .before .word2 .result ≡ codeAt (a .plan) (front (a .plan) (a .work .now)) (a .i)
+code-is w = let a = start (line (kinds w)) in code-front (fit a .laid) _ _ (a .pre .1 .1 .0) _ (w .before .before .word2 .ensures)
 
 put-on-at-requires : tie.Need-put-on-at-requires
 put-on-at-requires c κs =
@@ -150,7 +150,7 @@ returns c =
     let here = k .before .standing-at .ensures in
     step-as _ (c .before .before .over-next .ensures)
     (from-taken (program a) _ _ (laid .stacks-is) (laid .few-commands) _ _ _ _ (a .pre .1 .1 .0) _ (o .from-of .ensures .0 ∙ ap fromIn (word-is o)) (there k) _ _ (here .0) (here .1) _ (k .kind-of .ensures .0 ∙ ap kindIn (word-is o))
-    (w .before .before .before .before .if2 .taken ∙ w .before .before .before .before .before .kind-at .ensures) _ refl _ (code-is w) (sym (w .passes-at .ensures) ∙ t .before .before .before .if3 .taken) _ (t .before .before .put-on-at .ensures) _ (t .before .follow-at .ensures) _ (to-is t))
+    (w .before .before .before .before .before .if2 .taken ∙ w .before .before .before .before .before .before .kind-at .ensures) _ refl _ (code-is w) (sym (w .passes-at .ensures) ∙ t .before .before .before .if3 .taken) _ (t .before .before .put-on-at .ensures) _ (t .before .follow-at .ensures) _ (to-is t))
 
 same-length-2 : tie.Need-same-length-2
 same-length-2 c = search needs
@@ -165,7 +165,7 @@ returns-2 c =
     let here = k .before .standing-at .ensures in
     step-none _ (a .pre .0)
     (from-refused (program a) _ _ (laid .stacks-is) (laid .few-commands) _ _ _ _ (a .pre .1 .1 .0) _ (o .from-of .ensures .0 ∙ ap fromIn (word-is o)) (there k) _ _ (here .0) (here .1) _ (k .kind-of .ensures .0 ∙ ap kindIn (word-is o))
-    (w .before .before .before .before .if2 .taken ∙ w .before .before .before .before .before .kind-at .ensures) _ refl _ (code-is w) (sym (w .passes-at .ensures) ∙ c .if3 .left))
+    (w .before .before .before .before .before .if2 .taken ∙ w .before .before .before .before .before .before .kind-at .ensures) _ refl _ (code-is w) (sym (w .passes-at .ensures) ∙ c .if3 .left))
 
 same-length-3 : tie.Need-same-length-3
 same-length-3 c = search needs

@@ -4,6 +4,7 @@ use mathlib.Core.Path.{_≡_, refl, sym, ap, _∙_, subst}
 use mathlib.Core.Bool.{true}
 use mathlib.Core.List.{List}
 use Prim.Native.Nat.{ℕ, suc, _+_, _*_, _^_, _<_, _≤_}
+use native.Mathlib.Nat.{mul-le-mul}
 use native.Mathlib.Numerals.{add-one}
 use native.Mathlib.Omega.{arith}
 use lib.Dec.{leb}
@@ -17,6 +18,7 @@ use Rattle.request.specs.Layout.{largest, Fitting}
 use Rattle.request.specs.Asking.{bothNumber, Small}
 use Rattle.request.specs.declared.Request.the-variants as Request
 use Rattle.request.proofs.Asking.{Counted, both-refused, both-counted, counted-size, above, measured, refused-both, asked-from, asked-to, asked-size, asked-room, asked-all}
+use Rattle.request.proofs.Sizes.{boats-in-size, boats-in-radix}
 use borrow.Author.Needs.{needs}
 use Rattle.request.proofs.ask_request.Statement.{statement}
 use Rattle.request.proofs.ask_request.Tie as tie
@@ -148,6 +150,9 @@ fitting c room =
     let s = small (met c) in
     let y = size-is c in
     let b = c .before .measured .given .0 .0 in
+    let radix : b + 1 ≤ 4097 = omega (arith, y .1, few-boats c) in
+    let product : size c ≡ places (met c) * (commands (met c) + 1) * (b + 1) ^ keeps (met c) = y .2 ∙ cc (add-one (commands (met c)), add-one b, y .1) in
+    let inside = boats-in-size (places (met c) * (commands (met c) + 1)) (b + 1) (keeps (met c)) (mul-le-mul {n₁ = 1} {m₁ = 1} (s .0) (omega arith)) (omega arith) in
     record {
       some-place = s .0;
       few-places = s .1;
@@ -155,11 +160,11 @@ fitting c room =
       few-commands = s .3;
       few-keeps = s .4;
       some-radix = omega arith;
-      few-boats = omega (arith, y .1, few-boats c);
-      size-is = y .2 ∙ cc (add-one (commands (met c)), add-one b, y .1);
+      few-boats = radix;
+      size-is = product;
       small = fits c;
-      few-words = omega (arith, s .2);
-      room = omega (arith, s .2);
+      few-words = omega (arith, s .2, radix, boats-in-radix (b + 1) (keeps (met c)));
+      room = omega (arith, s .2, product, inside, room);
     }
 
 words-for-requires : tie.Need-words-for-requires

@@ -1,12 +1,16 @@
--- `request::load` meets its contract: two stretches written end to end. Assumes nothing.
+-- `request::load` meets its contract: three stretches written end to end. Assumes nothing.
 use mathlib.Core.Path.{_≡_, ap, _∙_}
-use lib.ListN.{take}
+use Prim.Native.Nat.{_-_}
+use lib.ListN.{length, take, drop}
 use Rattle.boats.specs.Codes.{codes}
 use Rattle.record.specs.Whole.{linesOf}
 use Rattle.request.proofs.Tables.{codes-long, tables-loaded}
 use borrow.Author.Needs.{needs}
 use Rattle.request.proofs.load.Statement.{statement}
 use Rattle.request.proofs.load.Tie as tie
+
+load-table-requires : tie.Need-load-table-requires
+load-table-requires c κs = search needs
 
 mul-load-codes : tie.Need-mul-load-codes
 mul-load-codes c = search needs
@@ -44,15 +48,20 @@ same-length c = search needs
 returns : tie.Need-returns
 returns c =
     let o = c .before .before .before .before .before .before in
-    let a = o .before .before .before .before .before in
-    let lines = linesOf (a .args .day .now) in
-    let numbered : o .load-codes .last .1 .0 ≡ codes lines = o .load-codes .ensures ∙ (ap (λ n. take n (a .args .numbers .now)) (codes-long lines (a .args .plan) (a .args .work .now) (a .pre .0 .0) (a .pre .0 .1)) ∙ a .pre .1) in
-    rw (c .before .before .load-lines .ensures, numbered) (tables-loaded lines (a .args .plan) (a .args .work .now) (a .pre .0 .0) (a .pre .0 .1))
+    let t = o .before .before .before .before .before in
+    let s = t .before .before .before .before in
+    let a = s .args in
+    let p = s .pre in
+    let lines = linesOf (a .day .now) in
+    let long : length (take (a .plan .words - a .plan .codes) (drop (a .plan .codes) (t .load-table .last .1 .1 .1 .0))) ≡ a .plan .lines = ap (λ u. length (take (a .plan .words - a .plan .codes) (drop (a .plan .codes) u))) (t .load-table .ensures) ∙ codes-long lines (a .plan) (a .work .now) (p .0 .0) (p .0 .1) (p .1 .1) in
+    let numbered : o .load-codes .last .1 .0 ≡ codes lines = o .load-codes .ensures ∙ (ap (λ n. take n (a .numbers .now)) long ∙ p .1 .0) in
+    rw (c .before .before .load-lines .ensures, numbered, t .load-table .ensures) (tables-loaded lines (a .plan) (a .work .now) (p .0 .0) (p .0 .1) (p .1 .1))
 
 pub load-spec : {M : Type 1} → statement M
 load-spec =
     tie.close
     (tie.spec
+    load-table-requires
     mul-load-codes
     sub-load-codes
     part-load-codes-start

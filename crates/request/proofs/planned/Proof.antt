@@ -36,6 +36,12 @@ div-inverse c = omega (arith, one-le-pow (c .args .keeps) (c .args .radix) (c .p
 add-inverse : tie.Need-add-inverse
 add-inverse c = omega (arith, div-le-self scale (c .args .size / (c .args .places * (c .args .done + 1))))
 
+boat-words-requires : tie.Need-boat-words-requires
+boat-words-requires c κs = search needs
+
+add-codes : tie.Need-add-codes
+add-codes c = search needs
+
 add-words : tie.Need-add-words
 add-words c = search needs
 
@@ -61,13 +67,13 @@ add-byboat : tie.Need-add-byboat
 add-byboat c = search needs
 
 mul-table-words-2 : tie.Need-mul-table-words-2
-mul-table-words-2 c = omega (arith, few-keys (c .before))
+mul-table-words-2 c = omega (arith, few-keys (c .before .before))
 
 table-words-requires-2 : tie.Need-table-words-requires-2
-table-words-requires-2 c κs = (omega (arith, few-keys (c .before)), omega (arith, c .before .pre .few-lines))
+table-words-requires-2 c κs = (omega (arith, few-keys (c .before .before)), omega (arith, c .before .before .pre .few-lines))
 
 add-thin : tie.Need-add-thin
-add-thin c = omega (arith, few-keys (c .before .before))
+add-thin c = omega (arith, few-keys (c .before .before .before))
 
 mul-table-words-3 : tie.Need-mul-table-words-3
 mul-table-words-3 c = search needs
@@ -76,13 +82,13 @@ table-words-requires-3 : tie.Need-table-words-requires-3
 table-words-requires-3 c κs = search needs
 
 add-stamps : tie.Need-add-stamps
-add-stamps c = omega (arith, few-keys (c .before .before .before))
+add-stamps c = omega (arith, few-keys (c .before .before .before .before))
 
 mul-filed-end : tie.Need-mul-filed-end
 mul-filed-end c = search needs
 
 add-filed-end : tie.Need-add-filed-end
-add-filed-end c = omega (arith, few-keys (c .before .before .before))
+add-filed-end c = omega (arith, few-keys (c .before .before .before .before))
 
 add-bystart : tie.Need-add-bystart
 add-bystart c = search needs
@@ -95,8 +101,9 @@ add-ordered-end c = search needs
 
 returns : tie.Need-returns
 returns c =
-    let s = c .before .before .before .before in
+    let s = c .before .before .before .before .before in
     let p = s .pre in
+    let boat-words = c .before .before .before .before .boat-words .ensures in
     let kinds = c .before .before .before .table-words .ensures in
     let boats = c .before .before .table-words2 .ensures in
     let thin = c .before .table-words3 .ensures in
@@ -113,12 +120,12 @@ returns c =
         inverse-is = refl;
         size-is = p .size-is ∙ ap (λ (n : ℕ). s .args .places * (s .args .done + 1) * n) (sym (stacks-are s));
         small = p .small;
-        codes-at = refl;
+        codes-at = omega (arith, boat-words);
         words-at = refl;
         base-at = refl;
-        few-words = p .few-words;
+        few-words = omega (arith, p .few-words, boat-words);
         marks-at = refl;
-        room = p .room;
+        room = omega (arith, p .room, boat-words);
         kinds-at = refl;
         boats-at = omega (arith, kinds);
         thin-at = omega (arith, boats);
@@ -131,26 +138,26 @@ returns c =
     )
 
 -- the tables end far below 2^32
-low-end : (c : tie.After-table-words4) → let a = c .before .before .before .before .args in
-    a .at + a .lines + a .lines + 2 * a .size + c .before .before .before .table-words .result + c .before .before .table-words2 .result + c .before .table-words3 .result ≤ 16777216
+low-end : (c : tie.After-table-words4) → let a = c .before .before .before .before .before .args in
+    a .at + c .before .before .before .before .boat-words .result + a .lines + a .lines + 2 * a .size + c .before .before .before .table-words .result + c .before .before .table-words2 .result + c .before .table-words3 .result ≤ 16777216
 low-end c =
-    let s = c .before .before .before .before in
-    omega (arith, few-keys s, s .pre .few-words, s .pre .few-lines, s .pre .few-places, s .pre .small, c .before .before .before .table-words .ensures, c .before .before .table-words2 .ensures, c .before .table-words3 .ensures)
-
-cast-t23 : tie.Need-cast-t23
-cast-t23 c = omega (arith, low-end c)
+    let s = c .before .before .before .before .before in
+    omega (arith, few-keys s, c .before .before .before .before .boat-words .ensures, s .pre .few-words, s .pre .few-lines, s .pre .few-places, s .pre .small, c .before .before .before .table-words .ensures, c .before .before .table-words2 .ensures, c .before .table-words3 .ensures)
 
 cast-t24 : tie.Need-cast-t24
 cast-t24 c = omega (arith, low-end c)
 
 cast-t25 : tie.Need-cast-t25
-cast-t25 c = search needs
+cast-t25 c = omega (arith, low-end c)
 
 cast-t26 : tie.Need-cast-t26
 cast-t26 c = search needs
 
 cast-t27 : tie.Need-cast-t27
 cast-t27 c = search needs
+
+cast-t28 : tie.Need-cast-t28
+cast-t28 c = search needs
 
 pub planned-spec : {M : Type 1} → statement M
 planned-spec =
@@ -161,6 +168,8 @@ planned-spec =
     div-stacks
     div-inverse
     add-inverse
+    boat-words-requires
+    add-codes
     add-words
     add-base
     add-marks
@@ -180,9 +189,9 @@ planned-spec =
     add-bystart
     table-words-requires-4
     add-ordered-end
-    cast-t23
     cast-t24
     cast-t25
     cast-t26
     cast-t27
+    cast-t28
     returns)

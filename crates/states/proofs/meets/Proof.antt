@@ -1,6 +1,5 @@
 -- `states::meets` meets its contract, rule by rule. Assumes nothing.
 use mathlib.Core.Path.{sym, ap, _∙_}
-use mathlib.Core.Bool.{not}
 use Rattle.positions.specs.declared.Rule.{Rule}
 use Rattle.states.specs.Spots.{toldShown, metBy}
 use Rattle.states.proofs.Comparing.{same-met, other-met, never-left}
@@ -28,16 +27,16 @@ returns-2 c =
 enum-told-3 : tie.Need-enum-told-3
 enum-told-3 c = search needs
 
-same-requires-2 : tie.Need-same-requires-2
-same-requires-2 c κs = search needs
+other-requires : tie.Need-other-requires
+other-requires c κs = search needs
 
 returns-3 : tie.Need-returns-3
 returns-3 c =
     let a = c .before .before .before .before .before .args in
-    ap not (c .same2 .ensures) ∙ (other-met (a .told) ∙ ap (λ (t : Rule). metBy t (toldShown (a .told))) (sym (c .before .enum-told3 .given .1)))
+    c .other .ensures ∙ (other-met (a .told) ∙ ap (λ (t : Rule). metBy t (toldShown (a .told))) (sym (c .before .enum-told3 .given .1)))
 
 returns-4 : tie.Need-returns-4
 returns-4 c = never-left (c .before .before .before .args .rule) (c .before .before .match .keys2) (c .before .match2 .keys2) (c .match3 .keys2) (toldShown (c .before .before .before .args .told))
 
 pub meets-spec : {M : Type 1} → statement M
-meets-spec = tie.close (tie.spec enum-told returns enum-told-2 same-requires returns-2 enum-told-3 same-requires-2 returns-3 returns-4)
+meets-spec = tie.close (tie.spec enum-told returns enum-told-2 same-requires returns-2 enum-told-3 other-requires returns-3 returns-4)

@@ -18,18 +18,18 @@ enum-told c = search needs
 
 returns : tie.Need-returns
 unfolding spotIn
-returns c = sym (okay-any _ _ _ _ (ap (λ (x : Row). x .rule) (sym (c .before .before .row-at .ensures)) ∙ c .enum-told .given .1))
+returns c = sym (okay-any _ _ _ _ _ (ap (λ (x : Row). x .rule) (sym (c .before .before .row-at .ensures)) ∙ c .enum-told .given .1))
 
 wide-requires : tie.Need-wide-requires
 wide-requires c κs = search needs
 
 power-requires : tie.Need-power-requires
-power-requires c κs = let a = c .before .before .before in rw (c .wide .ensures .0, c .before .before .row-at .ensures) (a .pre .1, level-few _ _, a .pre .2)
+power-requires c κs = let a = c .before .before .before .before in rw (c .wide .ensures .0, c .before .before .row-at .ensures) (a .pre .0 .some-radix, level-few _ _, a .pre .1 .1)
 
 entry-at-requires : tie.Need-entry-at-requires
 entry-at-requires c κs =
-    let a = c .before .before .before .before in
-    (omega (arith, c .power .ensures, one-le-pow (c .before .wide .result) (a .args .radix) (a .pre .1)), a .pre .1)
+    let a = c .before .before .before .before .before in
+    (omega (arith, c .power .ensures, one-le-pow (c .before .wide .result) (a .args .plan .radix) (a .pre .0 .some-radix)), a .pre .0 .some-radix)
 
 compared-requires : tie.Need-compared-requires
 compared-requires c κs = search needs

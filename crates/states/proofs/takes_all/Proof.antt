@@ -9,7 +9,7 @@ enum-told : tie.Need-enum-told
 enum-told c = search needs
 
 returns : tie.Need-returns
-returns c = λ _. record { every = λ R x v. okay-any R _ x v (c .enum-told .given .1) }
+returns c = λ _. record { every = λ B R x v. okay-any B R _ x v (c .enum-told .given .1) }
 
 returns-2 : tie.Need-returns-2
 returns-2 c = λ e. absurd (false≢true e)

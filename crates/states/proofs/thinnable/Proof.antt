@@ -1,8 +1,7 @@
 -- `states::thinnable` meets its contract, rule by rule. Assumes nothing.
 use mathlib.Core.Bool.{false≢true}
-use Prim.Native.Nat.{_/_, _%_}
-use Rattle.states.specs.Served.{everybody, all-but, nobody}
-use Rattle.states.proofs.Comparing.{okay-any, okay-never, okay-other}
+use Rattle.states.specs.Served.{everybody, nobody}
+use Rattle.states.proofs.Comparing.{okay-any, okay-never, other-served}
 use borrow.Author.Needs.{needs}
 use Rattle.states.proofs.thinnable.Statement.{statement}
 use Rattle.states.proofs.thinnable.Tie as tie
@@ -23,10 +22,10 @@ enum-told-4 : tie.Need-enum-told-4
 enum-told-4 c = search needs
 
 returns-2 : tie.Need-returns-2
-returns-2 c = λ _. record { plain = c .before .before .if1 .left; served = λ R v. nobody (λ x. okay-never R _ x v (c .enum-told .given .1)) }
+returns-2 c = λ _. record { plain = c .before .before .if1 .left; served = λ B R v. nobody (λ x. okay-never B R _ x v (c .enum-told .given .1)) }
 
 returns-3 : tie.Need-returns-3
-returns-3 c = λ _. record { plain = c .before .before .if1 .left; served = λ R v. everybody (λ x. okay-any R _ x v (c .enum-told2 .given .1)) }
+returns-3 c = λ _. record { plain = c .before .before .if1 .left; served = λ B R v. everybody (λ x. okay-any B R _ x v (c .enum-told2 .given .1)) }
 
 returns-4 : tie.Need-returns-4
 returns-4 c = λ e. absurd (false≢true e)
@@ -34,7 +33,7 @@ returns-4 c = λ e. absurd (false≢true e)
 returns-5 : tie.Need-returns-5
 returns-5 c = λ _.
     let s = c .before .before .before .args .spot in
-    record { plain = c .before .before .if1 .left; served = λ R v. all-but (v / s .level % R) (λ x. okay-other R s x v (c .enum-told4 .given .1)) }
+    record { plain = c .before .before .if1 .left; served = λ B R v. other-served B R s v (c .enum-told4 .given .1) }
 
 pub thinnable-spec : {M : Type 1} → statement M
 thinnable-spec =

@@ -5,6 +5,7 @@ use native.Mathlib.Omega.{arith}
 use lib.ListN.{length, set, length-replicate}
 use Rattle.sorted.specs.Sorting.{linesFrom, Kept}
 use Rattle.sorted.specs.declared.Order.the-variants as Order
+use Rattle.states.specs.Spots.{boatsIn}
 use Rattle.area.proofs.Stretches.{patch-length}
 use Rattle.thinned.specs.Thinning.{thinEnd}
 use Rattle.thinned.specs.Marks.{Made}
@@ -52,7 +53,7 @@ returns c =
     let eu : u ≡ linesFrom Order.Kind plan (plan .thin) = omega (arith, eb) in
     let head : plan .thin + 0 ≡ plan .thin = omega arith in
     let back = sym (c .before .before .write .ensures ∙ (λ t. set ((c .before .before .before .before .before .before .before .before .clear-stretch .ensures) t) (head t) u)) in (
-      subst (Made plan (plan .bykind) (plan .thin) 0) back (made-none (a .pre) eb refl eu),
+      subst (Made plan (plan .bykind) (plan .thin) (boatsIn plan (a .args .work .now)) 0) back (made-none (a .pre) eb refl eu (boatsIn plan (a .args .work .now))),
       subst (Kept (plan .thin) (thinEnd plan (plan .thin)) (a .args .work .now)) back (none-kept (a .pre) eb refl eu),
     )
 

@@ -4,6 +4,7 @@ use mathlib.Core.Path.{_≡_, sym, subst}
 use Prim.Native.Nat.{suc, _+_, _≤_}
 use native.Mathlib.Omega.{arith}
 use Rattle.sorted.specs.Sorting.{Kept}
+use Rattle.states.specs.Spots.{boatsIn}
 use Rattle.thinned.specs.Thinning.{thinEnd}
 use Rattle.thinned.specs.Marks.{Ahead, Made}
 use Rattle.thinned.specs.Runs.{stamps-are}
@@ -40,7 +41,7 @@ ahead c =
     made-ahead (a .pre .0) (a .pre .1 .0) (a .pre .1 .1) (stamps-are (a .pre .0 .laid)) stamp (run .0) (run .1) (c .word .ensures)
 
 thin-run-requires : tie.Need-thin-run-requires
-thin-run-requires c κs = (ahead (c .before), omega (arith, c .before .word .ensures, c .before .before .before .before .before .before .before .pre .1 .1 .begins))
+thin-run-requires c κs = let a = c .before .before .before .before .before .before .before in (ahead (c .before), (a .pre .0 .laid, omega (arith, c .before .word .ensures, a .pre .1 .1 .begins)))
 
 -- no more words are kept than there is room for
 end-few : (c : tie.After-thin-run) → c .thin-run .result ≤ c .before .before .before .before .before .before .before .before .args .plan .stamps
@@ -80,7 +81,7 @@ returns c =
     let stamp : x .k + 1 ≡ suc (x .k) = omega arith in
     let here : at + (x .k + 1) ≡ at + suc (x .k) = omega arith in
     let back = sym (c .before .before .write .ensures) in (
-      subst (Made (x .plan) (x .plan .bykind) at (suc (x .k))) back
+      subst (Made (x .plan) (x .plan .bykind) at (boatsIn (x .plan) (x .work .now)) (suc (x .k))) back
           (made-key d (a .pre .1 .0) (a .pre .1 .1) (stamps-are (d .laid)) stamp (run .0) (run .1) (c .before .before .before .before .before .before .before .before .before .word .ensures) here (r .ensures)),
       subst (Kept at (thinEnd (x .plan) at) (x .work .now)) back
           (kept-key d (a .pre .1 .0) (a .pre .1 .1) (stamps-are (d .laid)) stamp (run .0) (run .1) (c .before .before .before .before .before .before .before .before .before .word .ensures) here (r .ensures)),

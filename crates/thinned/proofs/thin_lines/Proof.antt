@@ -8,13 +8,14 @@ use Rattle.sorted.specs.declared.Order.the-variants as Order
 use Rattle.sorted.proofs.Turns.{kept-none, kept-then}
 use Rattle.thinned.specs.Thinning.{thinEnd}
 use Rattle.thinned.specs.Marks.{Ground, Made}
-use Rattle.thinned.specs.Runs.{filed-end}
+use Rattle.thinned.specs.Runs.{filed-end, boats-kept, base-before}
+use Rattle.states.specs.Spots.{boatsIn}
 use Rattle.thinned.proofs.Running.{ground-kept, keys-few}
 use Rattle.thinned.proofs.thin_lines.Statement.{statement}
 use Rattle.thinned.proofs.thin_lines.Tie as tie
 
 abbrev Inv-loop : tie.InvT-loop
-Inv-loop work₀ plan all k₀ work k = (k ≤ all) × Kept (plan .thin) (thinEnd plan (plan .thin)) work₀ work × Made plan (plan .bykind) (plan .thin) k work
+Inv-loop work₀ plan all k₀ work k = (k ≤ all) × Kept (plan .thin) (thinEnd plan (plan .thin)) work₀ work × Made plan (plan .bykind) (plan .thin) (boatsIn plan work) k work
 
 abbrev μ-loop : tie.MeasureT-loop
 μ-loop work₀ plan all k₀ work k = all - k
@@ -39,7 +40,12 @@ keys-of-requires : tie.Need-keys-of-requires Inv-loop μ-loop
 keys-of-requires c κs = let l = c .before .before .before .before .before .pre .0 in (l .few-places, l .few-boats)
 
 loop-holds : tie.Need-loop-holds Inv-loop μ-loop
-loop-holds c = (omega arith, kept-none, c .before .before .before .clear-marks .ensures .0)
+loop-holds c =
+    let k = c .before .before .before .clear-marks in
+    let a = c .before .before .before .before .before .before in
+    let plan = a .args .plan in
+    let boats = boats-kept plan (k .ensures .1) (base-before (a .pre .0)) in
+    (omega arith, kept-none, subst (λ B. Made plan (plan .bykind) (plan .thin) B 0 (k .last .0)) (sym boats) (k .ensures .0))
 
 thin-key-requires : tie.Need-thin-key-requires Inv-loop μ-loop
 thin-key-requires c κs =
@@ -55,11 +61,13 @@ loop-less c = omega (arith, c .before .before .before .before .loop-test .taken)
 
 loop-again : tie.Need-loop-again Inv-loop μ-loop
 loop-again c =
-    let plan = c .before .before .before .before .before .before .before .before .before .before .before .before .args .plan in
+    let a = c .before .before .before .before .before .before .before .before .before .before .before .before in
+    let plan = a .args .plan in
     let l = c .before .before .before .before .before .loop in
     let r = c .before .before .thin-key in
     let next : suc (l .k) ≡ l .k + 1 = omega arith in
-    (omega (arith, c .before .before .before .before .loop-test .taken), kept-then (l .inv .1) (r .ensures .1), subst (λ n. Made plan (plan .bykind) (plan .thin) n (r .last .0)) next (r .ensures .0))
+    let boats = boats-kept plan (r .ensures .1) (base-before (a .pre .0)) in
+    (omega (arith, c .before .before .before .before .loop-test .taken), kept-then (l .inv .1) (r .ensures .1), subst (λ n. Made plan (plan .bykind) (plan .thin) (boatsIn plan (r .last .0)) n (r .last .0)) next (subst (λ B. Made plan (plan .bykind) (plan .thin) B (suc (l .k)) (r .last .0)) (sym boats) (r .ensures .0)))
 
 same-length : tie.Need-same-length Inv-loop μ-loop
 same-length c = c .before .loop .inv .1 .long ∙ c .before .before .before .before .before .clear-marks .ensures .1 .long

@@ -1,14 +1,17 @@
 -- `thinned::thin_run` meets its contract: each word read leaves the run under way, one word on. Assumes nothing.
-use mathlib.Core.Path.{_≡_, subst}
+use mathlib.Core.Path.{_≡_, sym, subst}
 use Prim.Native.Nat.{_-_, _≤_}
 use native.Mathlib.Omega.{arith}
-use Rattle.thinned.specs.Marks.{Going}
+use Rattle.request.specs.Layout.{Laid}
+use Rattle.states.specs.Spots.{boatsIn}
+use Rattle.thinned.specs.Marks.{Going, Read}
+use Rattle.thinned.specs.Runs.{boats-kept, base-before}
 use Rattle.thinned.proofs.Marking.{going-none, going-read, going-fits, next-low, read-low}
 use Rattle.thinned.proofs.thin_run.Statement.{statement}
 use Rattle.thinned.proofs.thin_run.Tie as tie
 
 abbrev Inv-loop : tie.InvT-loop
-Inv-loop work₀ plan stamp lo hi start next₀ p₀ work next p = (p ≤ hi) × Going (plan .stamps) (plan .places) stamp lo start p next work₀ work
+Inv-loop work₀ plan stamp lo hi start next₀ p₀ work next p = (p ≤ hi) × Going (plan .stamps) (plan .places) (boatsIn plan work₀) stamp lo start p next work₀ work
 
 abbrev μ-loop : tie.MeasureT-loop
 μ-loop work₀ plan stamp lo hi start next₀ p₀ work next p = hi - p
@@ -28,7 +31,7 @@ thin-word-requires c κs =
     let g = c .before .before .before .before .loop .inv .1 in
     let less = c .before .before .before .loop-test .taken in
     let low = read-low h g less (c .before .word .ensures) in
-    ((going-fits h g less, h .fit .1), (omega (arith, a .pre .1, g .rising), next-low h g less, low, h .stamp-low))
+    ((subst (Laid (a .args .plan)) (sym (g .kept .long)) (a .pre .1 .0), (going-fits h g less, h .fit .1)), (omega (arith, a .pre .1 .1, g .rising), next-low h g less, low, h .stamp-low))
 
 add-p : tie.Need-add-p Inv-loop μ-loop
 add-p c =
@@ -41,7 +44,13 @@ loop-less c = omega (arith, c .before .before .before .before .before .before .l
 loop-again : tie.Need-loop-again Inv-loop μ-loop
 loop-again c =
     let less = c .before .before .before .before .before .before .loop-test .taken in
-    (omega (arith, less), going-read (c .before .before .before .before .before .before .before .before .before .pre .0) (c .before .before .before .before .before .before .before .loop .inv .1) less (c .before .before .before .before .word .ensures) (c .before .before .thin-word .ensures))
+    let a = c .before .before .before .before .before .before .before .before .before in
+    let x = a .args in
+    let l = c .before .before .before .before .before .before .before .loop in
+    let k = c .before .before .thin-word in
+    let boats = boats-kept (x .plan) (l .inv .1 .kept) (omega (arith, base-before (a .pre .1 .0), a .pre .1 .1)) in
+    let read = subst (λ B. Read (x .plan .stamps) (x .plan .places) B (x .stamp) (c .before .before .before .before .word .result) (l .next) (l .work) (k .result) (k .last .0)) boats (k .ensures) in
+    (omega (arith, less), going-read (a .pre .0) (l .inv .1) less (c .before .before .before .before .word .ensures) read)
 
 same-length : tie.Need-same-length Inv-loop μ-loop
 same-length c = c .before .loop .inv .1 .kept .long
@@ -51,7 +60,7 @@ returns c =
     let x = c .before .before .before .args in
     let l = c .before .loop in
     let end : l .p ≡ x .hi = omega (arith, l .inv .0, c .loop-test .left) in
-    subst (λ p. Going (x .plan .stamps) (x .plan .places) (x .stamp) (x .lo) (x .start) p (l .next) (x .work .now) (l .work)) end (l .inv .1)
+    subst (λ p. Going (x .plan .stamps) (x .plan .places) (boatsIn (x .plan) (x .work .now)) (x .stamp) (x .lo) (x .start) p (l .next) (x .work .now) (l .work)) end (l .inv .1)
 
 pub thin-run-spec : {M : Type 1} → statement M
 thin-run-spec =

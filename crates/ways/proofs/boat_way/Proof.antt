@@ -18,14 +18,14 @@ lane-at-requires c κs =
     let l = b .laid in
     (omega (arith, b .position-low, l .few-commands), l .few-commands, omega (arith, stacks-small l, l .small), omega (arith, a .pre .1, stacks-small l, l .small))
 
-mul-t9 : tie.Need-mul-t9
-mul-t9 c =
+mul-t10 : tie.Need-mul-t10
+mul-t10 c =
     let a = c .before .before .before .before .before in
     let b = a .pre .0 in
     omega (arith, by-boat (a .args .target .place) (a .args .plan .radix) 0 (omega (arith, b .aimed .place-low, b .laid .few-places)) (b .laid .few-boats) (b .laid .some-radix) .0)
 
-add-t10 : tie.Need-add-t10
-add-t10 c =
+add-t11 : tie.Need-add-t11
+add-t11 c =
     let a = c .before .before .before .before .before in
     let b = a .pre .0 in
     omega (arith, by-boat (a .args .target .place) (a .args .plan .radix) (a .args .boat) (omega (arith, b .aimed .place-low, b .laid .few-places)) (b .laid .few-boats) (a .pre .2) .1)
@@ -33,7 +33,7 @@ add-t10 c =
 returns-2 : tie.Need-returns-2
 returns-2 c =
     let a = c .before .before .before .before .before in
-    λ count single. (omega (arith, c .before .before .before .if1 .left), boat-runs _ _ _ _ _ (a .pre .0) count _ _ (a .args .u) (a .args .boat) (c .before .before .lane-at .ensures) refl (a .pre .2) (a .pre .1) single)
+    λ g count told single. (omega (arith, c .before .before .before .if1 .left), boat-runs _ _ _ _ _ (a .pre .0) g told count _ _ (a .args .u) (a .args .boat) (c .before .before .lane-at .ensures) refl (a .pre .2) (a .pre .1) single)
 
 pub boat-way-spec : {M : Type 1} → statement M
-boat-way-spec = tie.close (tie.spec returns lane-at-requires mul-t9 add-t10 returns-2)
+boat-way-spec = tie.close (tie.spec returns lane-at-requires mul-t10 add-t11 returns-2)

@@ -1,5 +1,6 @@
 -- `ways::dropping_way` meets its contract: the boat that is forgotten is the line's, where every boat passes. Assumes nothing.
 use native.Mathlib.Omega.{arith}
+use Rattle.search.specs.Loaded.{boatAt}
 use Rattle.ways.proofs.Chosen.{drop-single}
 use borrow.Author.Needs.{needs}
 use Rattle.ways.proofs.dropping_way.Statement.{statement}
@@ -18,7 +19,7 @@ returns-2 : tie.Need-returns-2
 returns-2 c =
     let a = c .before .before .before .before .before .before in
     let all = c .before .before .takes-all .ensures (c .before .if2 .taken) in
-    c .kind-way .ensures _ (drop-single _ _ _ _ _ (a .pre .0) (a .pre .1) (omega (arith, c .before .before .before .if1 .left)) (λ x. all .every _ x _))
+    λ g told. c .kind-way .ensures g _ told (drop-single (boatAt (a .args .plan) g) _ _ _ _ _ (a .pre .0) (a .pre .1) (omega (arith, c .before .before .before .if1 .left)) 0 (λ x. all .every _ _ x _))
 
 returns-3 : tie.Need-returns-3
 returns-3 c = search needs

@@ -1,5 +1,6 @@
 -- `ways::forgetting_way` meets its contract: the boat that is forgotten is the line's. Assumes nothing.
 use mathlib.Core.Path.{refl}
+use Rattle.search.specs.Loaded.{boatAt}
 use Rattle.ways.proofs.Chosen.{shallow, weight-small, left-single}
 use borrow.Author.Needs.{needs}
 use Rattle.ways.proofs.forgetting_way.Statement.{statement}
@@ -19,8 +20,9 @@ kind-way-requires c κs = let b = c .before .before .before .before .before .bef
 
 returns-2 : tie.Need-returns-2
 returns-2 c =
-    let b = c .before .before .before .before .before .before .before .pre in
-    c .kind-way .ensures _ (left-single _ _ _ _ _ b (c .before .before .before .before .before .before .if1 .left) (c .before .before .wants-kept .ensures (c .before .if3 .taken)) (c .before .before .before .if2 .taken) refl)
+    let a = c .before .before .before .before .before .before .before in
+    let b = a .pre in
+    λ g told. c .kind-way .ensures g _ told (left-single (boatAt (a .args .plan) g) _ _ _ _ _ b (c .before .before .before .before .before .before .if1 .left) (c .before .before .wants-kept .ensures (c .before .if3 .taken)) (c .before .before .before .if2 .taken) refl)
 
 returns-3 : tie.Need-returns-3
 returns-3 c = search needs

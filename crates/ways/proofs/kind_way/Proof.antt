@@ -13,14 +13,14 @@ lane-at-requires c κs =
     let l = b .laid in
     (omega (arith, b .position-low, l .few-commands), l .few-commands, omega (arith, stacks-small l, l .small), omega (arith, stack-fits _ _ _ _ _ b, stacks-small l, l .small))
 
-mul-t8 : tie.Need-mul-t8
-mul-t8 c = search needs
+mul-t9 : tie.Need-mul-t9
+mul-t9 c = search needs
 
-add-t9 : tie.Need-add-t9
-add-t9 c = search needs
+add-t10 : tie.Need-add-t10
+add-t10 c = search needs
 
 returns : tie.Need-returns
-returns c = let a = c .before .before .before in λ count single. kind-runs _ _ _ _ _ (a .pre .0) count _ _ (a .args .weight) (a .args .boat) (c .before .before .lane-at .ensures) refl (a .pre .1) single
+returns c = let a = c .before .before .before in λ g count told single. kind-runs _ _ _ _ _ (a .pre .0) g told count _ _ (a .args .weight) (a .args .number) (a .args .taking) (c .before .before .lane-at .ensures) refl (a .pre .1) single
 
 pub kind-way-spec : {M : Type 1} → statement M
-kind-way-spec = tie.close (tie.spec lane-at-requires mul-t8 add-t9 returns)
+kind-way-spec = tie.close (tie.spec lane-at-requires mul-t9 add-t10 returns)

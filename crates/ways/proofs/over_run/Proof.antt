@@ -8,6 +8,7 @@ use Rattle.graph.specs.Table.{Search}
 use Rattle.sorted.specs.Runs.{turns-run, table-behind}
 use Rattle.sorted.specs.Sorting.{tableAt}
 use Rattle.area.specs.Area.{found}
+use Rattle.states.specs.Spots.{boatsIn}
 use Rattle.area.proofs.Changes.{step-as}
 use Rattle.ways.specs.Ways.{laneState, laneTurn}
 use Rattle.ways.proofs.Lanes.{run-word, run-turn}
@@ -29,7 +30,7 @@ over-words-requires c κs =
     let begins = subst (λ x. a .args .plan .base + a .args .plan .size + a .args .plan .size ≤ x) (sym lo) (omega (arith, table-behind laid (a .args .order), run .low)) in (
       a .pre .0,
       (
-        narrow,
+        (laid, narrow),
         (
           (some, near, begins, rising, inside),
           λ p from less.
@@ -51,8 +52,8 @@ returns c =
     let w = x .work .now in
     let at = tableAt (x .order) (x .plan) in
     let st = found (x .plan .base) (x .plan .size) (x .tail) w in
-    let all = turns-run (x .order) (x .plan) at w (x .k) (s (x .k) (a .pre .1 .0 .1)) room _ (laneTurn (x .d) (x .lane)) (λ i less b. run-turn _ _ _ _ _ i b) st in
-    let turn : ℕ → Search → Search = λ p. laneTurn (x .d) (x .lane) (getD w p 0) in
+    let all = turns-run (x .order) (x .plan) at w (x .k) (s (x .k) (a .pre .1 .0 .1)) room _ (laneTurn (boatsIn (x .plan) (x .work .now)) (x .d) (x .lane)) (λ i less b. run-turn _ _ _ _ _ i b) st in
+    let turn : ℕ → Search → Search = λ p. laneTurn (boatsIn (x .plan) (x .work .now)) (x .d) (x .lane) (getD w p 0) in
     let bounds : turns turn (c .before .before .before .before .run-of .result .lo) (c .before .before .before .before .run-of .result .hi - c .before .before .before .before .run-of .result .lo) st ≡ turns turn (getD w (at + x .k) 0) (getD w (at + suc (x .k)) 0 - getD w (at + x .k) 0) st = λ t. turns turn (lo t) (hi t - lo t) st in
     step-as _ (c .before .before .over-words .ensures) (all ∙ sym bounds)
 

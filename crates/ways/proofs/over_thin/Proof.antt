@@ -6,6 +6,7 @@ use lib.ListN.{length, getD}
 use Rattle.graph.specs.Loops.{turns}
 use Rattle.graph.specs.Table.{Search}
 use Rattle.area.specs.Area.{found}
+use Rattle.states.specs.Spots.{boatsIn}
 use Rattle.area.proofs.Changes.{step-as}
 use Rattle.ways.specs.Ways.{laneState, laneTurn}
 use Rattle.ways.proofs.Filing.{kinds-fit, thin-behind, thin-fit}
@@ -31,7 +32,7 @@ over-words-requires c κs =
     let run = filed .kinds (x .k) low in
     let t = filed .thin (x .k) low in
     let begins = subst (λ n. x .plan .base + x .plan .size + x .plan .size ≤ n) (sym lo) (omega (arith, thin-behind laid, t .low)) in
-    (a .pre .0, (narrow, ((some, near, begins, rising, inside), λ p from less. run-gives (x .plan) of w (x .k) run (x .lane) gives (getD w p 0) (thin-word (x .plan) of at w (x .k) run t (thin-fit laid filed) p (omega (arith, lo, from)) (omega (arith, hi, less))))))
+    (a .pre .0, ((laid, narrow), ((some, near, begins, rising, inside), λ p from less. run-gives (x .plan) of w (x .k) run (x .lane) gives (getD w p 0) (thin-word (boatsIn (x .plan) w) (x .plan) of at w (x .k) run t (thin-fit laid filed) p (omega (arith, lo, from)) (omega (arith, hi, less))))))
 
 same-length : tie.Need-same-length
 same-length c = search needs
@@ -48,12 +49,12 @@ returns c =
     let (lo, hi, rising, inside) = c .before .before .before .before .thin-of .ensures in
     let run = filed .kinds (x .k) low in
     let st = found (x .plan .base) (x .plan .size) (x .tail) w in
-    let turn : ℕ → Search → Search = laneTurn (x .d) (x .lane) in
+    let turn : ℕ → Search → Search = laneTurn (boatsIn (x .plan) w) (x .d) (x .lane) in
     let long = found-long (x .plan .base) (x .plan .size) (x .tail) w (a .pre .0) in
     let first = getD w (at + x .k) 0 in
     let few = getD w (at + suc (x .k)) 0 - first in
-    let all = thin-turns (x .plan) of at w (x .k) run (filed .thin (x .k) low) (thin-fit laid filed) (kinds-fit laid filed) (lane-pushing (x .lane) enough (x .d) some) st
-    (λ y m s gets. subst (_< length (st .dist)) (sym (gets .3 ∙ sym (flat-state (x .lane) enough y))) (subst (laneState (x .lane) y <_) (sym long) (run-gives (x .plan) of w (x .k) run (x .lane) gives y m))) in
+    let all = thin-turns (boatsIn (x .plan) w) (x .plan) of at w (x .k) run (filed .thin (x .k) low) (thin-fit laid filed) (kinds-fit laid filed) (lane-pushing (boatsIn (x .plan) w) (x .lane) enough (x .d) some) st
+    (λ y m s gets. subst (_< length (st .dist)) (sym (gets .3 ∙ sym (flat-state (boatsIn (x .plan) w) (x .lane) enough y))) (subst (laneState (x .lane) y <_) (sym long) (run-gives (x .plan) of w (x .k) run (x .lane) gives y m))) in
     let bounds : turns (λ p. turn (getD w p 0)) (c .before .before .before .before .thin-of .result .lo) (c .before .before .before .before .thin-of .result .hi - c .before .before .before .before .thin-of .result .lo) st ≡ turns (λ p. turn (getD w p 0)) first few st = λ i. turns (λ p. turn (getD w p 0)) (lo i) (hi i - lo i) st in
     step-as _ (c .before .before .over-words .ensures) (all ∙ sym bounds)
 

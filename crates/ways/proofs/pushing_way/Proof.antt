@@ -1,5 +1,6 @@
 -- `ways::pushing_way` meets its contract: the boat on top of the state's stack is the line's, where every boat passes. Assumes nothing.
 use native.Mathlib.Omega.{arith}
+use Rattle.search.specs.Loaded.{boatAt}
 use Rattle.ways.proofs.Chosen.{before-fits, push-single}
 use borrow.Author.Needs.{needs}
 use Rattle.ways.proofs.pushing_way.Statement.{statement}
@@ -26,7 +27,7 @@ returns-2 : tie.Need-returns-2
 returns-2 c =
     let a = c .before .before .before .before .before .before .before .before .before in
     let all = c .before .before .takes-all .ensures (c .before .if2 .taken) in
-    c .boat-way .ensures 1 (push-single _ _ _ _ _ (a .pre .0) (a .pre .1) (λ x. all .every _ x _))
+    λ g told. c .boat-way .ensures g 1 told (push-single (boatAt (a .args .plan) g) _ _ _ _ _ (a .pre .0) (a .pre .1) (λ x. all .every _ _ x _))
 
 returns-3 : tie.Need-returns-3
 returns-3 c = search needs

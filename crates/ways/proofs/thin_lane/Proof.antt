@@ -1,18 +1,35 @@
--- `ways::thin_lane` meets its contract: without weight, and one number left out. Assumes nothing.
+-- `ways::thin_lane` meets its contract: without weight, and all words are taken, or those of read boats but one. Assumes nothing.
+use mathlib.Core.Path.{ap}
 use mathlib.Core.Bool.{false≢true}
 use borrow.Author.Tests.{eqb-true}
-use Rattle.states.specs.Served.{all-but}
+use Rattle.states.specs.Served.{everybody, read-but}
 use Rattle.ways.specs.Ways.{takenBy}
+use Rattle.ways.specs.declared.Taking.{Taking}
+use borrow.Author.Needs.{needs}
 use Rattle.ways.proofs.thin_lane.Statement.{statement}
 use Rattle.ways.proofs.thin_lane.Tie as tie
 
+enum-told : tie.Need-enum-told
+enum-told c = search needs
+
+enum-told-2 : tie.Need-enum-told-2
+enum-told-2 c = search needs
+
+enum-told-3 : tie.Need-enum-told-3
+enum-told-3 c = search needs
+
 returns : tie.Need-returns
-returns c = λ e. absurd (false≢true e)
+returns c = λ e B.
+    let lane = c .before .before .before .args .lane in
+    record { flat = eqb-true _ _ e; served = everybody (λ y. ap (λ (t : Taking). takenBy B t y (lane .number)) (c .before .enum-told .given .1)) }
 
 returns-2 : tie.Need-returns-2
-returns-2 c = λ e.
-    let lane = c .before .before .args .lane in
-    record { flat = eqb-true _ _ e; served = all-but (lane .number) (λ y. unfold takenBy in rw (c .before .if1 .left)) }
+returns-2 c = λ e. absurd (false≢true e)
+
+returns-3 : tie.Need-returns-3
+returns-3 c = λ e B.
+    let lane = c .before .before .before .args .lane in
+    record { flat = eqb-true _ _ e; served = read-but (lane .number) (λ y. ap (λ (t : Taking). takenBy B t y (lane .number)) (c .before .enum-told3 .given .1)) }
 
 pub thin-lane-spec : {M : Type 1} → statement M
-thin-lane-spec = tie.close (tie.spec returns returns-2)
+thin-lane-spec = tie.close (tie.spec enum-told enum-told-2 enum-told-3 returns returns-2 returns-3)

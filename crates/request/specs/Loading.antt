@@ -1,0 +1,13 @@
+-- The boats of a record put into a part of the area, line by line.
+use mathlib.Core.Path.{_≡_}
+use mathlib.Core.List.{List, _∷_, map}
+use Prim.Native.Nat.{ℕ, suc}
+use lib.ListN.{length, take}
+use Rattle.meaning.specs.Record.{Line, boats}
+use Rattle.boats.specs.Boats.{asNumber}
+
+-- i lines were met: the boats among them stand by their numbers, `next` is the number after theirs, and the part has room for all boats
+pub record BoatsNoted (lines : List Line) (i next : ℕ) (part : List ℕ) : Type 0 where
+  pub next-is : next ≡ suc (length (boats (take i lines)))
+  pub noted : take next part ≡ 0 ∷ map asNumber (boats (take i lines))
+  pub room : length part ≡ suc (length (boats lines))
