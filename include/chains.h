@@ -4,6 +4,10 @@
  * A record is a day's written lines; a line has a kind and a boat (class and sail number) and leads from a place to a place. A
  * pattern says which chains of lines are accepted. README.md explains the bytes of both.
  *
+ * Unread numbers. Class 0 with sail number 0 says that the number was not read, so that nothing is known of the boat. A pattern's same
+ * (22) and other (23) both fail on such a line, and both fail where the slot holds such a number. Line (21) takes the line, keep (27)
+ * keeps the number, and chains_words counts all unread numbers as one boat. Class 0 alone, and number 0 alone, are boats.
+ *
  * Slices. A pointer and the count that follows it are one slice: so many entries from there on. A pointer is never null and is
  * aligned to its type, also where the count is 0: lend the address of any variable of the type then. (malloc(0) may be null.)
  *
@@ -225,7 +229,7 @@ uint64_t chains_version(void);
 uint64_t chains_begin(uint8_t *buf, size_t buf_len, uint16_t places);
 
 /*
- * Adds a line to the record that is the first len bytes of the buffer.
+ * Adds a line to the record that is the first len bytes of the buffer. Class 0 with sail number 0 says that the number was not read.
  *
  * Value: the record's new length, len + 10.
  * Refusals: 20, then 1 to 7 of the record, 5 and 6 of the new line, 21, 22, 23, in this order.

@@ -1,8 +1,12 @@
 """A sailing day's record, and the first shortest chain of its lines that a pattern accepts: the functions of libchains.so.
 
-A record and a pattern are bytes or a bytearray. CHAINS_LIB names the library's file; else it is looked for beside this module, in
-the folder above and in the repository's target. A question that was answered no is a Refused, which has its number, its second
-number (value) and, as its text, a sentence; a number that a function's type does not hold is an OverflowError."""
+A record and a pattern are bytes or a bytearray. Class 0 with sail number 0 says that the number was not read: a pattern's same and other
+both fail on such a line, and both fail where the slot holds such a number; line takes it, keep keeps it, and together they count as one
+boat.
+
+CHAINS_LIB names the library's file; else it is looked for beside this module, in the folder above and in the repository's target. A
+question that was answered no is a Refused, which has its number, its second number (value) and, as its text, a sentence; a number
+that a function's type does not hold is an OverflowError."""
 import ctypes
 import os
 from array import array
@@ -89,7 +93,7 @@ def begin(places):
 
 
 def add(day, from_, kind, class_, sail, to):
-    """Adds a line to a record in a bytearray, which grows by ten bytes."""
+    """Adds a line to a record in a bytearray, which grows by ten bytes. Class and sail number are 0 where the number was not read."""
     longer = (ctypes.c_uint8 * (len(day) + 10)).from_buffer_copy(day + bytes(10))
     line = _u(16, from_), _u(8, kind), _u(8, class_), _u(32, sail), _u(16, to)
     _value(_library.chains_add(longer, len(longer), len(day), *line))

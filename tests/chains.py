@@ -1,5 +1,5 @@
 #!/usr/bin/env python3
-"""The small program: its data sets and the line that each prints, from document 01's text alone.
+"""The small program: its data sets and the line that each prints, from the text of document 01 and request One alone.
 
 Run from the repository's root:
 python3 tests/chains.py write FOLDER    writes crates/chains/data, its stdout, examples/day and tests/data under the folder
@@ -8,7 +8,7 @@ import os
 import subprocess
 import sys
 import tempfile
-from chains01 import E, P, R, R_LINES, S, T, find, record, line
+from chains01 import A, B, E, P, R, R_LINES, S, T, THEN_ANY, THEN_OTHER, THEN_SAME, boats_like, find, record, line
 
 
 def question(a, b, pattern): return a.to_bytes(2, "big") + b.to_bytes(2, "big") + bytes(pattern)
@@ -32,7 +32,13 @@ KEPT = {
     "damaged": (R[:-1], question(0, 3, P)),
 }
 
-def boats(n): return record(4, *[(a, k, 1, i, b) for a, k, b in ((0, 1, 1), (1, 2, 2), (2, 4, 3)) for i in range(n)])
+def sailed(n): return [(a, k, 1, i, b) for a, k, b in ((0, 1, 1), (1, 2, 2), (2, 4, 3)) for i in range(n)]
+
+
+def boats(n): return record(4, *sailed(n))
+
+
+def unread(n): return record(4, (0, 1, 0, 0, 1), (1, 2, 0, 0, 2), *sailed(n))
 
 
 LONG = [1, 4, 0] + line(0, 1, 1, 1, 1) * 4096
@@ -59,6 +65,15 @@ OTHERS = {
     "32 places, 63 commands, search size 2,048": (record(32, (0, 3, 1, 7, 0), (0, 4, 1, 7, 31)), question(0, 31, TIMES + [0x21, 4])),
     "6 boats, two keeps, search size 1,764": (boats(6), question(0, 3, TWO_KEEPS)),
     "7 boats, two keeps, search size 2,304": (boats(7), question(0, 3, TWO_KEEPS)),
+    "unread line, same": (A, question(0, 2, THEN_SAME)),
+    "unread line, other": (A, question(0, 2, THEN_OTHER)),
+    "unread kept, same": (B, question(0, 1, THEN_SAME)),
+    "unread kept, other": (B, question(0, 1, THEN_OTHER)),
+    "unread kept, any": (B, question(0, 1, THEN_ANY)),
+    "0-5 kept, other": (boats_like((0, 5), (0, 6)), question(0, 1, THEN_OTHER)),
+    "3-0 kept, same": (boats_like((3, 0), (4, 0)), question(0, 1, THEN_SAME)),
+    "62 boats and two unread lines, search size 2,048": (unread(62), question(0, 3, P)),
+    "63 boats and two unread lines, search size 2,080": (unread(63), question(0, 3, P)),
     "31 laps and home": (LAPS, question(0, 1, TIMES + [0x21, 4])),
     "4,096 lines": (LONG + [0], question(0, 1, [0x21, 1])),
     "4,096 lines and no end": (LONG, question(0, 1, [0x21, 1])),

@@ -1,5 +1,5 @@
-"""Document 01's text as Python, for the tests' expected outputs: reading records and patterns, membership clause by clause, questions
-1 to 17 of a request, and the worked records and patterns."""
+"""The text of document 01 and of request One as Python, for the tests' expected outputs: reading records and patterns, membership clause
+by clause, questions 1 to 17 of a request, and the worked records and patterns."""
 
 TABLE = {0x20: (0, 0), 0x21: (1, 0), 0x22: (2, 0), 0x23: (2, 0), 0x24: (0, 2), 0x25: (0, 2), 0x26: (0, 1), 0x27: (2, 1)}
 
@@ -58,14 +58,22 @@ def read_pattern(data):
 def keeps(p): return (p[0] == 0x27) + max([keeps(q) for q in p[2]] or [0])
 
 
+UNREAD = (0, 0)
+
+
+def met(code, kept, boat):
+    """Do a slot's boat and a line's pass same (22) or other (23)? An unread number on either side passes neither."""
+    if UNREAD in (kept, boat): return False
+    return (kept == boat) == (code == 0x22)
+
+
 def accepts(p, word, slots):
     """Is the word, a tuple of kinds and boats, in the pattern's language, the slots having these boats?"""
     code, operands, inner = p
     one = len(word) == 1 and operands and word[0][0] == operands[0]
     if code == 0x20: return not word
     if code == 0x21: return one
-    if code == 0x22: return one and slots[operands[1]] == word[0][1]
-    if code == 0x23: return one and slots[operands[1]] != word[0][1]
+    if code in (0x22, 0x23): return one and met(code, slots[operands[1]], word[0][1])
     if code == 0x24: return any(accepts(q, word, slots) for q in inner)
     if code == 0x25: return any(accepts(inner[0], word[:i], slots) and accepts(inner[1], word[i:], slots) for i in range(len(word) + 1))
     if code == 0x26: return not word or any(accepts(inner[0], word[:i], slots) and accepts(p, word[i:], slots) for i in range(1, len(word) + 1))
@@ -99,6 +107,19 @@ S = [0x27, 1, 0, 0x25, 0x27, 1, 0, 0x23, 1, 0, 0x22, 1, 0]
 E = record(1)
 
 
+# Request One. A: after boat 1-1, an unread line, its own and another's between two places. B: an unread number first, then an unread
+# line and a read one.
+A = record(3, (0, 1, 1, 1, 1), (1, 2, 0, 0, 2), (1, 2, 1, 1, 2), (1, 2, 1, 2, 2))
+B = record(2, (0, 1, 0, 0, 1), (1, 2, 0, 0, 1), (1, 2, 1, 1, 1))
+# A boat kept at kind 1, then a line of kind 2: any, its own, another's.
+THEN_ANY, THEN_SAME, THEN_OTHER = [0x27, 1, 0, 0x21, 2], [0x27, 1, 0, 0x22, 2, 0], [0x27, 1, 0, 0x23, 2, 0]
+
+
+def boats_like(kept, other):
+    """A boat kept at kind 1; after it an unread line, another boat's, its own."""
+    return record(2, (0, 1, *kept, 1), (1, 2, 0, 0, 1), (1, 2, *other, 1), (1, 2, *kept, 1))
+
+
 # ---- the first shortest chain
 # What is still to be read of a word is a list of patterns, each with its slots' boats: a keep's inner pattern has its own, and those of
 # the patterns after it stay as they were.
@@ -129,8 +150,7 @@ def read_one(todo, kind, boat):
     """What is left after a line of this kind and boat, the list beginning with a command that reads one; or None."""
     ((code, operands, inner), slots), rest = todo[0], todo[1:]
     if operands[0] != kind: return None
-    kept = dict(slots).get(operands[1]) if code != 0x21 else None
-    if code == 0x22 and kept != boat or code == 0x23 and kept == boat: return None
+    if code in (0x22, 0x23) and not met(code, dict(slots)[operands[1]], boat): return None
     if code == 0x27: return ((inner[0], tuple(sorted({**dict(slots), operands[1]: boat}.items()))),) + rest
     return rest
 

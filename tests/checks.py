@@ -1,9 +1,9 @@
 #!/usr/bin/env python3
-"""Rows about the checker and what they make crates/rows write, from document 01's text alone: questions 1 to 18, and membership clause
-by clause.
+"""Rows about the checker and what they make crates/rows write, from the text of document 01 and request One alone: questions 1 to 18, and
+membership clause by clause.
 
 Run from the repository's root: python3 tests/checks.py FOLDER writes FOLDER/checks.bin and prints a part of crates/rows/stdout."""
-from chains01 import E, P, R, S, T, Refused, accepts, asked
+from chains01 import A, B, E, P, R, S, T, THEN_ANY, THEN_OTHER, THEN_SAME, Refused, accepts, asked, boats_like, record
 from table import Table, long, short
 
 table = Table("checks")
@@ -52,4 +52,25 @@ row("two places, repeat of nothing, empty", [1, 0, 2, 0], [0x26, 0x20], 1, 1, []
 row("bad record and bad pattern", [1, 0, 1], [255], 9, 9, [9], 0)
 row("bad pattern", E, [0x22, 1, 0], 9, 9, [9], 0)
 row("1,024 places, three keeps, no boats", [1, 4, 0, 0], [0x27, 1, 0, 0x27, 1, 1, 0x27, 1, 2, 0x20], 1023, 0, [9], 0)
+
+# ---- request One: an unread number, on the line or in the slot, passes neither same nor other; keep, line and the size take it
+for word, pattern in (("any", THEN_ANY), ("same", THEN_SAME), ("other", THEN_OTHER)):
+    for second, boat in ((1, "unread"), (2, "1-1"), (3, "1-2")): row("1-1 kept, %s: %s" % (word, boat), A, pattern, 0, 2, [0, second])
+    for second, boat in ((1, "unread"), (2, "1-1")): row("unread kept, %s: %s" % (word, boat), B, pattern, 0, 1, [0, second])
+for name, kept, other in (("0-5", (0, 5), (0, 6)), ("3-0", (3, 0), (4, 0))):
+    day = boats_like(kept, other)
+    for word, pattern in (("same", THEN_SAME), ("other", THEN_OTHER)):
+        for second, boat in ((1, "unread"), (2, "%d-%d" % other), (3, name)): row("%s kept, %s: %s" % (name, word, boat), day, pattern, 0, 1, [0, second])
+row("line: unread", B, [0x21, 1], 0, 1, [0])
+row("keep: unread", B, [0x27, 1, 0, 0x20], 0, 1, [0])
+NESTED = record(4, (0, 1, 1, 1, 1), (1, 2, 0, 0, 2), (2, 3, 1, 1, 3), (2, 3, 1, 2, 3))
+for word, test in (("same", 0x22), ("other", 0x23)):
+    for last, boat in ((2, "1-1"), (3, "1-2")):
+        row("unread in the slot of 1-1, %s: %s" % (word, boat), NESTED, [0x27, 1, 0, 0x27, 2, 0, test, 3, 0], 0, 3, [0, 1, last])
+        row("unread in another slot, %s: %s" % (word, boat), NESTED, [0x27, 1, 0, 0x27, 2, 1, test, 3, 0], 0, 3, [0, 1, last])
+        row("1-1 back after unread, %s: %s" % (word, boat), NESTED, [0x27, 1, 0, 0x25, 0x27, 2, 0, 0x20, test, 3, 0], 0, 3, [0, 1, last])
+# The size is 3 × boats + 3, which wants 12 words each: two boats, an unread number, and one more, which is the same boat.
+KEEP, TWO = [0x27, 1, 0, 0x20], [(0, 1, 1, 1, 0), (0, 1, 1, 2, 0)]
+for unread, needed in ((0, 8228), (1, 8240), (2, 8240)):
+    for words in (needed - 1, needed): row("two boats, %d unread, %d words" % (unread, words), record(1, *TWO, *[(0, 1, 0, 0, 0)] * unread), KEEP, 0, 0, [0], words)
 table.write()

@@ -1,9 +1,10 @@
 #!/usr/bin/env python3
-"""Rows about the finder and what they make crates/rows write, from document 01's text alone: its table, the misreadings that it shuts
-out, and requests at the edge of each question.
+"""Rows about the finder and what they make crates/rows write, from the text of document 01 and request One alone: 01's table, the
+misreadings that they shut out, and requests at the edge of each question.
 
 Run from the repository's root: python3 tests/finds.py FOLDER writes FOLDER/finds.bin and prints a part of crates/rows/stdout."""
-from chains01 import E, P, R, R_LINES, S, T, find, line, record
+from itertools import permutations
+from chains01 import A, B, E, P, R, R_LINES, S, T, THEN_ANY, THEN_OTHER, THEN_SAME, boats_like, find, line, record
 from table import Table, long, short
 
 table = Table("finds")
@@ -59,12 +60,34 @@ row("lower first line, higher second", record(4, (0, 1, 1, 1, 1), (0, 1, 1, 1, 2
 row("equal lines", record(2, (0, 1, 1, 1, 1), (0, 1, 1, 1, 1)), [0x21, 1], 0, 1)
 row("another class", record(1, (0, 1, 1, 150, 0), (0, 2, 2, 150, 0)), [0x27, 1, 0, 0x22, 2, 0])
 row("another class is another boat", record(1, (0, 1, 1, 150, 0), (0, 2, 2, 150, 0)), [0x27, 1, 0, 0x23, 2, 0])
-row("an unread number twice", record(1, (0, 1, 0, 0, 0), (0, 2, 0, 0, 0)), [0x27, 1, 0, 0x22, 2, 0])
+row("an unread number twice", record(1, (0, 1, 0, 0, 0), (0, 2, 0, 0, 0)), THEN_SAME)
 row("a keep ends", record(1, (0, 1, 1, 1, 0), (0, 1, 1, 2, 0), (0, 2, 1, 1, 0)),
     [0x27, 1, 0, 0x25, 0x27, 1, 0, 0x20, 0x25, 0x23, 1, 0, 0x22, 2, 0])
 row("repeat of a keep", record(1, (0, 1, 1, 1, 0), (0, 2, 1, 2, 0), (0, 1, 1, 2, 0), (0, 3, 1, 1, 0)),
     [0x25, 0x27, 1, 0, 0x22, 2, 0, 0x25, 0x26, 0x27, 1, 0, 0x22, 2, 0, 0x21, 3])
 row("nothing under two repeats", record(2, (0, 1, 1, 1, 1)), [0x26, 0x26, 0x24, 0x20, 0x21, 1], 0, 1)
+
+# ---- request One: an unread number, on the line or in the slot, passes neither same nor other; keep, line and the size take it
+for word, pattern in (("any", THEN_ANY), ("same", THEN_SAME), ("other", THEN_OTHER)):
+    row("1-1 kept, %s" % word, A, pattern, 0, 2)
+    row("unread kept, %s" % word, B, pattern, 0, 1)
+    for name, kept, other in (("0-5", (0, 5), (0, 6)), ("3-0", (3, 0), (4, 0))): row("%s kept, %s" % (name, word), boats_like(kept, other), pattern, 0, 1)
+row("line: unread", B, [0x21, 1], 0, 1)
+row("keep: unread", B, [0x27, 1, 0, 0x20], 0, 1)
+# Lines between the same two places: other needs the one that is neither unread nor the kept boat's, wherever it stands.
+for order in permutations(((0, 0), (1, 1), (1, 2))):
+    for kept in ((1, 1), (1, 2)):
+        row("%d-%d kept, other of %s" % (*kept, ", ".join("%d-%d" % boat for boat in order)),
+            record(3, (0, 1, *kept, 1), *[(1, 2, *boat, 2) for boat in order]), THEN_OTHER, 0, 2)
+row("1-1 kept, other of unread ones", record(3, (0, 1, 1, 1, 1), (1, 2, 0, 0, 2), (1, 2, 0, 0, 2), (1, 2, 1, 1, 2)), THEN_OTHER, 0, 2)
+# A boat kept, any number of others, and it again: past unread lines on the way there is no chain.
+AROUND = [0x27, 1, 0, 0x25, 0x26, 0x23, 2, 0, 0x22, 3, 0]
+row("others on the way, one unread", record(4, (0, 1, 1, 1, 1), (1, 2, 0, 0, 2), (2, 2, 1, 2, 3), (3, 3, 1, 1, 3)), AROUND, 0, 3)
+row("others on the way, all read", record(4, (0, 1, 1, 1, 1), (1, 2, 0, 1, 2), (2, 2, 1, 2, 3), (3, 3, 1, 1, 3)), AROUND, 0, 3)
+# The size is 3 × boats + 3, which wants 12 words each: two boats, an unread number, and one more, which is the same boat.
+TWO = [(0, 1, 1, 1, 0), (0, 1, 1, 2, 0)]
+for unread, needed in ((0, 8228), (1, 8240), (2, 8240)):
+    for words in (needed - 1, needed): row("two boats, %d unread, %d words" % (unread, words), record(1, *TWO, *[(0, 1, 0, 0, 0)] * unread), [0x27, 1, 0, 0x20], words=words)
 
 # ---- the record's questions
 row("40,965 bytes", [1, 4, 0] + line(0, 1, 1, 1, 1) * 4096 + [0, 0], [0x20])

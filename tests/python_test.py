@@ -93,6 +93,22 @@ class Requests(Asking):
         self.refused(18, chains.check, day, P, 0, 3, [5, 0, 7])
         self.refused(15, chains.check, day, P, 0, 4, [1, 2, 5])
 
+    def test_unread(self):
+        any_, same, other = map(bytes.fromhex, ("270100 2102", "270100 220200", "270100 230200"))
+        for kept, another in (((1, 1), (1, 2)), ((0, 5), (0, 6)), ((3, 0), (4, 0))):
+            day = day_of(3, [(0, 1, *kept, 1), (1, 2, 0, 0, 2), (1, 2, *another, 2), (1, 2, *kept, 2)])
+            self.assertEqual([chains.find(day, pattern, 0, 2) for pattern in (any_, same, other)], [[0, 1], [0, 3], [0, 2]])
+            self.assertEqual([chains.check(day, pattern, 0, 2, [0, 1]) for pattern in (any_, same, other)], [True, False, False])
+        day = day_of(2, [(0, 1, 0, 0, 1), (1, 2, 0, 0, 1), (1, 2, 1, 1, 1)])
+        self.assertEqual([chains.find(day, pattern, 0, 1) for pattern in (any_, same, other)], [[0, 1], None, None])
+        for second in (1, 2):
+            self.assertEqual([chains.check(day, pattern, 0, 1, [0, second]) for pattern in (any_, same, other)], [True, False, False])
+        self.assertEqual(chains.find(day, bytes.fromhex("270100 20"), 0, 1), [0])
+        self.assertEqual(chains.find(day, bytes.fromhex("2102"), 1, 1), [1])
+        keep = bytes.fromhex("270100 20")
+        sizes = [chains.words(day_of(1, [(0, 1, 1, 1, 0)] + [(0, 1, 0, 0, 0)] * unread), keep) for unread in range(3)]
+        self.assertEqual(sizes, [8216, 8228, 8228])
+
     def test_order_of_refusals(self):
         many = day_of(1024, [(0, 1, 1, boat, 0) for boat in range(64)])
         large = bytes.fromhex("270100") + b"\x26" * 13 + b"\x21\x01"

@@ -1,6 +1,7 @@
 //! Requests with replies written down by hand: document 01's rows, the places where it can
-//! be misread, and the vectors that tell wrong programs apart. Each is compared with this
-//! program and with the reply that stands here, so that it tests this program too.
+//! be misread, request One's unread numbers, and the vectors that tell wrong programs apart.
+//! Each is compared with this program and with the reply that stands here, so that it tests
+//! this program too.
 
 use crate::compare::{self, shown};
 use crate::generator::{dirt, dirty_bytes, dirty_entries};
@@ -35,6 +36,9 @@ pub const ALL: &[Case] = &[
     case("A 25: empty chains", empty_chains),
     case("A 26: a chain of a million entries", million),
     case("A 29: repeat and other", repeat_and_other),
+    case("One: unread numbers", unread_numbers),
+    case("One: lines between two places, some unread", unread_runs),
+    case("One: unread numbers and slots", unread_slots),
     case("A 30: begin", begin_traps),
     case("A 31-34: add and read", add_traps),
     case("001, Example 2", example_2),
@@ -620,19 +624,194 @@ fn repeat_and_other(b: &Bench) -> Result<String, String> {
     b.check(ask(&rec, &nullable, 0, 0), &[], 1)?;
     b.check(ask(&rec, &nullable, 0, 0), &[0, 2, 0, 0], 1)?;
     b.check(ask(&rec, &nullable, 0, 0), &[0, 1, 0], 0)?;
-    // An unread number is compared like every other.
-    let unread = written(
-        1,
+    ok()
+}
+
+// ---- request One
+
+/// A boat kept at kind 1, and then a line of kind 2: any, its own, another's.
+const THEN_ANY: [u8; 5] = [0x27, 1, 0, 0x21, 2];
+const THEN_SAME: [u8; 6] = [0x27, 1, 0, 0x22, 2, 0];
+const THEN_OTHER: [u8; 6] = [0x27, 1, 0, 0x23, 2, 0];
+
+/// Same and other fail on an unread line and for an unread slot; keep, line and the search
+/// size take an unread number like every other.
+fn unread_numbers(b: &Bench) -> Result<String, String> {
+    // A read boat kept, and after it an unread line, its own, another's.
+    let rec = written(
+        3,
         &[
-            line(0, 1, 0, 0, 0),
-            line(0, 2, 0, 0, 0),
-            line(0, 2, 1, 0, 0),
+            line(0, 1, 1, 1, 1),
+            line(1, 2, 0, 0, 2),
+            line(1, 2, 1, 1, 2),
+            line(1, 2, 1, 2, 2),
         ],
     );
-    b.check(ask(&unread, &[0x27, 1, 3, 0x22, 2, 3], 0, 0), &[0, 1], 1)?;
-    b.check(ask(&unread, &[0x27, 1, 3, 0x22, 2, 3], 0, 0), &[0, 2], 0)?;
-    b.check(ask(&unread, &[0x27, 1, 3, 0x23, 2, 3], 0, 0), &[0, 1], 0)?;
-    b.check(ask(&unread, &[0x27, 1, 3, 0x23, 2, 3], 0, 0), &[0, 2], 1)?;
+    for (pat, yes) in [
+        (&THEN_ANY[..], [1, 1, 1]),
+        (&THEN_SAME, [0, 1, 0]),
+        (&THEN_OTHER, [0, 0, 1]),
+    ] {
+        for (second, yes) in [1, 2, 3].into_iter().zip(yes) {
+            b.check(ask(&rec, pat, 0, 2), &[0, second], yes)?;
+        }
+    }
+    b.found(ask(&rec, &THEN_ANY, 0, 2), &[0, 1])?;
+    b.found(ask(&rec, &THEN_SAME, 0, 2), &[0, 2])?;
+    b.found(ask(&rec, &THEN_OTHER, 0, 2), &[0, 3])?;
+
+    // An unread number kept: no test of it passes.
+    let rec = written(
+        2,
+        &[
+            line(0, 1, 0, 0, 1),
+            line(1, 2, 0, 0, 1),
+            line(1, 2, 1, 1, 1),
+        ],
+    );
+    for second in [1, 2] {
+        b.check(ask(&rec, &THEN_ANY, 0, 1), &[0, second], 1)?;
+        b.check(ask(&rec, &THEN_SAME, 0, 1), &[0, second], 0)?;
+        b.check(ask(&rec, &THEN_OTHER, 0, 1), &[0, second], 0)?;
+    }
+    b.found(ask(&rec, &THEN_ANY, 0, 1), &[0, 1])?;
+    b.none(ask(&rec, &THEN_SAME, 0, 1))?;
+    b.none(ask(&rec, &THEN_OTHER, 0, 1))?;
+
+    // Class 0 alone, or number 0 alone, is a boat.
+    for (kept, other) in [((0, 5), (0, 6)), ((3, 0), (4, 0)), ((0, 5), (3, 0))] {
+        let rec = written(
+            2,
+            &[
+                line(0, 1, kept.0, kept.1, 1),
+                line(1, 2, 0, 0, 1),
+                line(1, 2, other.0, other.1, 1),
+                line(1, 2, kept.0, kept.1, 1),
+            ],
+        );
+        b.found(ask(&rec, &THEN_SAME, 0, 1), &[0, 3])?;
+        b.found(ask(&rec, &THEN_OTHER, 0, 1), &[0, 2])?;
+        b.check(ask(&rec, &THEN_SAME, 0, 1), &[0, 2], 0)?;
+        b.check(ask(&rec, &THEN_OTHER, 0, 1), &[0, 3], 0)?;
+    }
+
+    // 21 takes an unread line, alone and under repeat; so does keep.
+    let rec = written(3, &[line(0, 1, 0, 0, 1), line(1, 1, 0, 0, 2)]);
+    b.found(ask(&rec, &[0x21, 1], 0, 1), &[0])?;
+    b.found(ask(&rec, &[0x26, 0x21, 1], 0, 2), &[0, 1])?;
+    b.found(ask(&rec, &[0x27, 1, 0, 0x20], 0, 1), &[0])?;
+    b.found(ask(&rec, &[0x26, 0x27, 1, 0, 0x20], 0, 2), &[0, 1])?;
+
+    // All unread numbers count as one boat.
+    let keep = [0x27, 1, 0, 0x20];
+    let mut lines = vec![line(0, 1, 1, 1, 0), line(0, 1, 1, 2, 0)];
+    for boats in [2, 3, 3, 3] {
+        b.words(&written(1, &lines), &keep, words_of(3 * (boats + 1)))?;
+        lines.push(line(0, 1, 0, 0, 0));
+    }
+    ok()
+}
+
+/// Lines between the same two places in every order, unread ones among them: other takes the
+/// first that is read and is another boat's, same the first of its own.
+fn unread_runs(b: &Bench) -> Result<String, String> {
+    let boats = [(0, 0), (1, 1), (1, 2)];
+    let mut runs: Vec<Vec<(u8, u32)>> = vec![vec![]];
+    for _ in 0..4 {
+        let longer = |run: &Vec<(u8, u32)>| boats.map(|boat| [&run[..], &[boat]].concat());
+        runs = runs.iter().flat_map(longer).collect();
+        for run in &runs {
+            for kept in [(1, 1), (1, 3), (0, 0)] {
+                let mut lines = vec![line(0, 1, kept.0, kept.1, 1)];
+                lines.extend(run.iter().map(|boat| line(1, 2, boat.0, boat.1, 2)));
+                let rec = written(3, &lines);
+                let first = |passes: &dyn Fn((u8, u32)) -> bool| {
+                    let read = |boat: (u8, u32)| boat != (0, 0) && kept != (0, 0);
+                    run.iter().position(|&boat| read(boat) && passes(boat))
+                };
+                for (pat, second) in [
+                    (&THEN_SAME, first(&|boat| boat == kept)),
+                    (&THEN_OTHER, first(&|boat| boat != kept)),
+                ] {
+                    match second {
+                        Some(at) => b.found(ask(&rec, pat, 0, 2), &[0, 1 + at as u16])?,
+                        None => b.none(ask(&rec, pat, 0, 2))?,
+                    }
+                }
+            }
+        }
+    }
+    ok()
+}
+
+/// Which slot a test looks at, an unread number being in one of them.
+fn unread_slots(b: &Bench) -> Result<String, String> {
+    // Two boats kept, 1-1 at kind 1 and an unread one at kind 2, and then lines of 1-1 and 1-2.
+    let rec = written(
+        4,
+        &[
+            line(0, 1, 1, 1, 1),
+            line(1, 2, 0, 0, 2),
+            line(2, 3, 1, 1, 3),
+            line(2, 3, 1, 2, 3),
+            line(2, 4, 1, 1, 2),
+        ],
+    );
+    // In two slots: those of the first are tested as ever, those of the second never pass.
+    b.found(
+        ask(&rec, &[0x27, 1, 0, 0x27, 2, 1, 0x22, 3, 0], 0, 3),
+        &[0, 1, 2],
+    )?;
+    b.found(
+        ask(&rec, &[0x27, 1, 0, 0x27, 2, 1, 0x23, 3, 0], 0, 3),
+        &[0, 1, 3],
+    )?;
+    b.none(ask(&rec, &[0x27, 1, 0, 0x27, 2, 1, 0x22, 3, 1], 0, 3))?;
+    b.none(ask(&rec, &[0x27, 1, 0, 0x27, 2, 1, 0x23, 3, 1], 0, 3))?;
+    // In one slot: the unread number hides the boat inside, and the boat is back after it.
+    b.none(ask(&rec, &[0x27, 1, 0, 0x27, 2, 0, 0x22, 3, 0], 0, 3))?;
+    b.none(ask(&rec, &[0x27, 1, 0, 0x27, 2, 0, 0x23, 3, 0], 0, 3))?;
+    let back = |test: u8| [0x27, 1, 0, 0x25, 0x27, 2, 0, 0x20, test, 3, 0];
+    b.found(ask(&rec, &back(0x22), 0, 3), &[0, 1, 2])?;
+    b.found(ask(&rec, &back(0x23), 0, 3), &[0, 1, 3])?;
+    // A test inside that fails, but need not be passed.
+    let not_needed = [0x27, 1, 0, 0x25, 0x27, 2, 1, 0x26, 0x22, 4, 1, 0x22, 3, 0];
+    b.found(ask(&rec, &not_needed, 0, 3), &[0, 1, 2])?;
+    b.check(ask(&rec, &not_needed, 0, 3), &[0, 1, 4, 2], 0)?;
+
+    // The other way round: an unread number outside, a read boat inside.
+    let rec = written(
+        4,
+        &[
+            line(0, 1, 0, 0, 1),
+            line(1, 2, 1, 1, 2),
+            line(2, 3, 1, 1, 3),
+            line(2, 3, 1, 2, 3),
+        ],
+    );
+    b.found(
+        ask(&rec, &[0x27, 1, 0, 0x27, 2, 0, 0x22, 3, 0], 0, 3),
+        &[0, 1, 2],
+    )?;
+    b.found(
+        ask(&rec, &[0x27, 1, 0, 0x27, 2, 0, 0x23, 3, 0], 0, 3),
+        &[0, 1, 3],
+    )?;
+    b.none(ask(&rec, &back(0x22), 0, 3))?;
+    b.none(ask(&rec, &back(0x23), 0, 3))?;
+
+    // Laps, each with its own kept boat: the one with an unread number is no lap.
+    let laps = [0x26, 0x27, 1, 0, 0x22, 2, 0];
+    let lines = [
+        line(0, 1, 0, 0, 1),
+        line(1, 2, 0, 0, 2),
+        line(0, 1, 1, 1, 1),
+        line(1, 2, 1, 1, 2),
+        line(2, 1, 1, 2, 3),
+        line(3, 2, 1, 2, 4),
+    ];
+    b.found(ask(&written(5, &lines), &laps, 0, 4), &[2, 3, 4, 5])?;
+    b.none(ask(&written(5, &lines[..3]), &laps, 0, 2))?;
     ok()
 }
 

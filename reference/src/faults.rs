@@ -1,5 +1,5 @@
 //! Planted faults: copies of this program, each wrong in one way that a reader of document 01
-//! could fall into. The comparison must tell every one of them from this program, so that its
+//! or of request One could fall into. The comparison must tell every one of them from this program, so that its
 //! silence about the library says something.
 
 mod faulty;
@@ -45,6 +45,7 @@ pub enum Fault {
     SizeByLines,
     SizeByBytes,
     SizeWithoutOne,
+    SizeWithoutUnread,
     SizeWraps,
     // The order of questions.
     Asks16Before15,
@@ -56,6 +57,15 @@ pub enum Fault {
     InnerBoatStays,
     RepeatOnce,
     OtherAnyKind,
+    // Unread numbers.
+    UnreadCompared,
+    OtherIsNotSame,
+    LineAlone,
+    SlotAlone,
+    UnreadByClass,
+    UnreadByNumber,
+    KeepRefusesUnread,
+    LineRefusesUnread,
     // The checker.
     AnyStart,
     AnyEnd,
@@ -73,6 +83,7 @@ pub enum Fault {
     OneStateFollowed,
     SilentStepsQueued,
     LastChain,
+    TwoOfARun,
     // The work area.
     TrustsArea,
     NeverClears,
@@ -153,6 +164,7 @@ pub const PLANTED: &[Planted] = &[
     planted(SizeByLines, BCF, "counts lines, not boats, in the search size"),
     planted(SizeByBytes, BCF, "counts bytes of the pattern, not commands, in the search size"),
     planted(SizeWithoutOne, BCF, "leaves out the one in boats + 1"),
+    planted(SizeWithoutUnread, BCF, "leaves unread numbers out of the count of boats"),
     planted(SizeWraps, &[], "multiplies the search size in 32 bits"),
     planted(Asks16Before15, CF, "asks 16 before 15"),
     planted(Asks17Before15, CF, "asks 17 before 15"),
@@ -162,6 +174,14 @@ pub const PLANTED: &[Planted] = &[
     planted(InnerBoatStays, CF, "an inner keep's boat stays in its slot; the outer keep's is lost"),
     planted(RepeatOnce, CF, "wants at least one round of a repeat"),
     planted(OtherAnyKind, CF, "other takes a line of any kind"),
+    planted(UnreadCompared, CF, "compares an unread number like every other"),
+    planted(OtherIsNotSame, CF, "other passes wherever same of the kind fails"),
+    planted(LineAlone, CF, "looks whether the line's number was read, and not the slot's"),
+    planted(SlotAlone, CF, "looks whether the slot's number was read, and not the line's"),
+    planted(UnreadByClass, CF, "takes every number of class 0 for unread"),
+    planted(UnreadByNumber, CF, "takes number 0 of every class for unread"),
+    planted(KeepRefusesUnread, CF, "keeps no unread number"),
+    planted(LineRefusesUnread, CF, "21 takes no line with an unread number"),
     planted(AnyStart, C, "says yes wherever the chain begins"),
     planted(AnyEnd, C, "says yes wherever the chain ends"),
     planted(NoForMissingLine, C, "says no where a line does not exist"),
@@ -177,6 +197,7 @@ pub const PLANTED: &[Planted] = &[
     planted(OneStateFollowed, F, "the lowest line of each step, following one state only"),
     planted(SilentStepsQueued, F, "steps that take no line wait in the queue like the others"),
     planted(LastChain, F, "of shortest chains, the one with the higher line numbers"),
+    planted(TwoOfARun, F, "of lines between two places, other sees the first and the first with another number"),
     planted(TrustsArea, CF, "takes what the area held before for its own marks"),
     planted(NeverClears, CF, "does not clear the area"),
     planted(ClearsNeeded, CF, "clears only the words that are needed"),

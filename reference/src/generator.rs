@@ -1,12 +1,13 @@
 //! Requests made at random, leaning towards what goes wrong: laps and self-loops, so that
 //! chains get longer than the list of places; nested keeps that use a slot again; one
-//! sail number in two classes; patterns that accept the empty word under repeat; every
-//! question at its edge; damaged bytes; areas and outputs that fit exactly or just don't.
+//! sail number in two classes; days with many unread numbers; patterns that accept the empty
+//! word under repeat; every question at its edge; damaged bytes; areas and outputs that fit
+//! exactly or just don't.
 
 use crate::membership::{Letter, Valuation};
 use crate::pattern::{read_pattern, Node};
 use crate::random::Random;
-use crate::record::{written, Boat, Line, LONGEST, MOST_LINES};
+use crate::record::{written, Boat, Line, LONGEST, MOST_LINES, UNREAD};
 use crate::request::words;
 
 /// A request to the checker or the finder.
@@ -46,7 +47,10 @@ impl Room {
 /// What lines and patterns of one request draw from.
 struct Pool {
     kinds: Vec<u8>,
+    /// Boats that were read.
     boats: Vec<Boat>,
+    /// Are there unread numbers too?
+    unread: bool,
 }
 
 const fn boat(class: u8, sail: u32) -> Boat {
@@ -57,21 +61,36 @@ fn pool(random: &mut Random) -> Pool {
     let mut kinds = vec![1, 2, 3, 15];
     let most = random.pick(&[1, 2, 2, 3, 3, 4]);
     kinds.truncate(most);
-    // Numbers shared by two classes, the boat of an unread number, and bytes at their edges.
+    // Numbers shared by two classes, class 0 and number 0, which alone are not unread, and bytes
+    // at their edges.
     let mut boats = vec![
         boat(1, 150),
         boat(2, 150),
         boat(1, 151),
-        boat(0, 0),
         boat(0, 150),
+        boat(0, 5),
         boat(1, 0),
+        boat(3, 0),
         boat(255, 16_777_215),
         boat(1, 256 + 150),
     ];
     random.shuffle(&mut boats);
     let most = random.between(1, 5);
     boats.truncate(most);
-    Pool { kinds, boats }
+    Pool {
+        kinds,
+        boats,
+        unread: random.once_in(2),
+    }
+}
+
+/// The boat of a line: in a day with unread numbers, a third of them.
+fn any_boat(random: &mut Random, pool: &Pool) -> Boat {
+    if pool.unread && random.once_in(3) {
+        UNREAD
+    } else {
+        random.pick(&pool.boats)
+    }
 }
 
 // ---- patterns
@@ -198,7 +217,8 @@ fn known_pattern(random: &mut Random) -> Vec<u8> {
 
 // ---- words and days
 
-/// A word of the pattern's language.
+/// A word of the pattern's language; but where a slot holds an unread number, there is no line
+/// that passes its tests, and the word has one that looks as if it did.
 fn sampled(
     random: &mut Random,
     pool: &Pool,
@@ -210,7 +230,7 @@ fn sampled(
         Node::Nothing => vec![],
         Node::Line { kind } => vec![Letter {
             kind: *kind,
-            boat: random.pick(&pool.boats),
+            boat: any_boat(random, pool),
         }],
         Node::Same { kind, slot } => vec![Letter {
             kind: *kind,
@@ -221,7 +241,7 @@ fn sampled(
             let others: Vec<Boat> = pool.boats.iter().copied().filter(|b| *b != kept).collect();
             let boat = if others.is_empty() {
                 // The same number in another class.
-                boat(kept.class ^ 3, kept.sail)
+                boat(kept.class ^ 4, kept.sail)
             } else {
                 random.pick(&others)
             };
@@ -244,7 +264,7 @@ fn sampled(
             word
         }
         Node::Keep { kind, slot, inner } => {
-            let boat = random.pick(&pool.boats);
+            let boat = any_boat(random, pool);
             let mut inside = v;
             inside[*slot as usize] = Some(boat);
             let mut word = vec![Letter { kind: *kind, boat }];
@@ -263,7 +283,7 @@ struct Day {
 }
 
 fn any_line(random: &mut Random, pool: &Pool, places: u16) -> Line {
-    let boat = random.pick(&pool.boats);
+    let boat = any_boat(random, pool);
     let from = random.below(places as usize) as u16;
     Line {
         from,

@@ -7,6 +7,9 @@
 use crate::pattern::{Node, DEEPEST};
 use crate::record::{Line, Record};
 
+/// The number of an unread boat; no record has so many others.
+pub const NOT_READ: u16 = u16::MAX;
+
 /// What a spot does.
 #[derive(Clone, Copy, Debug)]
 pub(crate) enum Spot {
@@ -34,20 +37,21 @@ impl Test {
     pub(crate) fn passed(self, stack: Stack, line: &Line, boat: u16) -> Option<Stack> {
         match self {
             Test::Kind(kind) => (line.kind == kind).then_some(stack),
-            Test::Same(kind, slot) => {
-                (line.kind == kind && stack.boat_of(slot) == Some(boat)).then_some(stack)
-            }
-            Test::Other(kind, slot) => {
-                let differs = stack.boat_of(slot).is_some_and(|kept| kept != boat);
-                (line.kind == kind && differs).then_some(stack)
-            }
+            // An unread number, the line's or the kept one, passes neither.
+            Test::Same(kind, _) | Test::Other(kind, _) if line.kind != kind => None,
+            Test::Same(..) | Test::Other(..) if boat == NOT_READ => None,
+            Test::Same(_, slot) => (stack.boat_of(slot)? == boat).then_some(stack),
+            Test::Other(_, slot) => match stack.boat_of(slot)? {
+                NOT_READ => None,
+                kept => (kept != boat).then_some(stack),
+            },
             Test::Keep(kind, slot) => (line.kind == kind).then(|| stack.pushed(slot, boat)),
         }
     }
 }
 
 /// One boat on the stack, with its slot. Boats are numbered in the order in which the
-/// record first names them.
+/// record first names them; an unread one is `NOT_READ`.
 #[derive(Clone, Copy, PartialEq, Eq, PartialOrd, Ord, Hash, Debug, Default)]
 struct Kept {
     slot: u8,
@@ -75,7 +79,7 @@ impl Stack {
     }
 
     /// The boat of the innermost keep of this slot.
-    fn boat_of(&self, slot: u8) -> Option<u16> {
+    pub(crate) fn boat_of(&self, slot: u8) -> Option<u16> {
         self.kept[..self.depth as usize]
             .iter()
             .rev()
@@ -132,7 +136,7 @@ impl Machine {
     /// Follows the steps that take no line. From one state, a spot can be met with one
     /// stack only, since leaving a keep is all that such steps do to it; so each spot is
     /// looked at once.
-    fn settle(&self, spot: usize, stack: Stack, into: &mut Vec<State>) {
+    pub(crate) fn settle(&self, spot: usize, stack: Stack, into: &mut Vec<State>) {
         let mut met = [false; 128];
         let mut waiting = vec![(spot, stack)];
         while let Some((spot, stack)) = waiting.pop() {
@@ -225,13 +229,17 @@ fn build(spots: &mut Vec<Spot>, node: &Node, next: usize) -> usize {
     spots.len() - 1
 }
 
-/// The number of each line's boat, boats being numbered as the record first names them.
+/// The number of each line's boat, boats being numbered as the record first names them;
+/// `NOT_READ` for class 0 with number 0.
 pub fn boat_numbers(record: &Record) -> Vec<u16> {
     let mut numbers = std::collections::HashMap::new();
     record
         .lines
         .iter()
         .map(|line| {
+            if line.class == 0 && line.sail == 0 {
+                return NOT_READ;
+            }
             let fresh = numbers.len() as u16;
             *numbers.entry(line.boat()).or_insert(fresh)
         })

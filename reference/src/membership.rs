@@ -1,8 +1,9 @@
-//! Is a word in a pattern's language? Straight from the clauses of source 001, section 3:
+//! Is a word in a pattern's language? Straight from the clauses of source 001, section 3, with
+//! request One's rule put over those of same and other:
 //! `accepts(r, v, from, to)` says whether the letters `from..to` are a word of L(r, v).
 
 use crate::pattern::Node;
-use crate::record::Boat;
+use crate::record::{Boat, UNREAD};
 use std::collections::HashMap;
 
 /// One letter: the kind and the boat of a line.
@@ -24,6 +25,12 @@ pub fn is_member(root: &Node, word: &[Letter]) -> bool {
     asked.accepts(root, [None; 4], 0, word.len())
 }
 
+/// The kept boat, where neither it nor the line's is an unread number, which says nothing about
+/// any boat.
+fn both_read(kept: Option<Boat>, boat: Boat) -> Option<Boat> {
+    kept.filter(|&kept| kept != UNREAD && boat != UNREAD)
+}
+
 struct Membership<'a> {
     word: &'a [Letter],
     /// Answers already found; a node is known by its address.
@@ -36,11 +43,13 @@ impl Membership<'_> {
         match r {
             Node::Nothing => from == to,
             Node::Line { kind } => self.one(from, to).is_some_and(|l| l.kind == *kind),
-            Node::Same { kind, slot } => self
-                .one(from, to)
-                .is_some_and(|l| l.kind == *kind && v[*slot as usize] == Some(l.boat)),
+            Node::Same { kind, slot } => self.one(from, to).is_some_and(|l| {
+                l.kind == *kind
+                    && both_read(v[*slot as usize], l.boat).is_some_and(|kept| kept == l.boat)
+            }),
             Node::Other { kind, slot } => self.one(from, to).is_some_and(|l| {
-                l.kind == *kind && v[*slot as usize].is_some_and(|kept| kept != l.boat)
+                l.kind == *kind
+                    && both_read(v[*slot as usize], l.boat).is_some_and(|kept| kept != l.boat)
             }),
             Node::Either(one, two) => {
                 self.accepts(one, v, from, to) || self.accepts(two, v, from, to)

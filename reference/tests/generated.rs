@@ -3,7 +3,7 @@
 use reference::generator::{request, Room};
 use reference::library::Own;
 use reference::random::Random;
-use reference::record::read_record;
+use reference::record::{read_record, written, UNREAD};
 use reference::request::{shortest, NO_CHAIN};
 use reference::rounds::{self, Round};
 use std::collections::BTreeMap;
@@ -76,6 +76,42 @@ fn chains_are_long_and_outputs_tight() {
     }
     println!("{beyond_places} longer than places, {again} with a line again, {exact} exact, {short} short");
     assert!(beyond_places > 300 && again > 100 && exact > 500 && short > 200);
+}
+
+/// Days with unread numbers and without; in those with some, about a third of the lines; class 0
+/// and number 0 alone; and many replies that another boat in their place would change.
+#[test]
+fn unread_numbers_are_met() {
+    let mut random = Random::new(8);
+    let (mut with, mut without, mut lines, mut unread) = (0, 0, 0, 0);
+    let (mut class_0, mut number_0, mut changed) = (0, 0, 0);
+    for _ in 0..6_000 {
+        let r = request(&mut random);
+        let Ok(mut record) = read_record(&r.rec) else {
+            continue;
+        };
+        let boats = record.lines.iter().map(|line| line.boat());
+        class_0 += boats.clone().any(|b| b.class == 0 && b.sail != 0) as usize;
+        number_0 += boats.clone().any(|b| b.class != 0 && b.sail == 0) as usize;
+        let count = boats.filter(|boat| *boat == UNREAD).count();
+        if count == 0 {
+            without += !record.lines.is_empty() as usize;
+            continue;
+        }
+        with += 1;
+        lines += record.lines.len();
+        unread += count;
+        for line in record.lines.iter_mut().filter(|l| l.boat() == UNREAD) {
+            (line.class, line.sail) = (9, 9);
+        }
+        let renamed = written(record.places, &record.lines);
+        let first = |rec: &[u8]| shortest(rec, &r.pat, r.from, r.to, r.work_len);
+        changed += (first(&r.rec) != first(&renamed)) as usize;
+    }
+    println!("{with} days with {unread} unread of {lines} lines, {without} without; {class_0} with class 0, {number_0} with number 0; {changed} replies changed");
+    assert!(with > 1_500 && without > 2_000);
+    assert!(4 * unread > lines && 2 * unread < lines);
+    assert!(class_0 > 1_000 && number_0 > 1_000 && changed > 150);
 }
 
 #[test]

@@ -5,6 +5,10 @@
 //! gives the shortest accepted chain between two places: the grounds for a place in the
 //! results. The repository's README explains the bytes of records and patterns.
 //!
+//! Class 0 with sail number 0 says that the number was not read, so that nothing is known of the
+//! boat. A pattern's same and other both fail on such a line, and both fail where the slot holds
+//! such a number; line takes it, keep keeps it, and together they count as one boat.
+//!
 //! - [`Record`] grows with its lines and can be asked directly; [`RecordIn`] stands in a buffer
 //!   that is given.
 //! - [`read_pattern`] tests a pattern before there is a record.

@@ -13,7 +13,8 @@ pub struct Line {
     pub from: u16,
     /// 1 to 15: 1 entered, 2 started, 3 rounded, 4 finished, 5 retired are used.
     pub kind: u8,
-    /// The boat's class. Class and sail number together are the boat.
+    /// The boat's class. Class and sail number together are the boat; both are 0 where the
+    /// number was not read.
     pub class: u8,
     /// The boat's sail number, below 16,777,216.
     pub sail: u32,

@@ -42,6 +42,51 @@ fn rows_of_the_checker() -> Result<(), Refusal> {
     Ok(())
 }
 
+/// Same and other fail on an unread line and where the slot holds an unread number; keep and line
+/// take one. Class 0 alone and number 0 alone are boats.
+#[test]
+fn unread_numbers() -> Result<(), Refusal> {
+    let mut finder = Finder::new();
+    let (any, same) = ([0x27, 1, 0, 0x21, 2], [0x27, 1, 0, 0x22, 2, 0]);
+    let other = [0x27, 1, 0, 0x23, 2, 0];
+    for (kept, another) in [((1, 1), (1, 2)), ((0, 5), (0, 6)), ((3, 0), (4, 0))] {
+        let day = record(
+            3,
+            &[
+                line(0, 1, kept.0, kept.1, 1),
+                line(1, 2, 0, 0, 2),
+                line(1, 2, another.0, another.1, 2),
+                line(1, 2, kept.0, kept.1, 2),
+            ],
+        );
+        assert_eq!(finder.find(&ask(&day, &any, 0, 2))?, Some(&[0, 1][..]));
+        assert_eq!(finder.find(&ask(&day, &same, 0, 2))?, Some(&[0, 3][..]));
+        assert_eq!(finder.find(&ask(&day, &other, 0, 2))?, Some(&[0, 2][..]));
+        assert!(finder.check(&ask(&day, &any, 0, 2), &[0, 1])?);
+        assert!(!finder.check(&ask(&day, &same, 0, 2), &[0, 1])?);
+        assert!(!finder.check(&ask(&day, &other, 0, 2), &[0, 1])?);
+    }
+    let day = record(
+        2,
+        &[
+            line(0, 1, 0, 0, 1),
+            line(1, 2, 0, 0, 1),
+            line(1, 2, 1, 1, 1),
+        ],
+    );
+    assert_eq!(finder.find(&ask(&day, &any, 0, 1))?, Some(&[0, 1][..]));
+    assert_eq!(finder.find(&ask(&day, &same, 0, 1))?, None);
+    assert_eq!(finder.find(&ask(&day, &other, 0, 1))?, None);
+    for second in [1, 2] {
+        assert!(finder.check(&ask(&day, &any, 0, 1), &[0, second])?);
+        assert!(!finder.check(&ask(&day, &same, 0, 1), &[0, second])?);
+        assert!(!finder.check(&ask(&day, &other, 0, 1), &[0, second])?);
+    }
+    assert_eq!(day.find(&[0x27, 1, 0, 0x20], 0, 1)?, Some(vec![0]));
+    assert_eq!(day.find(&[0x21, 2], 1, 1)?, Some(vec![1]));
+    Ok(())
+}
+
 #[test]
 fn rows_of_questions() {
     let mut finder = Finder::new();

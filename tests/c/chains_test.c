@@ -1,7 +1,7 @@
 /*
- * Every function of chains.h, called from C: document 01's worked rows, every refusal number, and each lent buffer afterwards; the
- * helpers that take a reply apart; and chains_message, held to the list of sentences. Prints what fails; the status is 1 if
- * something did.
+ * Every function of chains.h, called from C: document 01's worked rows, unread numbers, every refusal number, and each lent buffer
+ * afterwards; the helpers that take a reply apart; and chains_message, held to the list of sentences. Prints what fails; the status
+ * is 1 if something did.
  *
  *     gcc -std=c11 -Wall -Wextra -Werror -pedantic -Iinclude tests/c/chains_test.c target/libchains.a -o target/chains_test
  *     target/chains_test include/refusals.txt
@@ -452,6 +452,66 @@ static void test_find(void)
     find_in("find, an empty pattern", no_pattern, 8704, 3, CHAINS_COMMAND_NOT_KNOWN, 0, c125);
 }
 
+/* ---- unread numbers */
+
+/* One boat of class and number entered; then lines of an unread number, of another boat and of that boat, to the same place. */
+static void write_unread(struct record *rec, struct line kept, struct line other)
+{
+    begin(rec, 3);
+    add(rec, (struct line){0, 1, kept.class_, kept.sail, 1});
+    add(rec, (struct line){1, 2, 0, 0, 2});
+    add(rec, (struct line){1, 2, other.class_, other.sail, 2});
+    add(rec, (struct line){1, 2, kept.class_, kept.sail, 2});
+}
+
+/* Same and other pass no line with an unread number, and no line where the slot holds one; keep and line take it, and all unread
+   numbers count as one boat. Class 0 alone and number 0 alone are boats. */
+static void test_unread(void)
+{
+    static const uint8_t any[5] = {0x27, 1, 0, 0x21, 2}, same[6] = {0x27, 1, 0, 0x22, 2, 0}, other[6] = {0x27, 1, 0, 0x23, 2, 0};
+    static const uint8_t keep[4] = {0x27, 1, 0, 0x20};
+    static const struct line boats[3][2] = {
+        {{0, 0, 1, 1, 0}, {0, 0, 1, 2, 0}}, {{0, 0, 0, 5, 0}, {0, 0, 0, 6, 0}}, {{0, 0, 3, 0, 0}, {0, 0, 4, 0, 0}}};
+    static struct record day;
+    const uint16_t c01[2] = {0, 1}, c02[2] = {0, 2}, c03[2] = {0, 3};
+    for (size_t i = 0; i < 3; i++) {
+        write_unread(&day, boats[i][0], boats[i][1]);
+        const struct ask any_line = {&day, any, 5, 0, 2}, own = {&day, same, 6, 0, 2}, others = {&day, other, 6, 0, 2};
+        found("a boat kept, any line", any_line, c01, 2);
+        found("a boat kept, same passes over the unread line", own, c03, 2);
+        found("a boat kept, other passes over the unread line", others, c02, 2);
+        check("a boat kept, any line, unread", any_line, c01, 2, 1);
+        check("a boat kept, same, unread", own, c01, 2, 0);
+        check("a boat kept, other, unread", others, c01, 2, 0);
+        check("a boat kept, same, another", own, c02, 2, 0);
+        check("a boat kept, other, its own", others, c03, 2, 0);
+    }
+
+    begin(&day, 2);
+    add(&day, (struct line){0, 1, 0, 0, 1});
+    add(&day, (struct line){1, 2, 0, 0, 1});
+    add(&day, (struct line){1, 2, 1, 1, 1});
+    const struct ask any_line = {&day, any, 5, 0, 1}, own = {&day, same, 6, 0, 1}, others = {&day, other, 6, 0, 1};
+    found("an unread number kept, any line", any_line, c01, 2);
+    no_chain("an unread number kept, same", own);
+    no_chain("an unread number kept, other", others);
+    check("an unread number kept, any line, unread", any_line, c01, 2, 1);
+    check("an unread number kept, same, unread", own, c01, 2, 0);
+    check("an unread number kept, other, unread", others, c01, 2, 0);
+    check("an unread number kept, same, a boat", own, c02, 2, 0);
+    check("an unread number kept, other, a boat", others, c02, 2, 0);
+    found("an unread number kept, and nothing after it", (struct ask){&day, keep, 4, 0, 1}, c01, 1);
+    found("a line with an unread number", (struct ask){&day, any + 3, 2, 1, 1}, c01 + 1, 1);
+
+    begin(&day, 1);
+    add(&day, (struct line){0, 1, 1, 1, 0});
+    expect_words("one boat", day.at, day.len, keep, 4, 0, 4 * 3 * 2 + 8192);
+    add(&day, (struct line){0, 1, 0, 0, 0});
+    expect_words("one boat, an unread number", day.at, day.len, keep, 4, 0, 4 * 3 * 3 + 8192);
+    add(&day, (struct line){0, 2, 0, 0, 0});
+    expect_words("one boat, two unread numbers", day.at, day.len, keep, 4, 0, 4 * 3 * 3 + 8192);
+}
+
 /* ---- replies taken apart, and the version */
 
 static uint64_t reply_of(uint64_t number, uint64_t value)
@@ -552,6 +612,7 @@ int main(int argc, char **argv)
     test_sizes();
     test_check();
     test_find();
+    test_unread();
     test_refused_replies();
     test_replies();
     test_messages(argc > 1 ? argv[1] : "include/refusals.txt");

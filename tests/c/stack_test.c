@@ -82,7 +82,8 @@ static void write_patterns(void)
 
 /* ---- days */
 
-/* Lines from each place to the next, and from time to time to the same, of so many boats. */
+/* Lines from each place to the next, and from time to time to the same, of so many boats, all of them read: with an unread number no
+   test passes, and a search is over sooner. */
 static void write_day(struct day *d, uint16_t places, uint32_t boats)
 {
     if (!chains_length(chains_begin(d->at, sizeof d->at, places), &d->len)) {
@@ -93,7 +94,7 @@ static void write_day(struct day *d, uint16_t places, uint32_t boats)
         const uint16_t from = (uint16_t)(i % places);
         const uint16_t to = (uint16_t)(i % 5 == 0 || from == d->last ? from : from + 1);
         const uint32_t boat = i % boats;
-        if (!chains_length(chains_add(d->at, sizeof d->at, d->len, from, 1, (uint8_t)(boat % 3), boat, to), &d->len)) {
+        if (!chains_length(chains_add(d->at, sizeof d->at, d->len, from, 1, (uint8_t)(1 + boat % 3), boat, to), &d->len)) {
             fail("a line is added");
         }
     }

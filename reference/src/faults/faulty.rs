@@ -6,7 +6,7 @@ use super::Fault::{self, *};
 use crate::chains::{search, Asked};
 use crate::library::{Ask, Library};
 use crate::pattern::{Pattern, DEEPEST};
-use crate::record::{Line, Record, LONGEST, MOST_LINES, SAIL_LIMIT};
+use crate::record::{Line, Record, LONGEST, MOST_LINES, SAIL_LIMIT, UNREAD};
 use crate::request::{refused, search_size, LARGEST, NO_CHAIN};
 
 pub struct Faulty(pub Fault);
@@ -30,6 +30,10 @@ impl Faulty {
             SizeByLines => spots * power(record.lines.len() + 1),
             SizeByBytes => right / (pattern.commands as u128 + 1) * (pattern_bytes as u128 + 1),
             SizeWithoutOne => spots * power(boats(record)),
+            SizeWithoutUnread => {
+                let unread = record.lines.iter().any(|line| line.boat() == UNREAD);
+                spots * power(boats(record) + 1 - unread as usize)
+            }
             SizeWraps => right as u32 as u128,
             _ => right,
         }
@@ -62,8 +66,13 @@ impl Faulty {
             }
             return Err(number);
         }
-        if self.is(NoClass) {
-            record.lines.iter_mut().for_each(|line| line.class = 0);
+        for line in record.lines.iter_mut() {
+            match self.0 {
+                NoClass if line.boat() != UNREAD => line.class = 1,
+                UnreadByClass if line.class == 0 => line.sail = 0,
+                UnreadByNumber if line.sail == 0 => line.class = 0,
+                _ => {}
+            }
         }
         pattern.root = misread(self.0, pattern.root);
         Ok(Asked {
@@ -98,6 +107,7 @@ impl Faulty {
             _ if nesting(&asked.pattern.root) > DEEPEST => false,
             TrustsArea if dirty => false,
             OneStateChecked => searching::one_state_checked(&asked, chain),
+            fault if searching::of_tests(fault) => searching::checked(&asked, fault, chain),
             _ => asked.accepted_by_machine(chain),
         };
         accepted as u64
@@ -108,8 +118,13 @@ impl Faulty {
         match self.0 {
             _ if nesting(&asked.pattern.root) > DEEPEST => None,
             TrustsArea if dirty => None,
-            MarksWithoutBoats => searching::marked_by(asked, |(place, state)| (*place, state.spot)),
-            MarksPlaces => searching::marked_by(asked, |(place, _)| *place),
+            MarksWithoutBoats => {
+                searching::marked_by(asked, self.0, |(place, state)| (*place, state.spot))
+            }
+            MarksPlaces => searching::marked_by(asked, self.0, |(place, _)| *place),
+            fault if fault == TwoOfARun || searching::of_tests(fault) => {
+                searching::marked_by(asked, fault, |standing| *standing)
+            }
             CutAtPlaces => no_longer(asked.record.places as usize),
             CutAt65535 => no_longer(65_535),
             DepthFirst => searching::depth_first(asked),

@@ -1,7 +1,8 @@
-//! Wrong ways to search, and the wrong way to check.
+//! Wrong ways to search, the wrong way to check, and wrong tests.
 
+use super::Fault::{self, *};
 use crate::chains::Asked;
-use crate::machine::{boat_numbers, Machine, Spot, State};
+use crate::machine::{boat_numbers, Machine, Spot, Stack, State, Test, NOT_READ};
 use std::collections::hash_map::Entry;
 use std::collections::{HashMap, HashSet, VecDeque};
 use std::hash::Hash;
@@ -12,18 +13,32 @@ pub type Standing = (u16, State);
 /// What a search walks over.
 struct Course<'a> {
     asked: &'a Asked,
+    fault: Fault,
     machine: Machine,
     boats: Vec<u16>,
     lines_from: Vec<Vec<u16>>,
+    /// Which lines are one of the two of their run; all, for every fault but `TwoOfARun`.
+    seen: Vec<bool>,
 }
 
 impl Course<'_> {
     fn of(asked: &Asked) -> Course<'_> {
+        Course::with(asked, NoFault)
+    }
+
+    fn with(asked: &Asked, fault: Fault) -> Course<'_> {
+        let boats = boat_numbers(&asked.record);
+        let seen = match fault {
+            TwoOfARun => two_of_each_run(asked, &boats),
+            _ => vec![true; boats.len()],
+        };
         Course {
             asked,
+            fault,
             machine: Machine::new(&asked.pattern.root),
-            boats: boat_numbers(&asked.record),
+            boats,
             lines_from: asked.lines_from(),
+            seen,
         }
     }
 
@@ -38,16 +53,78 @@ impl Course<'_> {
 
     /// The standings after a line.
     fn after(&self, standing: Standing, number: u16) -> Vec<Standing> {
-        let line = &self.asked.record.lines[number as usize];
+        let (_, State { spot, stack }) = standing;
+        let Spot::Take { test, next } = self.machine.spots[spot as usize] else {
+            return Vec::new();
+        };
+        let Some(stack) = self.passed(test, stack, number) else {
+            return Vec::new();
+        };
         let mut states = Vec::new();
-        let boat = self.boats[number as usize];
-        self.machine.take(standing.1, line, boat, &mut states);
+        self.machine.settle(next, stack, &mut states);
+        let line = &self.asked.record.lines[number as usize];
         states.into_iter().map(|state| (line.to, state)).collect()
+    }
+
+    /// The stack after a line that passes, by what the fault takes the test for.
+    fn passed(&self, test: Test, stack: Stack, number: u16) -> Option<Stack> {
+        let line = &self.asked.record.lines[number as usize];
+        let boat = self.boats[number as usize];
+        let right = test.passed(stack, line, boat);
+        let (kind, slot) = match test {
+            Test::Same(kind, slot) | Test::Other(kind, slot) => (kind, slot),
+            Test::Keep(..) if self.fault == KeepRefusesUnread && boat == NOT_READ => return None,
+            Test::Kind(_) if self.fault == LineRefusesUnread && boat == NOT_READ => return None,
+            _ => return right,
+        };
+        let kept = stack.boat_of(slot)?;
+        let passes = match (self.fault, test) {
+            (UnreadCompared, Test::Same(..)) => kept == boat,
+            (UnreadCompared, Test::Other(..)) => kept != boat,
+            (OtherIsNotSame, Test::Other(..)) => kept == NOT_READ || kept != boat,
+            (LineAlone, Test::Other(..)) => boat != NOT_READ && kept != boat,
+            (SlotAlone, Test::Other(..)) => kept != NOT_READ && kept != boat,
+            (TwoOfARun, Test::Other(..)) => right.is_some() && self.seen[number as usize],
+            _ => return right,
+        };
+        (line.kind == kind && passes).then_some(stack)
     }
 
     fn accepting(&self, standing: &Standing) -> bool {
         standing.0 == self.asked.to && self.machine.is_done(standing.1)
     }
+}
+
+/// Is it a fault of the tests, which checker and finder have in common? The copy without a fault
+/// goes the same way, so that it is compared too.
+pub fn of_tests(fault: Fault) -> bool {
+    matches!(
+        fault,
+        NoFault
+            | UnreadCompared
+            | OtherIsNotSame
+            | LineAlone
+            | SlotAlone
+            | KeepRefusesUnread
+            | LineRefusesUnread
+    )
+}
+
+/// Of the lines of one kind between two places, the first, and the first with another boat's
+/// number: enough for other as long as every number was read.
+fn two_of_each_run(asked: &Asked, boats: &[u16]) -> Vec<bool> {
+    let mut runs: HashMap<(u16, u8, u16), Vec<u16>> = HashMap::new();
+    let lines = asked.record.lines.iter().zip(boats);
+    lines
+        .map(|(line, &boat)| {
+            let run = runs.entry((line.from, line.kind, line.to)).or_default();
+            let fresh = run.len() < 2 && !run.contains(&boat);
+            if fresh {
+                run.push(boat);
+            }
+            fresh
+        })
+        .collect()
 }
 
 /// Chains, each as the chain without its last line, and that line; the empty one first.
@@ -76,9 +153,13 @@ impl Chains {
 }
 
 /// Layer by layer and chain by chain, as the right search does, but a standing counts as met
-/// when one with the same mark was.
-pub fn marked_by<M: Eq + Hash>(asked: &Asked, mark: fn(&Standing) -> M) -> Option<Vec<u16>> {
-    let course = Course::of(asked);
+/// when one with the same mark was, and a line passes by what the fault takes the tests for.
+pub fn marked_by<M: Eq + Hash>(
+    asked: &Asked,
+    fault: Fault,
+    mark: fn(&Standing) -> M,
+) -> Option<Vec<u16>> {
+    let course = Course::with(asked, fault);
     let begin = course.begin();
     if begin.iter().any(|standing| course.accepting(standing)) {
         return Some(Vec::new());
@@ -250,6 +331,20 @@ pub fn one_state_followed(asked: &Asked) -> Option<Vec<u16>> {
         standing = after;
     }
     Some(chain)
+}
+
+/// Is the chain accepted, by what the fault takes the tests for?
+pub fn checked(asked: &Asked, fault: Fault, chain: &[u16]) -> bool {
+    if !asked.leads(chain) {
+        return false;
+    }
+    let course = Course::with(asked, fault);
+    let mut standings: HashSet<Standing> = course.begin().into_iter().collect();
+    for &number in chain {
+        let after = standings.iter().map(|&s| course.after(s, number));
+        standings = after.flatten().collect();
+    }
+    standings.iter().any(|standing| course.accepting(standing))
 }
 
 /// Is the chain accepted by the first state after each line?
