@@ -3,7 +3,8 @@
    output are dirtied before every call, outside the clock. The calls of a sample alternate between the programs; each program
    makes as many as last at least BATCH together.
 
-   bench [ROW...]                    the table, or these rows of it, numbered from 0
+   bench [ROW...]                    the table, or these rows of it, numbered from 0; after it, where both were measured, the full
+                                     days with a third of their lines unread by the same days read
    bench --slowest                   the slowest requests, one call each
    bench --call ROW PROGRAM TIMES    calls alone, for a profiler; programs are 0 library, 1 C, 2 C grouped, 3 second
 
@@ -212,9 +213,10 @@ static void show_ratio(double x)
         printf(" | %9.2f", x);
 }
 
-static void measure(struct request *r)
+/* Gives each program's least time, 0 where it was left out. */
+static void measure(struct request *r, double least[PROGRAMS])
 {
-    double time[PROGRAMS] = {0}, sample[PROGRAMS][MOST_SAMPLES], least[PROGRAMS] = {0}, middle[PROGRAMS] = {0};
+    double time[PROGRAMS] = {0}, sample[PROGRAMS][MOST_SAMPLES], middle[PROGRAMS] = {0};
     uint64_t reply[PROGRAMS];
     uint32_t reached;
     unsigned calls[PROGRAMS] = {0}, most = 0, samples = 15;
@@ -435,6 +437,13 @@ static void lap(struct request *r)
     }
 }
 
+/* A third of the day's lines lose their numbers; as many boats are left, since none loses all of its lines. */
+static void unread_third(struct request *r)
+{
+    for (unsigned i = 0; i < lines(r); i += 3)
+        memset(r->rec + 3 + 10 * i + 4, 0, 4);
+}
+
 static struct request *full_day_laps(void)
 {
     struct request *r = fresh("full day, whole laps");
@@ -466,6 +475,31 @@ static struct request *full_day_twice(void)
         command(r, LINE, 3, 0);
     }
     command(r, SAME, 4, 0);
+    return r;
+}
+
+static struct request *full_day_others(void)
+{
+    struct request *r = fresh("full day, others twice");
+    full_record(r);
+    /* Entered; twice: another boat started, others rounded; another finished. */
+    command(r, KEEP, 1, 0);
+    for (unsigned start = 0; start < 2; start++) {
+        byte(r, THEN);
+        command(r, OTHER, 2, 0);
+        byte(r, THEN);
+        byte(r, REPEAT);
+        command(r, OTHER, 3, 0);
+    }
+    command(r, OTHER, 4, 0);
+    return r;
+}
+
+/* The same request about the same day, a third of its lines unread. */
+static struct request *with_third_unread(struct request *r)
+{
+    unread_third(r);
+    strcat(r->name, ", a third unread");
     return r;
 }
 
@@ -625,7 +659,8 @@ static struct request *slowest(const char *name, unsigned boats, unsigned keeps)
 
 /* ---- the runs */
 
-enum { CASES = 10, ROWS = CASES + 16, SLOWEST = 2 };
+/* The full days stand by twos, each request about the day read and then about the day with a third unread. */
+enum { FULL = 1, FULL_END = 7, CASES = 14, ROWS = CASES + 16, SLOWEST = 2 };
 
 static struct request *row(unsigned i)
 {
@@ -635,20 +670,28 @@ static struct request *row(unsigned i)
     case 1:
         return full_day_laps();
     case 2:
-        return full_day_twice();
+        return with_third_unread(full_day_laps());
     case 3:
-        return largest_one_keep(0, "largest size, 1,024 places, one keep");
+        return full_day_twice();
     case 4:
-        return largest_one_keep(1, "largest size, 1,024 places, a chain near by");
+        return with_third_unread(full_day_twice());
     case 5:
-        return largest_two_keeps();
+        return full_day_others();
     case 6:
-        return proposition_3(168, 1, "Proposition 3, largest size, one keep");
+        return with_third_unread(full_day_others());
     case 7:
-        return proposition_3(6, 3, "Proposition 3, largest size, three keeps");
+        return largest_one_keep(0, "largest size, 1,024 places, one keep");
     case 8:
-        return long_check();
+        return largest_one_keep(1, "largest size, 1,024 places, a chain near by");
     case 9:
+        return largest_two_keeps();
+    case 10:
+        return proposition_3(168, 1, "Proposition 3, largest size, one keep");
+    case 11:
+        return proposition_3(6, 3, "Proposition 3, largest size, three keeps");
+    case 12:
+        return long_check();
+    case 13:
         return wide_check();
     case ROWS:
         return slowest("one place, 4,096 lines, 4,096 boats, one keep", 4096, 1);
@@ -665,6 +708,25 @@ static struct request *row(unsigned i)
         return growth("places", 16 << step, 1024, 32, 1);
     default:
         return growth("keeps", 8, 256, 15, step);
+    }
+}
+
+/* What it costs that a third of the lines is unread: a full day's time by its time read, of the days that were measured so. */
+static void compare_unread(double least[][PROGRAMS])
+{
+    int titled = 0;
+    for (int i = FULL; i < FULL_END; i += 2) {
+        if (least[i][LIBRARY] == 0 || least[i + 1][LIBRARY] == 0)
+            continue;
+        if (!titled)
+            printf("\n| a third unread / read | library | C | C grouped | second | before |\n|---|---|---|---|---|---|\n");
+        titled = 1;
+        struct request *r = row(i);
+        printf("| %-52s", r->name);
+        for (int p = 0; p < PROGRAMS; p++)
+            show_ratio(least[i][p] == 0 ? 0 : least[i + 1][p] / least[i][p]);
+        printf(" |\n");
+        free(r);
     }
 }
 
@@ -716,11 +778,14 @@ int main(int count, char **argument)
     else
         printf("| case | reply | states reached | C, us | library / C | the same, medians | C grouped / C | second / C |\n"
                "|---|---|---|---|---|---|---|---|\n");
+    static double least[ROWS + SLOWEST][PROGRAMS];
     for (int i = 0; i < (count > 1 ? count - 1 : all); i++) {
-        struct request *r = row(count > 1 ? atoi(argument[i + 1]) : i);
-        measure(r);
+        int number = count > 1 ? atoi(argument[i + 1]) : i;
+        struct request *r = row(number);
+        measure(r, least[number]);
         free(r->chain);
         free(r);
     }
+    compare_unread(least);
     return 0;
 }

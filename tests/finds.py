@@ -74,11 +74,14 @@ for word, pattern in (("any", THEN_ANY), ("same", THEN_SAME), ("other", THEN_OTH
     for name, kept, other in (("0-5", (0, 5), (0, 6)), ("3-0", (3, 0), (4, 0))): row("%s kept, %s" % (name, word), boats_like(kept, other), pattern, 0, 1)
 row("line: unread", B, [0x21, 1], 0, 1)
 row("keep: unread", B, [0x27, 1, 0, 0x20], 0, 1)
-# Lines between the same two places: other needs the one that is neither unread nor the kept boat's, wherever it stands.
+# Lines between the same two places: other needs the one that is neither unread nor the kept boat's, wherever it stands. Last in its keep,
+# and before a line that is inside too; a boat named first in the record, and an unread number.
 for order in permutations(((0, 0), (1, 1), (1, 2))):
     for kept in ((1, 1), (1, 2)):
-        row("%d-%d kept, other of %s" % (*kept, ", ".join("%d-%d" % boat for boat in order)),
-            record(3, (0, 1, *kept, 1), *[(1, 2, *boat, 2) for boat in order]), THEN_OTHER, 0, 2)
+        name = "%d-%d kept, other of %s" % (*kept, ", ".join("%d-%d" % boat for boat in order))
+        lines = [(0, 1, *kept, 1), *[(1, 2, *boat, 2) for boat in order]]
+        row(name, record(3, *lines), THEN_OTHER, 0, 2)
+        row("unread, " + name + ", and a line", record(4, (3, 4, 0, 0, 3), *lines, (2, 3, 0, 0, 3)), [0x27, 1, 0, 0x25, 0x23, 2, 0, 0x21, 3], 0, 3)
 row("1-1 kept, other of unread ones", record(3, (0, 1, 1, 1, 1), (1, 2, 0, 0, 2), (1, 2, 0, 0, 2), (1, 2, 1, 1, 2)), THEN_OTHER, 0, 2)
 # A boat kept, any number of others, and it again: past unread lines on the way there is no chain.
 AROUND = [0x27, 1, 0, 0x25, 0x26, 0x23, 2, 0, 0x22, 3, 0]

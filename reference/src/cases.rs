@@ -722,26 +722,46 @@ fn unread_runs(b: &Bench) -> Result<String, String> {
         runs = runs.iter().flat_map(longer).collect();
         for run in &runs {
             for kept in [(1, 1), (1, 3), (0, 0)] {
-                let mut lines = vec![line(0, 1, kept.0, kept.1, 1)];
-                lines.extend(run.iter().map(|boat| line(1, 2, boat.0, boat.1, 2)));
-                let rec = written(3, &lines);
-                let first = |passes: &dyn Fn((u8, u32)) -> bool| {
-                    let read = |boat: (u8, u32)| boat != (0, 0) && kept != (0, 0);
-                    run.iter().position(|&boat| read(boat) && passes(boat))
-                };
-                for (pat, second) in [
-                    (&THEN_SAME, first(&|boat| boat == kept)),
-                    (&THEN_OTHER, first(&|boat| boat != kept)),
-                ] {
-                    match second {
-                        Some(at) => b.found(ask(&rec, pat, 0, 2), &[0, 1 + at as u16])?,
-                        None => b.none(ask(&rec, pat, 0, 2))?,
-                    }
-                }
+                // The first line of the record is unread, or another.
+                unread_run(b, run, kept, (0, 0))?;
+                unread_run(b, run, kept, (9, 9))?;
             }
         }
     }
     ok()
+}
+
+fn unread_run(b: &Bench, run: &[(u8, u32)], kept: (u8, u32), ahead: (u8, u32)) -> Done {
+    let mut lines = vec![
+        line(3, 4, ahead.0, ahead.1, 3),
+        line(0, 1, kept.0, kept.1, 1),
+    ];
+    lines.extend(run.iter().map(|boat| line(1, 2, boat.0, boat.1, 2)));
+    lines.push(line(2, 3, 0, 0, 3));
+    let last = lines.len() as u16 - 1;
+    let rec = written(4, &lines);
+    for test in [0x22, 0x23] {
+        let both_read = |boat: (u8, u32)| boat != (0, 0) && kept != (0, 0);
+        let second = run
+            .iter()
+            .position(|&boat| both_read(boat) && (boat == kept) == (test == 0x22))
+            .map(|at| 2 + at as u16);
+        // The test stands last in its keep, and before a line that is inside too.
+        let alone = [0x27, 1, 0, test, 2, 0];
+        let before = [0x27, 1, 0, 0x25, test, 2, 0, 0x21, 3];
+        let (alone, before) = (ask(&rec, &alone, 0, 2), ask(&rec, &before, 0, 3));
+        match second {
+            Some(second) => {
+                b.found(alone, &[1, second])?;
+                b.found(before, &[1, second, last])?;
+            }
+            None => {
+                b.none(alone)?;
+                b.none(before)?;
+            }
+        }
+    }
+    Ok(())
 }
 
 /// Which slot a test looks at, an unread number being in one of them.
