@@ -71,10 +71,11 @@ fn gather(work: &mut [u32], plan: Plan, program: &[u64; 128], line: usize, count
     requires { ⌜ (line < plan .lines) × (count ≤ plan .size) × Listed plan count (now work) ⌝ }
     ensures { λ r. ⌜ StepForth plan (turns (listTurn (settingAt (now (program .entry)) plan (now (work .entry))) plan (now (work .entry)) line) 0 count) 0 (now (work .entry)) r (now (work .exit)) ⌝ }
 {
+    let lead = forward::lead_of(work, plan, line);
     let mut t = 0;
     for j in 0..count {
         let s = area::word(work, plan.base + j) as usize;
-        t = forward::from_state(work, plan, program, 0, line, s, t);
+        t = forward::from_state(work, plan, program, 0, lead, s, t);
     }
     t
 }

@@ -1,2 +1,3 @@
 pub mod Posed
 pub mod Firsts
+pub mod Leads

@@ -11,7 +11,8 @@ ghost use Rattle.graph.specs.Loops.{turns};
 ghost use Rattle.search.specs.Moves.{onward};
 ghost use Rattle.graph.specs.PhaseTwo.{lesserWord, nearestWord};
 ghost use Rattle.states.specs.Pairs.{distances, ReadyForth, StepForth, seen};
-ghost use Rattle.states.specs.Spots.{Fit, nextTurn};
+ghost use Rattle.states.specs.Spots.{front, Fit, nextTurn};
+ghost use Rattle.forward.specs.Leads.{leadIn, SomeLead};
 ghost use Rattle.forward.specs.Firsts.{firstStates, nearTurn};
 use request::Plan;
 
@@ -80,33 +81,52 @@ pub fn over_next(
     t
 }
 
-// Line `i` from the state `s`: each state to which it leads is visited.
+// A line as it is loaded: the places that it comes from and leads to, its kind, and its boat's number.
+pub struct Lead {
+    pub from: usize,
+    pub to: usize,
+    pub kind: usize,
+    pub code: u32,
+}
+
+// Line `i`. It is read once for all states that it leads from.
+pub fn lead_of(work: &[u32], plan: Plan, i: usize) -> Lead
+    requires { ⌜ Laid plan (length (now work)) × (i < plan .lines) ⌝ }
+    ensures { λ r. ⌜ r ≡ leadIn plan (front plan (now (work .entry))) i ⌝ }
+{
+    let line = area::word(work, plan.words + i);
+    let code = area::word(work, plan.codes + i);
+    Lead {
+        from: request::from_of(line),
+        to: request::to_of(line),
+        kind: request::kind_of(line),
+        code,
+    }
+}
+
+// The line `lead` from the state `s`: each state to which it leads is visited.
 pub fn from_state(
     work: &mut [u32],
     plan: Plan,
     program: &[u64; 128],
     want: u32,
-    i: usize,
+    lead: Lead,
     s: usize,
     tail: usize,
 ) -> usize
     requires { ⌜ ReadyForth plan tail (now work) ⌝ }
     requires { ⌜ Fit plan (now program) (now work) ⌝ }
-    requires { ⌜ (i < plan .lines) × (s < plan .size) ⌝ }
-    ensures { λ r. ⌜ StepForth plan (onward (settingAt (now (program .entry)) plan (now (work .entry))) (seen plan (now (work .entry)) want) i s) tail (now (work .entry)) r (now (work .exit)) ⌝ }
+    requires { ⌜ SomeLead plan (front plan (now work)) lead × (s < plan .size) ⌝ }
+    ensures { λ r. ⌜ ((i : ℕ) → i < plan .lines → lead ≡ leadIn plan (front plan (now (work .entry))) i → StepForth plan (onward (settingAt (now (program .entry)) plan (now (work .entry))) (seen plan (now (work .entry)) want) i s) tail (now (work .entry)) r (now (work .exit))) ⌝ }
 {
-    let line = area::word(work, plan.words + i);
-    let from = request::from_of(line);
-    if states::stands_at(plan, s, from) {
-        let here = states::standing_at(plan, s, from);
+    if states::stands_at(plan, s, lead.from) {
+        let here = states::standing_at(plan, s, lead.from);
         let at = here.position;
-        if request::kind_of(line) == positions::kind_at(program, at) {
-            let code = area::word(work, plan.codes + i);
-            if states::passes_at(work, plan, program, at, code, here.stack) {
-                let u = states::put_on_at(program, plan.radix, at, here.stack, code);
+        if lead.kind == positions::kind_at(program, at) {
+            if states::passes_at(work, plan, program, at, lead.code, here.stack) {
+                let u = states::put_on_at(program, plan.radix, at, here.stack, lead.code);
                 let follow = positions::follow_at(program, at);
-                let to = request::to_of(line);
-                return over_next(work, plan, program, follow, want, to, u, tail);
+                return over_next(work, plan, program, follow, want, lead.to, u, tail);
             }
         }
     }

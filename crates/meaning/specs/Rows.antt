@@ -8,7 +8,7 @@ use lib.ListN.{take, replicate}
 use Rattle.meaning.specs.Outcome.{Outcome, refused, passed}
 use Rattle.meaning.specs.Record.{Boat, Line, bytesOf, boats, boatsAfter, entryAt, linesFrom, readRecord}
 use Rattle.meaning.specs.Writing.{emptyRecord, beginOf, beginAfter, addOf, addAfter, readOf}
-use Rattle.meaning.specs.Pattern.{Pattern, nothing, line, test, same, other, either, then, repeat, keep, commands, keeps, readPattern, readAt, commandAt, shapeOf, noneGiven}
+use Rattle.meaning.specs.Pattern.{Rule, Pattern, nothing, line, test, same, other, either, then, repeat, keep, commands, keeps, readPattern, readAt, commandAt, shapeOf, noneGiven}
 use Rattle.meaning.specs.Language.{compared, meets}
 
 -- the number of the question that was answered no, or 0
@@ -273,3 +273,22 @@ same-met = refl
 other-met : map (λ b. meets other (compared b (boat 1 150))) (boat 1 150 ∷ boat 2 150 ∷ boat 1 151 ∷ []) ≡ false ∷ true ∷ true ∷ []
 unfolding boat
 other-met = refl
+
+-- an unread number meets neither, on whichever side, nor does it meet itself; 0-5 and 3-0 are boats
+unread-met : map (λ (r : Rule). map (λ (p : Boat × Boat). meets r (compared (p .0) (p .1))) ((boat 0 0, boat 1 150) ∷ (boat 1 150, boat 0 0) ∷ (boat 0 0, boat 0 0) ∷ (boat 0 5, boat 0 0) ∷ [])) (same ∷ other ∷ [])
+    ≡ (false ∷ false ∷ false ∷ false ∷ []) ∷ (false ∷ false ∷ false ∷ false ∷ []) ∷ []
+unfolding boat
+unread-met = refl
+
+class-0-met : map (λ (r : Rule). map (λ b. meets r (compared b (boat 0 5))) (boat 0 5 ∷ boat 0 6 ∷ boat 3 5 ∷ [])) (same ∷ other ∷ []) ≡ (true ∷ false ∷ false ∷ []) ∷ (false ∷ true ∷ true ∷ []) ∷ []
+unfolding boat
+class-0-met = refl
+
+number-0-met : map (λ (r : Rule). map (λ b. meets r (compared b (boat 3 0))) (boat 3 0 ∷ boat 3 1 ∷ boat 4 0 ∷ [])) (same ∷ other ∷ []) ≡ (true ∷ false ∷ false ∷ []) ∷ (false ∷ true ∷ true ∷ []) ∷ []
+unfolding boat
+number-0-met = refl
+
+-- unread numbers are one of the different boats
+boats-counted : boats (map (λ (b : Boat). record { from = 0; kind = 1; boat = b; to = 0 }) (boat 1 1 ∷ boat 0 0 ∷ boat 0 5 ∷ boat 0 0 ∷ [])) ≡ boat 1 1 ∷ boat 0 0 ∷ boat 0 5 ∷ []
+unfolding boat boatsAfter
+boats-counted = refl

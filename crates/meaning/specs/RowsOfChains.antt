@@ -8,7 +8,7 @@ use Prim.Native.Nat.{ℕ, zero, suc}
 use native.Mathlib.Omega.{arith}
 use lib.ListN.{length, length-append}
 use Rattle.meaning.specs.Record.{Line}
-use Rattle.meaning.specs.Pattern.{line, same, repeat}
+use Rattle.meaning.specs.Pattern.{line, same, repeat, keep}
 use Rattle.meaning.specs.Language.{Letter, compared, meets, stop, more}
 use Rattle.meaning.specs.Chain.{Exist, exist, Leads, word, Accepted, Before, First}
 use Rattle.meaning.specs.Rows.{line-of, linesR, P, S}
@@ -121,6 +121,15 @@ repeated-T = (
   (omega arith, (omega arith, tt)),
   (refl, (refl, refl)),
   more (letter 1 1 2 ∷ []) (letter 1 1 1 ∷ []) refl (letter 1 1 2, refl, refl) (more (letter 1 1 1 ∷ []) [] refl (letter 1 1 1, refl, refl) (stop refl)),
+)
+
+-- an unread number is kept, and a line with one is taken where nothing is compared
+unread-kept : Accepted (line-of 0 1 0 0 1 ∷ line-of 1 2 0 0 1 ∷ []) (keep 1 0 (line 2)) 0 1 (0 ∷ 1 ∷ [])
+unfolding line-of letter
+unread-kept = (
+  (omega arith, (omega arith, tt)),
+  (refl, (refl, refl)),
+  (letter 1 0 0, letter 2 0 0 ∷ [], refl, refl, (letter 2 0 0, refl, refl)),
 )
 
 -- ---- which of two comes first

@@ -5,3 +5,4 @@ pub mod Bound
 pub mod Membership
 pub mod Wordings
 pub mod Examples
+pub mod Unread

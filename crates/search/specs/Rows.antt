@@ -65,3 +65,29 @@ both-followed = refl
 both-checked : map (check U A 0 2) ((0 ∷ 1 ∷ []) ∷ (0 ∷ 2 ∷ []) ∷ (0 ∷ 3 ∷ []) ∷ []) ≡ true ∷ true ∷ false ∷ []
 unfolding U A ln boatsAfter codes news look memb nub filt flat count stacks state placeOf posOf stackOf succs setting starts exist moved check
 both-checked = refl
+
+-- ---- unread numbers
+
+-- boat 1-1 entered; then from one place an unread number, that boat and another
+W : List Line
+W = ln 0 1 1 1 1 ∷ ln 1 2 0 0 2 ∷ ln 1 2 1 1 2 ∷ ln 1 2 1 2 2 ∷ []
+
+-- a boat entered, another started
+O : Pattern
+O = keep 1 0 (test other 2 0)
+
+unread-passed-over : answer W 3 O 0 2 ≡ some (0 ∷ 3 ∷ [])
+unfolding W O ln boatsAfter codes solve found news look bfs chosen pick first next level nearest lesser isAt memb nub filt flat count stacks state placeOf posOf stackOf succs preds setting searchSize starts answer
+unread-passed-over = refl
+
+unread-checked : map (check W O 0 2) ((0 ∷ 1 ∷ []) ∷ (0 ∷ 2 ∷ []) ∷ (0 ∷ 3 ∷ []) ∷ []) ≡ false ∷ false ∷ true ∷ []
+unfolding W O ln boatsAfter codes news look memb nub filt flat count stacks state placeOf posOf stackOf succs setting starts exist moved check
+unread-checked = refl
+
+-- an unread number entered: no line of it or of another boat is known to be the same or another
+E : List Line
+E = ln 0 1 0 0 1 ∷ ln 1 2 0 0 1 ∷ ln 1 2 1 1 1 ∷ []
+
+unread-entered : map (λ (p : Pattern). answer E 2 p 0 1) (keep 1 0 (test same 2 0) ∷ keep 1 0 (test other 2 0) ∷ keep 1 0 (line 2) ∷ []) ≡ none ∷ none ∷ some (0 ∷ 1 ∷ []) ∷ []
+unfolding E ln boatsAfter codes solve found news look bfs chosen pick first next level nearest lesser isAt memb nub filt flat count stacks state placeOf posOf stackOf succs preds setting searchSize starts answer
+unread-entered = refl

@@ -78,14 +78,14 @@ pub fn compared(work: &[u32], plan: Plan, a: usize, b: usize) -> Told
 pub fn meets(rule: Rule, told: Told) -> bool
     ensures { λ r. ⌜ r ≡ metBy rule (toldShown told) ⌝ }
 {
-    if let Rule::Always = rule {
-        return true;
-    }
     if let Rule::Same = rule {
         return told.same();
     }
     if let Rule::Other = rule {
         return told.other();
+    }
+    if let Rule::Always = rule {
+        return true;
     }
     false
 }
@@ -213,7 +213,29 @@ pub fn passes(work: &[u32], plan: Plan, spot: Spot, code: u32, v: usize) -> bool
     meets(rule, compared(work, plan, code as usize, kept))
 }
 
-// Does the boat number `code` pass at position `c`, against the stack `v` before it? A power is made only where boats are compared.
+// The boat number at a level of a stack, by the level's number.
+fn kept_in(stack: usize, level: usize, radix: usize) -> usize
+    requires { ⌜ (0 < radix) × (level ≤ 3) ⌝ }
+    ensures { λ r. ⌜ (r ≡ stack / radix ^ level % radix) × (r < radix) ⌝ }
+{
+    if level == 0 {
+        if stack < radix {
+            return stack;
+        }
+        return stack % radix;
+    }
+    let first = stack / radix;
+    if level == 1 {
+        return first % radix;
+    }
+    let second = first / radix;
+    if level == 2 {
+        return second % radix;
+    }
+    second / radix % radix
+}
+
+// Does the boat number `code` pass at position `c`, against the stack `v` before it?
 pub fn passes_at(
     work: &[u32],
     plan: Plan,
@@ -222,8 +244,7 @@ pub fn passes_at(
     code: u32,
     v: usize,
 ) -> bool
-    requires { ⌜ Laid plan (length (now work)) ⌝ }
-    requires { ⌜ (c < 64) × (plan .radix ^ rowAt (now program) c .level ≤ largest) ⌝ }
+    requires { ⌜ Laid plan (length (now work)) × (c < 64) ⌝ }
     ensures { λ r. ⌜ r ≡ okay (boatsIn plan (now (work .entry))) (plan .radix) (spotIn (now (program .entry)) (plan .radix) c) code v ⌝ }
 {
     let row = positions::row_at(program, c);
@@ -231,8 +252,7 @@ pub fn passes_at(
     if let Rule::Always = rule {
         return true;
     }
-    let level = power(plan.radix, wide(row.level));
-    let kept = entry_at(v, level, plan.radix);
+    let kept = kept_in(v, wide(row.level), plan.radix);
     meets(rule, compared(work, plan, code as usize, kept))
 }
 

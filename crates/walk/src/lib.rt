@@ -42,11 +42,12 @@ pub fn gather_line(
     requires { ⌜ (0 < want) × (i < plan .lines) × (lo ≤ tail) ⌝ }
     ensures { λ r. ⌜ StepForth plan (gather (leads (now (program .entry)) plan (now (work .entry))) want i lo) tail (now (work .entry)) r (now (work .exit)) ⌝ }
 {
+    let lead = forward::lead_of(work, plan, i);
     let mut t = tail;
     let mut j = lo;
     while j < tail {
         let s = area::waiting(work, plan.marks, plan.size, t, j);
-        t = forward::from_state(work, plan, program, want, i, s, t);
+        t = forward::from_state(work, plan, program, want, lead, s, t);
         j += 1;
     }
     t

@@ -10,33 +10,44 @@ use Rattle.states.proofs.meets.Tie as tie
 enum-told : tie.Need-enum-told
 enum-told c = search needs
 
+same-requires : tie.Need-same-requires
+same-requires c κs = search needs
+
 returns : tie.Need-returns
-returns c = search needs
+returns c =
+    let a = c .before .before .before .args in
+    c .same .ensures ∙ (same-met (a .told) ∙ ap (λ (t : Rule). metBy t (toldShown (a .told))) (sym (c .before .enum-told .given .1)))
 
 enum-told-2 : tie.Need-enum-told-2
 enum-told-2 c = search needs
 
-same-requires : tie.Need-same-requires
-same-requires c κs = search needs
+other-requires : tie.Need-other-requires
+other-requires c κs = search needs
 
 returns-2 : tie.Need-returns-2
 returns-2 c =
     let a = c .before .before .before .before .args in
-    c .same .ensures ∙ (same-met (a .told) ∙ ap (λ (t : Rule). metBy t (toldShown (a .told))) (sym (c .before .enum-told2 .given .1)))
+    c .other .ensures ∙ (other-met (a .told) ∙ ap (λ (t : Rule). metBy t (toldShown (a .told))) (sym (c .before .enum-told2 .given .1)))
 
 enum-told-3 : tie.Need-enum-told-3
 enum-told-3 c = search needs
 
-other-requires : tie.Need-other-requires
-other-requires c κs = search needs
-
 returns-3 : tie.Need-returns-3
-returns-3 c =
-    let a = c .before .before .before .before .before .args in
-    c .other .ensures ∙ (other-met (a .told) ∙ ap (λ (t : Rule). metBy t (toldShown (a .told))) (sym (c .before .enum-told3 .given .1)))
+returns-3 c = search needs
 
 returns-4 : tie.Need-returns-4
-returns-4 c = never-left (c .before .before .before .args .rule) (c .before .before .match .keys2) (c .before .match2 .keys2) (c .match3 .keys2) (toldShown (c .before .before .before .args .told))
+returns-4 c = let a = c .before .before .before .args in never-left (a .rule) (c .match3 .keys2) (c .before .before .match .keys2) (c .before .match2 .keys2) (toldShown (a .told))
 
 pub meets-spec : {M : Type 1} → statement M
-meets-spec = tie.close (tie.spec enum-told returns enum-told-2 same-requires returns-2 enum-told-3 other-requires returns-3 returns-4)
+meets-spec =
+    tie.close
+    (tie.spec
+    enum-told
+    same-requires
+    returns
+    enum-told-2
+    other-requires
+    returns-2
+    enum-told-3
+    returns-3
+    returns-4)

@@ -1,7 +1,5 @@
--- `states::passes_at` meets its contract: everybody passes, or the comparison of the two numbers says it. Assumes nothing.
+-- `states::passes_at` meets its contract: everybody passes, or the comparison says it. Assumes nothing.
 use mathlib.Core.Path.{sym, ap, _∙_}
-use native.Mathlib.Nat.{one-le-pow}
-use native.Mathlib.Omega.{arith}
 use Rattle.positions.specs.Program.{level-few}
 use Rattle.positions.specs.declared.Row.{Row}
 use Rattle.states.specs.Spots.{spotIn, okay}
@@ -23,13 +21,8 @@ returns c = sym (okay-any _ _ _ _ _ (ap (λ (x : Row). x .rule) (sym (c .before 
 wide-requires : tie.Need-wide-requires
 wide-requires c κs = search needs
 
-power-requires : tie.Need-power-requires
-power-requires c κs = let a = c .before .before .before .before in rw (c .wide .ensures .0, c .before .before .row-at .ensures) (a .pre .0 .some-radix, level-few _ _, a .pre .1 .1)
-
-entry-at-requires : tie.Need-entry-at-requires
-entry-at-requires c κs =
-    let a = c .before .before .before .before .before in
-    (omega (arith, c .power .ensures, one-le-pow (c .before .wide .result) (a .args .plan .radix) (a .pre .0 .some-radix)), a .pre .0 .some-radix)
+kept-in-requires : tie.Need-kept-in-requires
+kept-in-requires c κs = let a = c .before .before .before .before in rw (c .wide .ensures .0, c .before .before .row-at .ensures) (a .pre .0 .some-radix, level-few _ _)
 
 compared-requires : tie.Need-compared-requires
 compared-requires c κs = search needs
@@ -39,7 +32,7 @@ meets-requires c κs = search needs
 
 returns-2 : tie.Need-returns-2
 unfolding okay spotIn
-returns-2 c = rw (c .meets .ensures, c .before .compared .ensures, c .before .before .entry-at .ensures .0, c .before .before .before .power .ensures, c .before .before .before .before .wide .ensures .0, c .before .before .before .before .before .before .row-at .ensures)
+returns-2 c = rw (c .meets .ensures, c .before .compared .ensures, c .before .before .kept-in .ensures .0, c .before .before .before .wide .ensures .0, c .before .before .before .before .before .row-at .ensures)
 
 pub passes-at-spec : {M : Type 1} → statement M
 passes-at-spec =
@@ -49,8 +42,7 @@ passes-at-spec =
     enum-told
     returns
     wide-requires
-    power-requires
-    entry-at-requires
+    kept-in-requires
     compared-requires
     meets-requires
     returns-2)
