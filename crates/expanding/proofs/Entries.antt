@@ -131,19 +131,24 @@ module _ (B : ℕ → ℕ) (plan : Plan) (u : Undo) (home x : ℕ) (wants : Want
   pub same-unread : B x ≡ 0 → (st : Search) → undone plan u B home x st ≡ st
   same-unread none st = turns-idle turn 0 (u .count) st (λ n l h. turn-is n st ∙ rw (eq-eqb (B x) 0 none))
 
+  -- the entry compared is the same for all stacks, and another
+  pub same-none : 0 < level → EntryBelow R level W → (x ≡ w / level % R → ⊥) → (st : Search) → undone plan u B home x st ≡ st
+  same-none some is other st = turns-idle turn 0 (u .count) st (λ n l h. idle n)
+    where
+      nothing : (b : Bool) → (b && false) ≡ false
+      nothing true = refl
+      nothing false = refl
+
+      idle : (n : ℕ) → turn n st ≡ st
+      idle n =
+          let there : (n * W + w) / level % R ≡ w / level % R = ap (λ z. (n * z + w) / level % R) is ∙ entry-same R level (W / level / R) n w some in
+          turn-is n st ∙ ap (λ z. cond z (goes n st) st) (ap (readBy B x &&_) (ne-eqb x ((n * W + w) / level % R) (λ e. other (e ∙ there))) ∙ nothing (readBy B x))
+
   -- ---- of a read boat
 
   module _ (read : B x ≡ 0 → ⊥) where
     read-is : (n : ℕ) (b : Search) → turn n b ≡ cond (eqb x ((n * W + w) / level % R)) (goes n b) b
     read-is n b = turn-is n b ∙ rw (ne-eqb (B x) 0 read)
-
-    pub same-none : 0 < level → EntryBelow R level W → (x ≡ w / level % R → ⊥) → (st : Search) → undone plan u B home x st ≡ st
-    same-none some is other st = turns-idle turn 0 (u .count) st (λ n l h. idle n)
-      where
-        idle : (n : ℕ) → turn n st ≡ st
-        idle n =
-            let there : (n * W + w) / level % R ≡ w / level % R = ap (λ z. (n * z + w) / level % R) is ∙ entry-same R level (W / level / R) n w some in
-            read-is n st ∙ ap (λ z. cond z (goes n st) st) (ne-eqb x ((n * W + w) / level % R) (λ e. other (e ∙ there)))
 
     pub same-entries : EntryAmong R level W (u .count) x → (st : Search) → undone plan u B home x st ≡ turns (entriesTurn plan u home x (level / W)) 0 (u .count / (level / W) / R) st
     unfolding entriesTurn

@@ -165,12 +165,12 @@ fn entry_among(radix: usize, level: usize, weight: usize, count: usize, code: u3
     (code as usize) < radix
 }
 
-// Each stack, of a position that takes only the boat at its level and does not push, for a line whose boat is read. The entry at that level
-// is one of the state's, the same for all of them, or one of those that are gone over, of which the line's boat is taken alone.
+// Each stack, of a position that takes only the boat at its level and does not push. The entry at that level is one of the state's, the
+// same for all of them, or one of those that are gone over, of which the line's boat is taken alone, and none where that is unread.
 fn over_same(work: &mut [u32], plan: Plan, undo: Undo, home: usize, code: u32, tail: usize) -> usize
     requires { ⌜ Undoing plan undo tail (now work) ⌝ }
     requires { ⌜ InStates plan undo home ⌝ }
-    requires { ⌜ WantsSame undo × (boatsIn plan (now work) code ≡ 0 → ⊥) ⌝ }
+    requires { ⌜ WantsSame undo ⌝ }
     ensures { λ r. ⌜ StepBack plan (undone plan undo (boatsIn plan (now (work .entry))) home code) tail (now (work .entry)) r (now (work .exit)) ⌝ }
 {
     let spot = undo.spot;
@@ -182,6 +182,9 @@ fn over_same(work: &mut [u32], plan: Plan, undo: Undo, home: usize, code: u32, t
     }
     let below = spot.level / undo.weight;
     if entry_among(plan.radix, spot.level, undo.weight, undo.count, code) {
+        if states::boat_of(work, plan, code as usize) == 0 {
+            return tail;
+        }
         let above = undo.count / below / plan.radix;
         return over_entries(work, plan, undo, home, code as usize, below, above, tail);
     }
@@ -216,9 +219,6 @@ fn over_stacks(
     ensures { λ r. ⌜ StepBack plan (undone plan undo (boatsIn plan (now (work .entry))) home code) tail (now (work .entry)) r (now (work .exit)) ⌝ }
 {
     if wants_same(undo) {
-        if states::boat_of(work, plan, code as usize) == 0 {
-            return tail;
-        }
         return over_same(work, plan, undo, home, code, tail);
     }
     over_each(work, plan, undo, home, code, tail)

@@ -1,8 +1,8 @@
--- A request posed is one to search by: `told-radix` (what loading asks of the plan), `posed-from` (the area after loading is posed),
+-- A request posed is one to search by: `posed-from` (the area after loading is posed),
 -- `posed-fit` (its tables fit), `posed-tables` (they are those of its record).
 use mathlib.Core.Path.{_≡_, refl, sym, ap, _∙_, subst}
 use mathlib.Core.List.{List, _++_, map, append-assoc}
-use Prim.Native.Nat.{ℕ, zero, suc, _+_, _<_, _≤_}
+use Prim.Native.Nat.{ℕ, suc, _+_, _<_, _≤_}
 use native.Mathlib.Omega.{arith}
 use lib.ListN.{length, getD, take, drop, length-append, length-take, length-drop, length-map}
 use lib.Seq.{take-at, drop-at, take-take}
@@ -15,10 +15,8 @@ use Rattle.record.specs.Whole.{linesIn, linesOf}
 use Rattle.positions.specs.Program.{rowAt, Compiled}
 use Rattle.compiler.specs.Compiling.{Small}
 use Rattle.positions.specs.Limits.{compiled-depth}
-use Rattle.boats.specs.Boats.{asNumber}
 use Rattle.boats.specs.Codes.{codes, code-low, codes-length}
-use Rattle.boats.specs.Table.{boatTable}
-use Rattle.request.specs.Layout.{Laid, Planned, boatWords, lineWord, fromIn, toIn, boatsLoaded, loadedOf}
+use Rattle.request.specs.Layout.{Laid, Planned, boatWords, lineWord, fromIn, toIn, boatsLoaded, table-long, loadedOf}
 use Rattle.request.specs.Told.{Parts, Told}
 use Rattle.request.specs.declared.Plan.{Plan}
 use Rattle.search.specs.Loaded.{codeAt, wordAt, settingIn}
@@ -36,7 +34,7 @@ tables-long {q} {plan} p l =
       arith,
       length-append (boatsLoaded (plan .keeps) lines) (codes lines ++ map lineWord lines),
       length-append (codes lines) (map lineWord lines),
-      boats-long (plan .keeps),
+      table-long (q .day .lines) (plan .keeps) ∙ ap (boatWords (plan .keeps)) (sym (p .radix-is)),
       codes-length lines,
       length-map lines lineWord,
       p .lines-are,
@@ -44,16 +42,6 @@ tables-long {q} {plan} p l =
       l .words-at,
       l .base-at,
     )
-  where
-    -- the boats fill theirs
-    boats-long : (k : ℕ) → length (boatsLoaded k (q .day .lines)) ≡ boatWords k (plan .radix)
-    boats-long zero = refl
-    boats-long (suc k) = unfold boatTable in ap suc (length-map (boats (q .day .lines)) asNumber) ∙ sym (p .radix-is)
-
--- the plan has a number for each boat of the record, and one more: what loading asks of it
-pub told-radix : {rec pat : List ℕ} {from to area : ℕ} {plan : Plan} (t : Told (askRequest rec pat from to area) area plan) → Parts rec pat from to (t .asked)
-    → plan .radix ≡ suc (length (boats (linesOf rec)))
-told-radix t p = t .planned .radix-is ∙ sym (ap (λ ls. suc (length (boats ls))) (ap linesIn (p .day-read)))
 
 -- the area after loading, by the plan of a request that passed; `old` is what it was before
 pub posed-from : {rec pat : List ℕ} {from to : ℕ} {plan : Plan} (old : List ℕ) (t : Told (askRequest rec pat from to (length old)) (length old) plan) → Parts rec pat from to (t .asked)

@@ -3,14 +3,13 @@ use mathlib.Core.Path.{_≡_, refl, sym, ap, _∙_}
 use mathlib.Core.List.{List, _++_, map, append-assoc}
 use Prim.Native.Nat.{ℕ, zero, suc, _+_, _-_, _≤_}
 use native.Mathlib.Omega.{arith}
-use lib.ListN.{length, take, drop, take-append-drop, length-drop, length-append, length-map}
+use lib.ListN.{length, take, drop, take-append-drop, length-drop, length-append}
 use lib.Seq.{length-take-le, drop-drop, take-at, drop-at}
 use borrow.Rule.Slice.PartMut.{putMid}
 use Rattle.meaning.specs.Record.{Line, boats}
-use Rattle.boats.specs.Boats.{asNumber}
 use Rattle.boats.specs.Codes.{codes, codes-length}
 use Rattle.boats.specs.Table.{boatTable}
-use Rattle.request.specs.Layout.{Laid, boatWords, lineWord, boatsLoaded, loadedOf}
+use Rattle.request.specs.Layout.{Laid, boatWords, lineWord, boatsLoaded, table-long, loadedOf}
 use Rattle.request.specs.declared.Plan.{Plan}
 
 -- a stretch written after what is written already
@@ -32,12 +31,6 @@ module _ (lines : List Line) (radix : ℕ) where
   some-words : (k : ℕ) → (k ≡ 0 → ⊥) → (boatsLoaded k lines ≡ boatTable lines) × (boatWords k radix ≡ radix)
   some-words zero some = absurd (some refl)
   some-words (suc k) some = (refl, refl)
-
-  -- the table is as long as its stretch
-  table-long : radix ≡ suc (length (boats lines)) → (k : ℕ) → length (boatsLoaded k lines) ≡ boatWords k radix
-  unfolding boatTable
-  table-long many zero = refl
-  table-long many (suc k) = ap suc (length-map (boats lines) asNumber) ∙ sym many
 
 module _ (lines : List Line) (plan : Plan) (w : List ℕ) (l : Laid plan (length w)) where
   -- ---- the boats
@@ -80,7 +73,7 @@ module _ (lines : List Line) (plan : Plan) (w : List ℕ) (l : Laid plan (length
     lead = take (plan .boats) w ++ table
 
     lead-long : length lead ≡ plan .codes
-    lead-long = length-append (take (plan .boats) w) table ∙ omega (arith, front-long, table-long lines (plan .radix) kinds (plan .keeps), l .codes-at)
+    lead-long = length-append (take (plan .boats) w) table ∙ omega (arith, front-long, table-long lines (plan .keeps) ∙ ap (boatWords (plan .keeps)) (sym kinds), l .codes-at)
 
     abbrev lead-2 : List ℕ
     lead-2 = lead ++ codes lines

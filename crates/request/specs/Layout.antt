@@ -1,14 +1,15 @@
 -- The layout of the work area: the limits, where the tables of a plan stand (`Laid`), the plan of a request (`Planned`), a line in one word,
 -- and what is loaded.
-use mathlib.Core.Path.{_≡_}
+use mathlib.Core.Path.{_≡_, refl, ap}
 use mathlib.Core.List.{List, [], _++_, map}
 use Prim.Native.Nat.{ℕ, zero, suc, _+_, _*_, _^_, _≤_, _<_, _/_, _%_}
 use native.Mathlib.Omega.{arith}
 use lib.Dec.{leb}
-use lib.ListN.{length}
+use lib.ListN.{length, length-map}
 use Rattle.meaning.specs.Record.{Line, boats}
 use Rattle.meaning.specs.Pattern.{commands, keeps}
 use Rattle.meaning.specs.Request.{Asked}
+use Rattle.boats.specs.Boats.{asNumber}
 use Rattle.boats.specs.Codes.{codes}
 use Rattle.boats.specs.Table.{boatTable}
 use Rattle.request.specs.declared.Plan.{Plan}
@@ -131,6 +132,11 @@ module _ (l : Line) (from-low : l .from < 1024) (to-low : l .to < 1024) (kind-lo
 abbrev pub boatsLoaded : ℕ → List Line → List ℕ
 boatsLoaded zero lines = []
 boatsLoaded (suc keeps) lines = boatTable lines
+
+-- they fill their words
+pub table-long : (lines : List Line) (k : ℕ) → length (boatsLoaded k lines) ≡ boatWords k (suc (length (boats lines)))
+table-long lines zero = refl
+table-long lines (suc k) = unfold boatTable in ap suc (length-map (boats lines) asNumber)
 
 -- the boats, each line's boat number, the lines; for a pattern with so many keeps
 abbrev pub loadedOf : ℕ → List Line → List ℕ

@@ -4,13 +4,13 @@
 use mathlib.Core.Path.{_≡_, refl, sym, ap, _∙_, subst}
 use mathlib.Core.Bool.{Bool, true, false, _&&_}
 use mathlib.Core.List.{List}
-use Prim.Native.Nat.{ℕ, _<_, _≤_}
+use Prim.Native.Nat.{ℕ, suc, _<_, _≤_}
 use native.Mathlib.Omega.{arith}
 use lib.Dec.{ltb, leb}
 use lib.ListN.{length, replicate, length-replicate}
 use borrow.Author.Tests.{ltb-true, leb-true}
 use Rattle.meaning.specs.Outcome.{Outcome, refused, passed, ask}
-use Rattle.meaning.specs.Record.{Day, readRecord}
+use Rattle.meaning.specs.Record.{Day, boats, readRecord}
 use Rattle.meaning.specs.Pattern.{Pattern, readPattern, noneGiven}
 use Rattle.meaning.specs.Request.{Asked, sizeOf, need, askBoth, askRequest}
 use Rattle.record.specs.Outcomes.{passed-inj, and-true, ask-passed, andThen-passed}
@@ -99,6 +99,11 @@ answers-asked (passed q) area r plan (own, is, planned, laid) e =
 -- the record can be loaded by it
 pub told-loading : {rec pat : List ℕ} {from to area : ℕ} {plan : Plan} (t : Told (askRequest rec pat from to area) area plan) → Parts rec pat from to (t .asked) → Laid plan area × (plan .lines ≡ length (linesOf rec))
 told-loading t p = (t .laid, t .planned .lines-are ∙ sym (ap length (ap linesIn (p .day-read))))
+
+-- the plan has a number for each boat of the record, and one more: what loading asks of it
+pub told-radix : {rec pat : List ℕ} {from to area : ℕ} {plan : Plan} (t : Told (askRequest rec pat from to area) area plan) → Parts rec pat from to (t .asked)
+    → plan .radix ≡ suc (length (boats (linesOf rec)))
+told-radix t p = t .planned .radix-is ∙ sym (ap (λ ls. suc (length (boats ls))) (ap linesIn (p .day-read)))
 
 -- ---- the area after clearing
 

@@ -25,7 +25,7 @@ use Rattle.positions.specs.Program.{Compiled, members}
 use Rattle.boats.specs.Boats.{asNumber}
 use Rattle.boats.specs.Codes.{codes, codes-length, code-low, telling}
 use Rattle.boats.specs.Table.{boatTable, toldBy, table-told}
-use Rattle.request.specs.Layout.{Laid, Planned, lineWord, line-from, line-to, line-kind, boatWords, boatsLoaded, loadedOf}
+use Rattle.request.specs.Layout.{Laid, Planned, lineWord, line-from, line-to, line-kind, boatWords, boatsLoaded, table-long, loadedOf}
 use Rattle.request.specs.declared.Plan.{Plan}
 use Rattle.graph.specs.Plain.{memb, solve}
 use Rattle.graph.specs.Sets.{memb-same}
@@ -84,11 +84,7 @@ module _ (q : Asked) (plan : Plan) (area : ℕ) (planned : Planned q plan) (laid
     rest = codes lines ++ map lineWord lines
 
     codes-from : plan .codes ≡ plan .boats + length table
-    codes-from = laid .codes-at ∙ ap (plan .boats +_) (ap (boatWords (plan .keeps)) (planned .radix-is) ∙ sym (table-long (plan .keeps)))
-      where
-        table-long : (k : ℕ) → length (boatsLoaded k lines) ≡ boatWords k (suc (length (boats lines)))
-        table-long zero = refl
-        table-long (suc k) = unfold boatTable in ap suc (length-map (boats lines) asNumber)
+    codes-from = laid .codes-at ∙ ap (plan .boats +_) (ap (boatWords (plan .keeps)) (planned .radix-is) ∙ sym (table-long lines (plan .keeps)))
 
     -- word i of the tables
     table-word : (n i : ℕ) → n ≡ plan .boats + i → n < plan .base → getD g n 0 ≡ getD (table ++ rest) i 0

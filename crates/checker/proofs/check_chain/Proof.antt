@@ -10,9 +10,9 @@ use Rattle.meaning.specs.Request.{askRequest, workAfter}
 use Rattle.meaning.specs.Chain.{exist}
 use Rattle.record.specs.Whole.{linesOf}
 use Rattle.request.specs.Asking.{Numbers, requestNumber}
-use Rattle.request.specs.Told.{Parts, asked-parts, answers-refused, Told, answers-asked, told-loading, all-zero}
+use Rattle.request.specs.Told.{Parts, asked-parts, answers-refused, Told, answers-asked, told-loading, told-radix, all-zero}
 use Rattle.request.specs.declared.Plan.{Plan}
-use Rattle.forward.proofs.Posing.{told-radix, posed-from}
+use Rattle.forward.proofs.Posing.{posed-from}
 use Rattle.checker.specs.Promise.{checkOf, Demand2}
 use Rattle.checker.specs.Demand.{check-demand}
 use Rattle.checker.proofs.Replies.{check-refused, check-missing, check-said}

@@ -8,10 +8,10 @@ use lib.ListN.{length, getD}
 use Rattle.meaning.specs.Request.{askRequest, workAfter}
 use Rattle.record.specs.Whole.{linesOf}
 use Rattle.request.specs.Asking.{Numbers, requestNumber}
-use Rattle.request.specs.Told.{Parts, asked-parts, answers-refused, Told, answers-asked, told-loading, all-zero}
+use Rattle.request.specs.Told.{Parts, asked-parts, answers-refused, Told, answers-asked, told-loading, told-radix, all-zero}
 use Rattle.request.specs.declared.Plan.{Plan}
 use Rattle.search.specs.Answer.{answer}
-use Rattle.forward.proofs.Posing.{told-radix, posed-from}
+use Rattle.forward.proofs.Posing.{posed-from}
 use Rattle.finder.specs.Promise.{Finding, findOf, Said, refusal, said, outAfter}
 use Rattle.finder.specs.Promise.{Demand3}
 use Rattle.finder.specs.Demand.{finds}
