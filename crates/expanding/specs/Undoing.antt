@@ -4,7 +4,7 @@ use mathlib.Core.Bool.{cond, _&&_}
 use mathlib.Core.List.{List}
 use Prim.Native.Nat.{ℕ, suc, _+_, _*_, _-_, _^_, _/_, _%_, _≤_, _<_}
 use lib.Dec.{eqb}
-use lib.ListN.{length}
+use lib.ListN.{length, getD}
 use Rattle.request.specs.Layout.{Laid, fromIn, toIn, kindIn}
 use Rattle.request.specs.declared.Plan.{Plan}
 use Rattle.search.specs.Front.{stateIn}
@@ -13,7 +13,7 @@ use Rattle.graph.specs.Loops.{turns}
 use Rattle.graph.specs.Table.{Search}
 use Rattle.sorted.specs.Sorting.{packBy}
 use Rattle.states.specs.Pairs.{ReadyBack}
-use Rattle.states.specs.Spots.{Sane, stackTurn, lineTurn, Stacks}
+use Rattle.states.specs.Spots.{boatsIn, Sane, stackTurn, lineTurn, Stacks}
 use Rattle.states.specs.declared.Spot.{Spot}
 use Rattle.states.specs.declared.Target.{Target}
 use Rattle.expanding.specs.declared.Undo.{Undo}
@@ -43,6 +43,10 @@ module _ (plan : Plan) (u : Undo) where
   -- by the word e of the sorted lines, back to the position c
   unfoldable pub wordUndone : (ℕ → ℕ) → ℕ → ℕ → Search → Search
   wordUndone B c e = undone B (stateIn plan (e / packBy) c 0) (e % packBy)
+
+  -- by the words of the area from lo up to hi
+  abbrev pub wordsUndone : List ℕ → ℕ → ℕ → ℕ → Search → Search
+  wordsUndone w c lo hi = turns (λ p. wordUndone (boatsIn plan w) c (getD w p 0)) lo (hi - lo)
 
   -- ---- what it goes by
 

@@ -13,12 +13,12 @@ ghost use Rattle.search.specs.Loaded.{settingAt};
 ghost use Rattle.search.specs.Moves.{expand};
 ghost use Rattle.sorted.specs.Sorting.{keys, packBy};
 ghost use Rattle.sorted.specs.declared.Order.the-variants as Orders;
-ghost use Rattle.ways.specs.Ways.{laneTurn, Narrow, runTurn, Told, Gives, Before};
+ghost use Rattle.ways.specs.Ways.{runLines, Narrow, Told, Gives, Before};
 ghost use Rattle.ways.specs.Filed.{Filed};
 ghost use Rattle.ways.specs.Stacked.{Words};
 ghost use Rattle.expanding.specs.Backing.{Backing};
 ghost use Rattle.expanding.specs.Stepping.{Steps, Entries, entriesTurn, WantsSame, EntryBelow, EntryAmong};
-ghost use Rattle.expanding.specs.Undoing.{undone, lineUndone, wordUndone, linesBack, undoOf, Undoing, InStates, LeadsTo};
+ghost use Rattle.expanding.specs.Undoing.{undone, lineUndone, wordUndone, wordsUndone, linesBack, undoOf, Undoing, InStates, LeadsTo};
 ghost use Rattle.states.specs.Spots.{front, boatsIn, Sane, stackAt, Aimed, Starts, spotTurn};
 use request::Plan;
 use sorted::Order;
@@ -350,7 +350,7 @@ fn over_stacked(
     requires { ⌜ Undoing plan undo tail (now work) ⌝ }
     requires { ⌜ Words plan (now work) lo hi ⌝ }
     requires { ⌜ LeadsTo plan undo c ⌝ }
-    ensures { λ r. ⌜ StepBack plan (turns (λ p. wordUndone plan undo (boatsIn plan (now (work .entry))) c (getD (now (work .entry)) p 0)) lo (hi - lo)) tail (now (work .entry)) r (now (work .exit)) ⌝ }
+    ensures { λ r. ⌜ StepBack plan (wordsUndone plan undo (now (work .entry)) c lo hi) tail (now (work .entry)) r (now (work .exit)) ⌝ }
 {
     let mut t = tail;
     for p in lo..hi {
@@ -388,7 +388,7 @@ fn over_kind(work: &mut [u32], plan: Plan, k: usize, lane: Lane, d: u32, tail: u
     requires { ⌜ Laid plan (length (now work)) × Filed plan (now work) × (k < keys Orders.Kind plan) ⌝ }
     requires { ⌜ Narrow lane × Gives Orders.Kind plan (front plan (now work)) k lane ⌝ }
     requires { ⌜ (0 < d) × (d ≤ suc tail) ⌝ }
-    ensures { λ r. ⌜ StepBack plan (turns (runTurn Orders.Kind plan (front plan (now (work .entry))) k (laneTurn (boatsIn plan (now (work .entry))) d lane)) 0 (plan .lines)) tail (now (work .entry)) r (now (work .exit)) ⌝ }
+    ensures { λ r. ⌜ StepBack plan (runLines Orders.Kind plan (now (work .entry)) k d lane) tail (now (work .entry)) r (now (work .exit)) ⌝ }
 {
     if ways::thin_lane(lane) {
         return ways::over_thin(work, plan, k, lane, d, tail);

@@ -6,13 +6,11 @@ ghost use lib.ListN.{length};
 ghost use Rattle.positions.specs.Program.{depthAt};
 ghost use Rattle.request.specs.Layout.{Laid};
 ghost use Rattle.search.specs.Front.{stateIn};
-ghost use Rattle.search.specs.Loaded.{settingAt};
 ghost use Rattle.graph.specs.Loops.{turns};
-ghost use Rattle.search.specs.Moves.{onward};
 ghost use Rattle.graph.specs.PhaseTwo.{lesserWord, nearestWord};
 ghost use Rattle.states.specs.Pairs.{distances, ReadyForth, StepForth, seen};
 ghost use Rattle.states.specs.Spots.{front, Fit, nextTurn};
-ghost use Rattle.forward.specs.Leads.{leadIn, SomeLead};
+ghost use Rattle.forward.specs.Leads.{leadIn, SomeLead, Led};
 ghost use Rattle.forward.specs.Firsts.{firstStates, nearTurn};
 use request::Plan;
 
@@ -117,7 +115,7 @@ pub fn from_state(
     requires { ⌜ ReadyForth plan tail (now work) ⌝ }
     requires { ⌜ Fit plan (now program) (now work) ⌝ }
     requires { ⌜ SomeLead plan (front plan (now work)) lead × (s < plan .size) ⌝ }
-    ensures { λ r. ⌜ ((i : ℕ) → i < plan .lines → lead ≡ leadIn plan (front plan (now (work .entry))) i → StepForth plan (onward (settingAt (now (program .entry)) plan (now (work .entry))) (seen plan (now (work .entry)) want) i s) tail (now (work .entry)) r (now (work .exit))) ⌝ }
+    ensures { λ r. ⌜ Led (now (program .entry)) plan (now (work .entry)) want lead s tail r (now (work .exit)) ⌝ }
 {
     if states::stands_at(plan, s, lead.from) {
         let here = states::standing_at(plan, s, lead.from);

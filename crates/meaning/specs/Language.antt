@@ -65,7 +65,7 @@ pub data Star (P : Word → Type 0) : Word → Type 0 where
   stop : {w : Word} → w ≡ [] → Star P w
   more : {w : Word} (u v : Word) → w ≡ u ++ v → P u → Star P v → Star P w
 
--- ε; a; a[x=] and a[x≠]; r₁ + r₂; r₁ · r₂; r₁*; a↓x(r₁)
+-- ε; a; a[x=] and a[x≠], which are 001's clauses with request One over them; r₁ + r₂; r₁ · r₂; r₁*; a↓x(r₁)
 abbrev pub L : Pattern → Valuation → Word → Type 0
 L nothing ν w = w ≡ []
 L (line k) ν w = (a : Letter) × (w ≡ a ∷ []) × (a .kind ≡ k)

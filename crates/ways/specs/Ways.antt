@@ -16,7 +16,7 @@ use Rattle.sorted.specs.Sorting.{packBy, keys, keyIn, packIn}
 use Rattle.sorted.specs.declared.Order.{Order}
 use Rattle.sorted.specs.declared.Order.the-variants as Order
 use Rattle.states.specs.Served.{Served}
-use Rattle.states.specs.Spots.{readBut, stackTurn, lineTurn, Aimed, Sane}
+use Rattle.states.specs.Spots.{front, boatsIn, readBut, stackTurn, lineTurn, Aimed, Sane}
 use Rattle.states.specs.declared.Spot.{Spot}
 use Rattle.states.specs.declared.Target.{Target}
 use Rattle.ways.specs.declared.Lane.{Lane}
@@ -69,6 +69,10 @@ Within lane size lo hi w = (p : ℕ) → lo ≤ p → p < hi → laneState lane 
 unfoldable pub runTurn : Order → Plan → List ℕ → ℕ → (ℕ → Search → Search) → ℕ → Search → Search
 runTurn o plan g k f i st = cond (eqb (keyIn o plan g i) k) (f (packIn o plan g i) st) st
 
+-- all lines of the key, by the words of the area
+abbrev pub runLines : Order → Plan → List ℕ → ℕ → ℕ → Lane → Search → Search
+runLines o plan w k d lane = turns (runTurn o plan (front plan w) k (laneTurn (boatsIn plan w) d lane)) 0 (plan .lines)
+
 -- what the loaded words g have to be: boats have numbers below the radix, and lines go between the places
 pub record Told (plan : Plan) (g : List ℕ) : Type 0 where
   pub codes-low : (i : ℕ) → i < plan .lines → codeAt plan g i < plan .radix
@@ -100,6 +104,11 @@ Right plan g s t c count Way.Nowhere = (d i : ℕ) → i < plan .lines → (st :
 pub record Single (B : ℕ → ℕ) (plan : Plan) (s : Spot) (t : Target) (count : ℕ) (p : ℕ → Bool) (u : ℕ → ℕ) : Type 0 where
   pub fits : (x : ℕ) → x < plan .radix → u x < plan .stacks
   pub law : (d home x : ℕ) → x < plan .radix → (st : Search) → turns (stackTurn B (plan .radix) s d home x (t .weight) (t .stack)) 0 count st ≡ cond (p x) (push d (home + u x) st) st
+
+-- a way is right where the stacks of a line do this: p says by the boats' table which boats' numbers are taken
+abbrev pub RightFor : Plan → Spot → Target → ℕ → ((ℕ → ℕ) → ℕ → Bool) → (ℕ → ℕ) → Way → Type 0
+RightFor plan s t c p u way =
+    (g : List ℕ) (count : ℕ) → Told plan g → Single (boatAt plan g) plan s t count (p (boatAt plan g)) u → Right plan g s t c count way
 
 -- what a way is chosen from: a state and a position before it, by their numbers
 pub record Before (plan : Plan) (s : Spot) (t : Target) (c leaves : ℕ) : Type 0 where

@@ -5,7 +5,7 @@ ghost use lib.ListN.{length, getD};
 ghost use Rattle.request.specs.Layout.{largest, Laid, filedEnd};
 ghost use Rattle.graph.specs.Loops.{turns};
 ghost use Rattle.states.specs.Pairs.{ReadyBack, StepBack};
-ghost use Rattle.ways.specs.Ways.{laneState, takenBy, laneTurn, LaneTo, Narrow, ThinLane, Within, runTurn, Told, Gives, Single, Right, Before};
+ghost use Rattle.ways.specs.Ways.{laneState, takenBy, laneTurn, LaneTo, Narrow, ThinLane, Within, runLines, Told, Gives, Right, RightFor, Before};
 ghost use mathlib.Core.Bool.{true};
 ghost use mathlib.Core.List.{List};
 ghost use lib.Dec.{eqb};
@@ -13,7 +13,6 @@ ghost use Rattle.sorted.specs.Sorting.{keys, tableAt, tableEnd, Keyed, Sorted, 
 ghost use Rattle.ways.specs.Stacked.{Enough};
 ghost use Rattle.ways.specs.Filed.{Filed};
 ghost use Rattle.sorted.specs.declared.Order.the-variants as Orders;
-ghost use Rattle.search.specs.Loaded.{boatAt};
 ghost use Rattle.states.specs.Spots.{front, boatsIn, readBut};
 use request::Plan;
 use sorted::Bounds;
@@ -148,7 +147,7 @@ fn lane_at(plan: Plan, c: usize, u: usize, weight: usize, number: usize, taking:
 // The lines of the boat number `boat`: the stack before is `u`. Where no boat is kept the lines are not sorted by boat.
 fn boat_way(plan: Plan, spot: Spot, target: Target, c: usize, u: usize, boat: usize) -> Way
     requires { ⌜ Before plan spot target c (target .depth) × (u < plan .stacks) × (boat < plan .radix) ⌝ }
-    ensures { λ r. ⌜ ((g : List ℕ) (count : ℕ) → Told plan g → Single (boatAt plan g) plan spot target count (λ x. eqb x boat) (λ x. u) → Right plan g spot target c count r) ⌝ }
+    ensures { λ r. ⌜ RightFor plan spot target c (λ B x. eqb x boat) (λ x. u) r ⌝ }
 {
     if plan.keeps == 0 {
         return Way::ByStack;
@@ -168,7 +167,7 @@ fn kind_way(
     taking: Taking,
 ) -> Way
     requires { ⌜ Before plan spot target c (target .depth) × (weight ≤ largest) ⌝ }
-    ensures { λ r. ⌜ ((g : List ℕ) (count : ℕ) → Told plan g → Single (boatAt plan g) plan spot target count (λ x. takenBy (boatAt plan g) taking x number) (λ x. target .stack + x * weight) → Right plan g spot target c count r) ⌝ }
+    ensures { λ r. ⌜ RightFor plan spot target c (λ B x. takenBy B taking x number) (λ x. target .stack + x * weight) r ⌝ }
 {
     let lane = lane_at(plan, c, target.stack, weight, number, taking);
     Way::ByKind(target.place * 16 + spot.kind, lane)
@@ -269,7 +268,7 @@ pub fn over_run(
     requires { ⌜ Laid plan (length (now work)) × (k < keys order plan) ⌝ }
     requires { ⌜ Sorted order plan (tableAt order plan) (now work) × (tableEnd order plan ≤ length (now work)) ⌝ }
     requires { ⌜ Narrow lane × Gives order plan (front plan (now work)) k lane × (0 < d) × (d ≤ suc tail) ⌝ }
-    ensures { λ r. ⌜ StepBack plan (turns (runTurn order plan (front plan (now (work .entry))) k (laneTurn (boatsIn plan (now (work .entry))) d lane)) 0 (plan .lines)) tail (now (work .entry)) r (now (work .exit)) ⌝ }
+    ensures { λ r. ⌜ StepBack plan (runLines order plan (now (work .entry)) k d lane) tail (now (work .entry)) r (now (work .exit)) ⌝ }
 {
     let run = sorted::run_of(work, plan, order, k);
     over_words(work, plan, lane, d, run.lo, run.hi, tail)
@@ -292,7 +291,7 @@ pub fn over_thin(work: &mut [u32], plan: Plan, k: usize, lane: Lane, d: u32, tai
     requires { ⌜ ReadyBack plan tail (now work) ⌝ }
     requires { ⌜ Laid plan (length (now work)) × Filed plan (now work) × (k < keys Orders.Kind plan) ⌝ }
     requires { ⌜ Narrow lane × Gives Orders.Kind plan (front plan (now work)) k lane × ThinLane (boatsIn plan (now work)) lane × (0 < d) × (d ≤ suc tail) ⌝ }
-    ensures { λ r. ⌜ StepBack plan (turns (runTurn Orders.Kind plan (front plan (now (work .entry))) k (laneTurn (boatsIn plan (now (work .entry))) d lane)) 0 (plan .lines)) tail (now (work .entry)) r (now (work .exit)) ⌝ }
+    ensures { λ r. ⌜ StepBack plan (runLines Orders.Kind plan (now (work .entry)) k d lane) tail (now (work .entry)) r (now (work .exit)) ⌝ }
 {
     let run = thinned::thin_of(work, plan, k);
     over_words(work, plan, lane, d, run.lo, run.hi, tail)
