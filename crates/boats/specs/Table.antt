@@ -2,9 +2,9 @@
 -- Claimed: `table-told` (comparing two numbers by the table tells what comparing their boats does); no boat has two numbers;
 -- `next-new` and `next-known` (a line adds its boat to the table exactly where its number is the next one), for the code that writes it.
 use mathlib.Core.Path.{_≡_, refl, sym, ap, _∙_, subst}
-use mathlib.Core.Bool.{Bool, true, false, cond, _&&_, _||_, false≢true}
+use mathlib.Core.Bool.{Bool, true, false, cond, _||_, or-true, false≢true}
 use mathlib.Core.List.{List, [], _∷_, _++_, map, List·Memᴰ·head, List·Memᴰ·tail}
-use Prim.Native.Nat.{ℕ, zero, suc, _+_, _*_, _<_, _≤_}
+use Prim.Native.Nat.{ℕ, zero, suc, _+_, _<_, _≤_}
 use native.Mathlib.Decide.{ℕ-discrete}
 use native.Mathlib.Omega.{arith}
 use lib.Dec.{eqb, ltb}
@@ -105,10 +105,6 @@ module _ (lines : List Line) where
     where
       read-is : (x : ℕ) → x ≤ length bs → eqb (its-word x) 0 ≡ isUnread (numbered bs x)
       read-is x h = ap (λ w. eqb w 0) (word-is x h) ∙ unread-word (numbered bs x)
-
-      or-true : (a : Bool) → (a || true) ≡ true
-      or-true true = refl
-      or-true false = refl
 
       go : (x y : ℕ) → x ≤ length bs → y ≤ length bs
           → cond (isUnread (numbered bs x) || isUnread (numbered bs y)) unread (cond (eqb x y) same-boat other-boat) ≡ telling bs x y

@@ -1,7 +1,7 @@
 -- Stacks whose entry at one level is given, gone over without the others: the loop over all stacks is two loops, over the entries above
 -- that level and over those below it (`turns-entry`); and where the entry is one below the weight it is the same for all (`entry-same`).
 use mathlib.Core.Path.{_≡_, refl, sym, ap, _∙_}
-use mathlib.Core.Bool.{Bool, true, false, cond, _&&_}
+use mathlib.Core.Bool.{Bool, true, false, cond, _&&_, and-false}
 use Prim.Native.Nat.{ℕ, zero, suc, _+_, _*_, _/_, _%_, _<_, _≤_}
 use native.Mathlib.Nat.{zero-mul, suc-mul, add-mul, mul-assoc, mul-comm, mul-one, mul-le-mul, div-add-mod', div-div-eq-div-mul, mul-add-div-right, mul-add-mod-self-right, add-zero}
 use native.Mathlib.Omega.{arith}
@@ -135,14 +135,10 @@ module _ (B : ℕ → ℕ) (plan : Plan) (u : Undo) (home x : ℕ) (wants : Want
   pub same-none : 0 < level → EntryBelow R level W → (x ≡ w / level % R → ⊥) → (st : Search) → undone plan u B home x st ≡ st
   same-none some is other st = turns-idle turn 0 (u .count) st (λ n l h. idle n)
     where
-      nothing : (b : Bool) → (b && false) ≡ false
-      nothing true = refl
-      nothing false = refl
-
       idle : (n : ℕ) → turn n st ≡ st
       idle n =
           let there : (n * W + w) / level % R ≡ w / level % R = ap (λ z. (n * z + w) / level % R) is ∙ entry-same R level (W / level / R) n w some in
-          turn-is n st ∙ ap (λ z. cond z (goes n st) st) (ap (readBy B x &&_) (ne-eqb x ((n * W + w) / level % R) (λ e. other (e ∙ there))) ∙ nothing (readBy B x))
+          turn-is n st ∙ ap (λ z. cond z (goes n st) st) (ap (readBy B x &&_) (ne-eqb x ((n * W + w) / level % R) (λ e. other (e ∙ there))) ∙ and-false (readBy B x))
 
   -- ---- of a read boat
 

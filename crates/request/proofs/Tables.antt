@@ -1,5 +1,5 @@
 -- Three stretches written end to end into an area: what the area then holds. Assumes nothing.
-use mathlib.Core.Path.{_≡_, refl, sym, ap, _∙_}
+use mathlib.Core.Path.{_≡_, sym, ap, _∙_}
 use mathlib.Core.List.{List, _++_, map, append-assoc}
 use Prim.Native.Nat.{ℕ, zero, suc, _+_, _-_, _≤_}
 use native.Mathlib.Omega.{arith}
@@ -9,7 +9,7 @@ use borrow.Rule.Slice.PartMut.{putMid}
 use Rattle.meaning.specs.Record.{Line, boats}
 use Rattle.boats.specs.Codes.{codes, codes-length}
 use Rattle.boats.specs.Table.{boatTable}
-use Rattle.request.specs.Layout.{Laid, boatWords, lineWord, boatsLoaded, table-long, loadedOf}
+use Rattle.request.specs.Layout.{Laid, boatWords, lineWord, boatsLoaded, table-long, some-words, loadedOf}
 use Rattle.request.specs.declared.Plan.{Plan}
 
 -- a stretch written after what is written already
@@ -26,11 +26,6 @@ module _ (lines : List Line) (radix : ℕ) where
   none-words : (k b c : ℕ) (w : List ℕ) → k ≡ 0 → c ≡ b + boatWords k radix → w ≡ take b w ++ (boatsLoaded k lines ++ drop c w)
   none-words zero b c w none at = let same : c ≡ b = omega (arith, at) in sym (ap (λ n. take b w ++ drop n w) same ∙ take-append-drop b w)
   none-words (suc k) b c w none at = absurd (omega (arith, none))
-
-  -- else they have a word for each number
-  some-words : (k : ℕ) → (k ≡ 0 → ⊥) → (boatsLoaded k lines ≡ boatTable lines) × (boatWords k radix ≡ radix)
-  some-words zero some = absurd (some refl)
-  some-words (suc k) some = (refl, refl)
 
 module _ (lines : List Line) (plan : Plan) (w : List ℕ) (l : Laid plan (length w)) where
   -- ---- the boats

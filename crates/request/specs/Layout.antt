@@ -138,6 +138,11 @@ pub table-long : (lines : List Line) (k : ℕ) → length (boatsLoaded k lines) 
 table-long lines zero = refl
 table-long lines (suc k) = unfold boatTable in ap suc (length-map (boats lines) asNumber)
 
+-- where some are kept they have a word for each number
+pub some-words : (lines : List Line) (radix k : ℕ) → (k ≡ 0 → ⊥) → (boatsLoaded k lines ≡ boatTable lines) × (boatWords k radix ≡ radix)
+some-words lines radix zero some = absurd (some refl)
+some-words lines radix (suc k) some = (refl, refl)
+
 -- the boats, each line's boat number, the lines; for a pattern with so many keeps
 abbrev pub loadedOf : ℕ → List Line → List ℕ
 loadedOf keeps lines = boatsLoaded keeps lines ++ (codes lines ++ map lineWord lines)

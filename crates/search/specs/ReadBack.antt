@@ -4,11 +4,11 @@ use mathlib.Core.Path.{_≡_, refl, sym, ap, _∙_, subst}
 use mathlib.Core.Bool.{Bool, true, false, cond, _&&_, _||_}
 use mathlib.Core.List.{List, [], _∷_, _++_, map, Memᴰ·map, Memᴰ·of-map}
 use mathlib.Core.Logic.{_↔_}
-use Prim.Native.Nat.{ℕ, zero, suc, _+_, _*_, _^_, _/_, _%_, _<_, _≤_}
+use Prim.Native.Nat.{ℕ, suc, _+_, _*_, _^_, _/_, _%_, _<_, _≤_}
 use native.Mathlib.Nat.{mod-lt}
 use native.Mathlib.Omega.{arith}
 use lib.Dec.{eqb}
-use lib.ListN.{length, getD, length-map, List·getD-append, List·getD-map}
+use lib.ListN.{length, getD, List·getD-append, List·getD-map}
 use lib.Seq.{getD-append-add}
 use borrow.Author.Tests.{lt-ltb}
 use Rattle.meaning.specs.Record.{Line, boats}
@@ -22,10 +22,9 @@ use Rattle.lists.specs.Listed.{_∈_}
 use Rattle.automaton.specs.Automaton.{Test, never, always, against, nodes, nodeAt, start}
 use Rattle.automaton.specs.Shape.{deeper, Reads, shape}
 use Rattle.positions.specs.Program.{Compiled, members}
-use Rattle.boats.specs.Boats.{asNumber}
 use Rattle.boats.specs.Codes.{codes, codes-length, code-low, telling}
 use Rattle.boats.specs.Table.{boatTable, toldBy, table-told}
-use Rattle.request.specs.Layout.{Laid, Planned, lineWord, line-from, line-to, line-kind, boatWords, boatsLoaded, table-long, loadedOf}
+use Rattle.request.specs.Layout.{Laid, Planned, lineWord, line-from, line-to, line-kind, boatWords, boatsLoaded, table-long, some-words, loadedOf}
 use Rattle.request.specs.declared.Plan.{Plan}
 use Rattle.graph.specs.Plain.{memb, solve}
 use Rattle.graph.specs.Sets.{memb-same}
@@ -111,16 +110,12 @@ module _ (q : Asked) (plan : Plan) (area : ℕ) (planned : Planned q plan) (laid
     -- where boats are kept their table stands there
     boat-back : 0 < plan .keeps → (x : ℕ) → x ≤ length (boats lines) → boatAt plan g x ≡ getD (boatTable lines) x 0
     boat-back some x low =
-        let is : table ≡ boatTable lines = kept-table (plan .keeps) some in
-        let long : length table ≡ suc (length (boats lines)) = ap length is ∙ (unfold boatTable in ap suc (length-map (boats lines) asNumber)) in
+        let (is, as-many) = some-words lines (suc (length (boats lines))) (plan .keeps) (λ none. omega (arith, some, none)) in
+        let long : length table ≡ suc (length (boats lines)) = table-long lines (plan .keeps) ∙ as-many in
         let under : plan .boats + x < plan .codes = omega (arith, codes-from, long, low) in
         ap (λ t. cond t (getD g (plan .boats + x) 0) 0) (lt-ltb _ _ under)
         ∙ (table-word (plan .boats + x) x refl (omega (arith, under, laid .words-at, laid .base-at))
         ∙ (List·getD-append table rest 0 x (omega (arith, long, low)) ∙ ap (λ l. getD l x 0) is))
-      where
-        kept-table : (k : ℕ) → 0 < k → boatsLoaded k lines ≡ boatTable lines
-        kept-table zero h = absurd (omega (arith, h))
-        kept-table (suc k) h = refl
 
     told-back : 0 < plan .keeps → (x y : ℕ) → x ≤ length (boats lines) → y ≤ length (boats lines) → toldBy (boatAt plan g) x y ≡ telling (boats lines) x y
     told-back some x y hx hy = (λ t. told (boat-back some x hx t) (boat-back some y hy t)) ∙ table-told lines x y hx hy

@@ -1,6 +1,6 @@
 -- Comparing two boats by their numbers, and what a rule takes of it.
 use mathlib.Core.Path.{_≡_, refl, sym, ap, _∙_}
-use mathlib.Core.Bool.{Bool, true, false, cond, not, _&&_, _||_}
+use mathlib.Core.Bool.{Bool, true, false, cond, not, _&&_, _||_, and-false, or-true}
 use mathlib.Core.List.{[], _∷_}
 use mathlib.Core.Logic.{inl, inr}
 use Prim.Native.Nat.{ℕ, _/_, _%_}
@@ -28,10 +28,6 @@ module _ (B : ℕ → ℕ) (x y : ℕ) where
 
   pub told-unkept : B y ≡ 0 → toldBy B x y ≡ unread
   told-unkept e = rw (eq-eqb (B y) 0 e, or-true (eqb (B x) 0))
-    where
-      or-true : (a : Bool) → (a || true) ≡ true
-      or-true true = refl
-      or-true false = refl
 
   pub told-same : (B x ≡ 0 → ⊥) → (B y ≡ 0 → ⊥) → x ≡ y → toldBy B x y ≡ same-boat
   told-same m n e = rw (ne-eqb (B x) 0 m, ne-eqb (B y) 0 n, eq-eqb x y e)
@@ -111,12 +107,8 @@ module _ (B : ℕ → ℕ) (R : ℕ) (s : Spot) (x v : ℕ) where
   pub okay-same-read : s .rule ≡ Rule.Same → (B kept ≡ 0 → ⊥) → okay B R s x v ≡ eqb x kept
   okay-same-read e some = okay-same e ∙ elim (ℕ-discrete x kept) [
     | yes q ↦ rw (eq-eqb x kept q, ne-eqb (B x) 0 (λ z. some (ap B (sym q) ∙ z)))
-    | no n ↦ rw (ne-eqb x kept n) (nothing (readBy B x))
+    | no n ↦ rw (ne-eqb x kept n) (and-false (readBy B x))
   ]
-    where
-      nothing : (a : Bool) → (a && false) ≡ false
-      nothing true = refl
-      nothing false = refl
 
   -- another, read, where the kept one is
   pub okay-other-read : s .rule ≡ Rule.Other → (B kept ≡ 0 → ⊥) → okay B R s x v ≡ readBut B kept x

@@ -1,6 +1,6 @@
 -- What the stacks of one line do where a way by one run is chosen, case by case: one push at most (`Single`).
 use mathlib.Core.Path.{_≡_, refl, sym, ap, _∙_}
-use mathlib.Core.Bool.{Bool, true, false, cond, not, _&&_}
+use mathlib.Core.Bool.{Bool, true, false, cond, not, _&&_, and-true}
 use Prim.Native.Nat.{ℕ, suc, _+_, _*_, _^_, _/_, _%_, _<_, _≤_}
 use native.Mathlib.Nat.{mul-zero, mul-comm, mul-le-mul, pow-suc, mod-le}
 use native.Mathlib.Omega.{arith}
@@ -17,7 +17,7 @@ use Rattle.states.proofs.Bounds.{power-fits, power-small}
 use Rattle.sorted.specs.Sorting.{packBy}
 use Rattle.ways.specs.Ways.{takenBy, Single, Before}
 use Rattle.ways.specs.declared.Taking.the-variants as Taking
-use Rattle.ways.proofs.Right.{both, stack-plain, stack-pushed, stack-forgotten, stack-left, stack-fits}
+use Rattle.ways.proofs.Right.{stack-plain, stack-pushed, stack-forgotten, stack-left, stack-fits}
 
 -- keys of places and boats are small
 pub by-boat : (p R x : ℕ) → p < 1024 → R ≤ 4097 → x < R → (p * R ≤ 4195328) × (p * R + x < 4200000)
@@ -101,7 +101,7 @@ module _ (B : ℕ → ℕ) (plan : Plan) (s : Spot) (t : Target) (c leaves : ℕ
       }
     where
       read-is : (x : ℕ) → x < R → readBy B x ≡ readBut B packBy x
-      read-is x low = sym (ap (readBy B x &&_) (no-number x low) ∙ both (readBy B x))
+      read-is x low = sym (ap (readBy B x &&_) (no-number x low) ∙ and-true (readBy B x))
 
       sum : (x : ℕ) → x * t .weight + t .stack ≡ t .stack + x * t .weight
       sum x = omega arith

@@ -1,7 +1,7 @@
 -- The way chosen does what all lines and all stacks do: for one line, by what a stack undone is in each case (`stack-*`), and the line's key
 -- and written word (`kind-way`, `boat-way`).
 use mathlib.Core.Path.{_≡_, refl, sym, ap, _∙_}
-use mathlib.Core.Bool.{Bool, true, false, cond, _&&_, not}
+use mathlib.Core.Bool.{Bool, true, false, cond, _&&_, and-true, not}
 use mathlib.Core.List.{List}
 use Prim.Native.Nat.{ℕ, zero, suc, _+_, _*_, _-_, _/_, _%_, _<_, _≤_}
 use native.Mathlib.Nat.{zero-mul, mul-zero, zero-add, add-mul, mul-assoc, mod-eq-of-lt, mod-lt, div-add-mod'}
@@ -66,10 +66,6 @@ turns-alike f g i n m l h a = turns-within f g i n (λ x low high. h x (omega (a
 
 -- ---- a stack undone, of a position that pushes or not
 
-pub both : (b : Bool) → (b && true) ≡ b
-both true = refl
-both false = refl
-
 module _ (B : ℕ → ℕ) (R : ℕ) (s : Spot) (d home x v : ℕ) (st : Search) where
   -- without a push the stack before is the one after
   pub plain-at : s .push ≡ false → stackAt B R s d home x v st ≡ cond (okay B R s x v) (push d (home + v) st) st
@@ -81,7 +77,7 @@ module _ (B : ℕ → ℕ) (R : ℕ) (s : Spot) (d home x v : ℕ) (st : Search)
   unfolding stackAt on off
   pushed-at e u is any =
       (λ i. cond (eqb (onBy (e i) (s .weight) (offBy (e i) (s .weight) v) x) v && okay B R s x (offBy (e i) (s .weight) v)) (push d (home + offBy (e i) (s .weight) v) st) st)
-      ∙ rw (is, any) (ap (λ b. cond b (push d (home + u) st) st) (both (eqb (x * s .weight + u) v)))
+      ∙ rw (is, any) (ap (λ b. cond b (push d (home + u) st) st) (and-true (eqb (x * s .weight + u) v)))
 
 -- ---- the stacks of one line, with the boat number x
 
@@ -102,7 +98,7 @@ module _ (B : ℕ → ℕ) (R : ℕ) (s : Spot) (d home x W w : ℕ) (st : Searc
   stack-pushed e some any =
       let D = s .weight in
       let again : eqb (x * D + w % D) w ≡ (eqb x (w / D) && eqb (w % D) (w % D)) = ap (eqb (x * D + w % D)) (sym (div-add-mod' w D)) ∙ pair-eqb D x (w % D) (w / D) (w % D) (mod-lt w some) (mod-lt w some) in
-      let whole = again ∙ (ap (eqb x (w / D) &&_) (eq-eqb (w % D) (w % D) refl) ∙ both (eqb x (w / D))) in
+      let whole = again ∙ (ap (eqb x (w / D) &&_) (eq-eqb (w % D) (w % D) refl) ∙ and-true (eqb x (w / D))) in
       first-is ∙ (pushed-at B R s d home x w st e (w % D) refl any ∙ ap (λ b. cond b (push d (home + w % D) st) st) whole)
 
   -- where the boat on top is forgotten after a push: once, for the line's own
@@ -116,7 +112,7 @@ module _ (B : ℕ → ℕ) (R : ℕ) (s : Spot) (d home x W w : ℕ) (st : Searc
           let v = n * W + w in
           let top : v % s .weight ≡ w = ap (v %_) equal ∙ digits-mod n low in
           let again : eqb (x * s .weight + w) v ≡ (eqb x n && eqb w w) = ap (λ D. eqb (x * D + w) v) equal ∙ pair-eqb W x w n w low low in
-          pushed-at B R s d home x v b e w top any ∙ ap (λ c. cond c (push d (home + w) b) b) (again ∙ (ap (eqb x n &&_) (eq-eqb w w refl) ∙ both (eqb x n)))
+          pushed-at B R s d home x v b e w top any ∙ ap (λ c. cond c (push d (home + w) b) b) (again ∙ (ap (eqb x n &&_) (eq-eqb w w refl) ∙ and-true (eqb x n)))
 
   pub tested-stands : (n : ℕ) (b : Search) → s .push ≡ false → turn n b ≡ cond (okay B R s x (n * W + w)) (push d (home + (n * W + w)) b) b
   unfolding stackTurn

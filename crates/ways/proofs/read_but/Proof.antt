@@ -1,6 +1,6 @@
 -- `ways::read_but` meets its contract: the boat's word says whether it is read. Assumes nothing.
-use mathlib.Core.Path.{_≡_, refl, sym, ap, _∙_}
-use mathlib.Core.Bool.{Bool, true, false, not, _&&_}
+use mathlib.Core.Path.{_≡_, sym, ap, _∙_}
+use mathlib.Core.Bool.{false, not, and-true, and-false}
 use Prim.Native.Nat.{ℕ}
 use lib.Dec.{eqb}
 use borrow.Author.Tests.{eq-eqb, ne-eqb}
@@ -12,18 +12,10 @@ use Rattle.ways.proofs.read_but.Tie as tie
 -- the number itself, and another
 module _ (B : ℕ → ℕ) (n y : ℕ) where
   itself : y ≡ n → readBut B n y ≡ false
-  itself e = rw (eq-eqb y n e) (nothing (not (eqb (B y) 0)))
-    where
-      nothing : (a : Bool) → (a && false) ≡ false
-      nothing true = refl
-      nothing false = refl
+  itself e = rw (eq-eqb y n e) (and-false (not (eqb (B y) 0)))
 
   another : (y ≡ n → ⊥) → readBut B n y ≡ not (eqb (B y) 0)
-  another d = rw (ne-eqb y n d) (all (not (eqb (B y) 0)))
-    where
-      all : (a : Bool) → (a && true) ≡ a
-      all true = refl
-      all false = refl
+  another d = rw (ne-eqb y n d) (and-true (not (eqb (B y) 0)))
 
 returns : tie.Need-returns
 returns c = let a = c .before .before .args in sym (itself (boatsIn (a .plan) (a .work .now)) (a .number) (a .y) (c .if1 .taken))
