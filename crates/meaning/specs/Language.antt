@@ -1,6 +1,6 @@
 -- The language of a pattern: source document 001, section 3, "Semantics", clause by clause and in its order; 001 has no clause for the
--- empty word, so that of `nothing` is document 01's. The clauses of a[x=] and a[x≠] are 001's with document 02's request One over them: what
--- an equal and another data value are is said by `compared` and `meets`.
+-- empty word, so that of `nothing` is document 01's. The clauses of a[x=] and a[x≠] are 001's with document 02's request One over them, and
+-- request Two's two tests have a clause of the same form: what an equal and another data value are is said by `compared` and `meets`.
 -- A word is the kind and boat of each line of a chain: 001's data word, the kind its letter and the boat its data value.
 use mathlib.Core.Path.{_≡_}
 use mathlib.Core.Bool.{Bool, cond, true, false, _&&_, _||_}
@@ -10,7 +10,7 @@ use mathlib.Core.Option.{Option, none, some}
 use Prim.Native.Nat.{ℕ}
 use lib.Dec.{eqb}
 use Rattle.meaning.specs.Record.{Boat, agree}
-use Rattle.meaning.specs.Pattern.{Rule, same, other, Pattern, nothing, line, test, either, then, repeat, keep}
+use Rattle.meaning.specs.Pattern.{Rule, same, other, sister, foreign, Pattern, nothing, line, test, either, then, repeat, keep}
 
 pub record Letter : Type 0 where
   pub kind : ℕ
@@ -37,21 +37,31 @@ bind ν s b t = cond (eqb t s) (some b) (ν t)
 abbrev pub isUnread : Boat → Bool
 isUnread b = eqb (b .class) 0 && eqb (b .sail) 0
 
--- what comparing two boats tells
+-- what comparing two boats tells: nothing, one boat, two boats of one class, two boats of two classes
 pub data Compared : Type 0 where
-  unread same-boat other-boat : Compared
+  unread same-boat same-class other-class : Compared
 
 abbrev pub compared : Boat → Boat → Compared
-compared a b = cond (isUnread a || isUnread b) unread (cond (agree a b) same-boat other-boat)
+compared a b = cond (isUnread a || isUnread b) unread (cond (agree a b) same-boat (cond (eqb (a .class) (b .class)) same-class other-class))
 
--- what a command asks of it; of an unread boat nothing is known, so it meets neither
+-- what a command asks of it; of an unread boat nothing is known, so it meets none
 abbrev pub meets : Rule → Compared → Bool
 meets same unread = false
-meets other unread = false
 meets same same-boat = true
-meets same other-boat = false
+meets same same-class = false
+meets same other-class = false
+meets other unread = false
 meets other same-boat = false
-meets other other-boat = true
+meets other same-class = true
+meets other other-class = true
+meets sister unread = false
+meets sister same-boat = false
+meets sister same-class = true
+meets sister other-class = false
+meets foreign unread = false
+meets foreign same-boat = false
+meets foreign same-class = false
+meets foreign other-class = true
 
 -- a slot without a boat accepts nothing
 abbrev pub Meets : Rule → Option Boat → Boat → Type 0
@@ -65,7 +75,7 @@ pub data Star (P : Word → Type 0) : Word → Type 0 where
   stop : {w : Word} → w ≡ [] → Star P w
   more : {w : Word} (u v : Word) → w ≡ u ++ v → P u → Star P v → Star P w
 
--- ε; a; a[x=] and a[x≠], which are 001's clauses with request One over them; r₁ + r₂; r₁ · r₂; r₁*; a↓x(r₁)
+-- ε; a; a[x=] and a[x≠], which are 001's clauses with requests One and Two over them; r₁ + r₂; r₁ · r₂; r₁*; a↓x(r₁)
 abbrev pub L : Pattern → Valuation → Word → Type 0
 L nothing ν w = w ≡ []
 L (line k) ν w = (a : Letter) × (w ≡ a ∷ []) × (a .kind ≡ k)

@@ -9,9 +9,10 @@ use lib.ListN.{length, getD, set}
 use Rattle.meaning.specs.Outcome.{Outcome, refused, passed, ask, andThen}
 use Rattle.meaning.specs.Record.{byte, kindAllowed}
 
--- what a test of a slot's boat asks of a line's boat: commands same and other
+-- what a test of a slot's boat asks of a line's boat: that boat (22), another boat (23), another boat of its class (28), a boat of another
+-- class (29)
 pub data Rule : Type 0 where
-  same other : Rule
+  same other sister foreign : Rule
 
 -- a pattern; the first number is a kind, the second, where there is one, a slot (a variable)
 pub data Pattern : Type 0 where
@@ -51,16 +52,16 @@ pub record Shape : Type 0 where
 abbrev shape : ℕ → ℕ → Option Shape
 shape w n = some (record { operands = w; patterns = n })
 
--- from byte 20 on: nothing, line, same, other, either, then, repeat, keep
+-- from byte 20 on: nothing, line, same, other, either, then, repeat, keep, sister, foreign
 abbrev pub table : List (Option Shape)
-table = shape 0 0 ∷ shape 1 0 ∷ shape 2 0 ∷ shape 2 0 ∷ shape 0 2 ∷ shape 0 2 ∷ shape 0 1 ∷ shape 2 1 ∷ []
+table = shape 0 0 ∷ shape 1 0 ∷ shape 2 0 ∷ shape 2 0 ∷ shape 0 2 ∷ shape 0 2 ∷ shape 0 1 ∷ shape 2 1 ∷ shape 2 0 ∷ shape 2 0 ∷ []
 
 -- none: the byte is no command
 unfoldable pub shapeOf : ℕ → Option Shape
 shapeOf b = cond (ltb b 0x20) none (getD table (b - 0x20) none)
 
 abbrev pub isTest : ℕ → Bool
-isTest b = eqb b 0x22 || eqb b 0x23
+isTest b = eqb b 0x22 || (eqb b 0x23 || (eqb b 0x28 || eqb b 0x29))
 
 abbrev pub isKeep : ℕ → Bool
 isKeep b = eqb b 0x27
@@ -102,9 +103,13 @@ commandAt s at before kept depth =
 
 -- ---- a pattern
 
+-- the rule of a test
+abbrev pub testRule : ℕ → Rule
+testRule b = cond (eqb b 0x22) same (cond (eqb b 0x23) other (cond (eqb b 0x28) sister foreign))
+
 -- the tree of a command with no, one and two patterns after it
 abbrev pub leaf : ℕ → ℕ → ℕ → Pattern
-leaf b kind slot = cond (eqb b 0x20) nothing (cond (eqb b 0x21) (line kind) (cond (eqb b 0x22) (test same kind slot) (test other kind slot)))
+leaf b kind slot = cond (eqb b 0x20) nothing (cond (eqb b 0x21) (line kind) (test (testRule b) kind slot))
 
 abbrev pub around : ℕ → ℕ → ℕ → Pattern → Pattern
 around b kind slot p = cond (eqb b 0x26) (repeat p) (keep kind slot p)

@@ -1,14 +1,14 @@
 -- Computed examples of what bytes say: nothing to believe. An edited definition of `Record`, `Writing` or `Pattern` breaks a row here.
 -- Document 01's record R and patterns P and S, for the examples of chains and requests too.
 use mathlib.Core.Path.{_≡_, refl}
-use mathlib.Core.Bool.{true, false}
+use mathlib.Core.Bool.{Bool, true, false}
 use mathlib.Core.List.{List, [], _∷_, _++_, map}
 use Prim.Native.Nat.{ℕ}
 use lib.ListN.{take, replicate}
 use Rattle.meaning.specs.Outcome.{Outcome, refused, passed}
 use Rattle.meaning.specs.Record.{Boat, Line, bytesOf, boats, boatsAfter, entryAt, linesFrom, readRecord}
 use Rattle.meaning.specs.Writing.{emptyRecord, beginOf, beginAfter, addOf, addAfter, readOf}
-use Rattle.meaning.specs.Pattern.{Rule, Pattern, nothing, line, test, same, other, either, then, repeat, keep, commands, keeps, readPattern, readAt, commandAt, shapeOf, noneGiven}
+use Rattle.meaning.specs.Pattern.{Rule, Pattern, nothing, line, test, same, other, sister, foreign, either, then, repeat, keep, commands, keeps, readPattern, readAt, commandAt, shapeOf, noneGiven}
 use Rattle.meaning.specs.Language.{compared, meets}
 
 -- the number of the question that was answered no, or 0
@@ -193,9 +193,17 @@ patternRows =
     ∷ row (repeats 63 (0x20 ∷ [])) 9
     ∷ row bytesP 0
     ∷ row bytesS 0
-    -- a byte is a command by the table: 20 to 27
+    -- a byte is a command by the table: 20 to 29
     ∷ row (0x1F ∷ []) 8
-    ∷ row (0x28 ∷ []) 8
+    ∷ row (0x28 ∷ []) 10
+    ∷ row (0x29 ∷ []) 10
+    ∷ row (0x2A ∷ []) 8
+    ∷ row (0x2A ∷ 1 ∷ 0 ∷ []) 8
+    ∷ row (0x2B ∷ []) 8
+    ∷ row (0x2C ∷ []) 8
+    ∷ row (0x2D ∷ []) 8
+    ∷ row (0x2E ∷ []) 8
+    ∷ row (0x2F ∷ []) 8
     ∷ row (0x30 ∷ []) 8
     ∷ row (255 ∷ []) 8
     -- a command is done before the next one is looked at
@@ -223,6 +231,17 @@ patternRows =
     ∷ row (0x23 ∷ 1 ∷ 255 ∷ []) 11
     ∷ row (0x27 ∷ 1 ∷ 3 ∷ 0x23 ∷ 1 ∷ 3 ∷ []) 0
     ∷ row (0x27 ∷ 1 ∷ 4 ∷ 0x20 ∷ []) 11
+    -- 28 and 29 are asked what 22 and 23 are
+    ∷ row (0x28 ∷ 1 ∷ []) 10
+    ∷ row (0x29 ∷ 16 ∷ 0 ∷ []) 11
+    ∷ row (0x28 ∷ 1 ∷ 4 ∷ []) 11
+    ∷ row (0x28 ∷ 1 ∷ 0 ∷ []) 12
+    ∷ row (0x29 ∷ 1 ∷ 0 ∷ []) 12
+    ∷ row (0x27 ∷ 1 ∷ 0 ∷ 0x28 ∷ 1 ∷ 0 ∷ []) 0
+    ∷ row (0x27 ∷ 1 ∷ 0 ∷ 0x29 ∷ 1 ∷ 0 ∷ []) 0
+    ∷ row (0x27 ∷ 1 ∷ 0 ∷ 0x28 ∷ 1 ∷ 1 ∷ []) 12
+    ∷ row (0x27 ∷ 1 ∷ 0 ∷ 0x29 ∷ 1 ∷ 1 ∷ []) 12
+    ∷ row (0x27 ∷ 1 ∷ 0 ∷ 0x28 ∷ 1 ∷ 0 ∷ 0x29 ∷ []) 14
     -- 12 wants a keep around: one to the left, or of another slot, is none
     ∷ row (0x25 ∷ 0x27 ∷ 1 ∷ 0 ∷ 0x20 ∷ 0x22 ∷ 1 ∷ 0 ∷ []) 12
     ∷ row (0x27 ∷ 1 ∷ 0 ∷ 0x25 ∷ 0x27 ∷ 1 ∷ 1 ∷ 0x20 ∷ 0x22 ∷ 1 ∷ 1 ∷ []) 12
@@ -246,7 +265,8 @@ unfolding bytesP bytesS P S readPattern readAt commandAt shapeOf
 patterns-read = refl
 
 -- every command once
-all-commands : readPattern noneGiven (0x27 ∷ 5 ∷ 2 ∷ 0x24 ∷ 0x25 ∷ 0x20 ∷ 0x21 ∷ 1 ∷ 0x26 ∷ 0x24 ∷ 0x22 ∷ 2 ∷ 2 ∷ 0x23 ∷ 3 ∷ 2 ∷ []) ≡ passed (keep 5 2 (either (then nothing (line 1)) (repeat (either (test same 2 2) (test other 3 2)))))
+all-commands : readPattern noneGiven (0x27 ∷ 5 ∷ 2 ∷ 0x24 ∷ 0x25 ∷ 0x20 ∷ 0x21 ∷ 1 ∷ 0x26 ∷ 0x24 ∷ 0x24 ∷ 0x22 ∷ 2 ∷ 2 ∷ 0x23 ∷ 3 ∷ 2 ∷ 0x24 ∷ 0x28 ∷ 4 ∷ 2 ∷ 0x29 ∷ 6 ∷ 2 ∷ [])
+    ≡ passed (keep 5 2 (either (then nothing (line 1)) (repeat (either (either (test same 2 2) (test other 3 2)) (either (test sister 4 2) (test foreign 6 2))))))
 unfolding readPattern readAt commandAt shapeOf
 all-commands = refl
 
@@ -265,27 +285,35 @@ slot-given = refl
 boat : ℕ → ℕ → Boat
 boat class sail = record { class = class; sail = sail }
 
--- boat 1-150 against itself, against 2-150 and against 1-151: by same, by other
-same-met : map (λ b. meets same (compared b (boat 1 150))) (boat 1 150 ∷ boat 2 150 ∷ boat 1 151 ∷ []) ≡ true ∷ false ∷ false ∷ []
-unfolding boat
-same-met = refl
+-- which of the lines' boats each rule takes when a boat is kept: by same, by other, by sister, by foreign
+met : Boat → List Boat → List (List Bool)
+met kept bs = map (λ (r : Rule). map (λ b. meets r (compared b kept)) bs) (same ∷ other ∷ sister ∷ foreign ∷ [])
 
-other-met : map (λ b. meets other (compared b (boat 1 150))) (boat 1 150 ∷ boat 2 150 ∷ boat 1 151 ∷ []) ≡ false ∷ true ∷ true ∷ []
-unfolding boat
-other-met = refl
+-- against 1-150: itself, another boat of its class, the same number in another class, another number there, an unread number
+rules-met : met (boat 1 150) (boat 1 150 ∷ boat 1 151 ∷ boat 2 150 ∷ boat 2 151 ∷ boat 0 0 ∷ [])
+    ≡ (true ∷ false ∷ false ∷ false ∷ false ∷ [])
+    ∷ (false ∷ true ∷ true ∷ true ∷ false ∷ [])
+    ∷ (false ∷ true ∷ false ∷ false ∷ false ∷ [])
+    ∷ (false ∷ false ∷ true ∷ true ∷ false ∷ [])
+    ∷ []
+unfolding met boat
+rules-met = refl
 
--- an unread number meets neither, on whichever side, nor does it meet itself; 0-5 and 3-0 are boats
-unread-met : map (λ (r : Rule). map (λ (p : Boat × Boat). meets r (compared (p .0) (p .1))) ((boat 0 0, boat 1 150) ∷ (boat 1 150, boat 0 0) ∷ (boat 0 0, boat 0 0) ∷ (boat 0 5, boat 0 0) ∷ [])) (same ∷ other ∷ [])
-    ≡ (false ∷ false ∷ false ∷ false ∷ []) ∷ (false ∷ false ∷ false ∷ false ∷ []) ∷ []
-unfolding boat
+-- a kept unread number: nobody's, not even its own or its class's
+unread-met : met (boat 0 0) (boat 0 0 ∷ boat 0 5 ∷ boat 3 0 ∷ boat 1 150 ∷ [])
+    ≡ (false ∷ false ∷ false ∷ false ∷ []) ∷ (false ∷ false ∷ false ∷ false ∷ []) ∷ (false ∷ false ∷ false ∷ false ∷ []) ∷ (false ∷ false ∷ false ∷ false ∷ []) ∷ []
+unfolding met boat
 unread-met = refl
 
-class-0-met : map (λ (r : Rule). map (λ b. meets r (compared b (boat 0 5))) (boat 0 5 ∷ boat 0 6 ∷ boat 3 5 ∷ [])) (same ∷ other ∷ []) ≡ (true ∷ false ∷ false ∷ []) ∷ (false ∷ true ∷ true ∷ []) ∷ []
-unfolding boat
+-- 0-5 and 3-0 are boats: themselves, another of the class, another class, an unread number
+class-0-met : met (boat 0 5) (boat 0 5 ∷ boat 0 6 ∷ boat 3 5 ∷ boat 0 0 ∷ [])
+    ≡ (true ∷ false ∷ false ∷ false ∷ []) ∷ (false ∷ true ∷ true ∷ false ∷ []) ∷ (false ∷ true ∷ false ∷ false ∷ []) ∷ (false ∷ false ∷ true ∷ false ∷ []) ∷ []
+unfolding met boat
 class-0-met = refl
 
-number-0-met : map (λ (r : Rule). map (λ b. meets r (compared b (boat 3 0))) (boat 3 0 ∷ boat 3 1 ∷ boat 4 0 ∷ [])) (same ∷ other ∷ []) ≡ (true ∷ false ∷ false ∷ []) ∷ (false ∷ true ∷ true ∷ []) ∷ []
-unfolding boat
+number-0-met : met (boat 3 0) (boat 3 0 ∷ boat 3 1 ∷ boat 4 0 ∷ boat 0 0 ∷ [])
+    ≡ (true ∷ false ∷ false ∷ false ∷ []) ∷ (false ∷ true ∷ true ∷ false ∷ []) ∷ (false ∷ true ∷ false ∷ false ∷ []) ∷ (false ∷ false ∷ true ∷ false ∷ []) ∷ []
+unfolding met boat
 number-0-met = refl
 
 -- unread numbers are one of the different boats
