@@ -12,21 +12,20 @@ use native.Mathlib.Omega.{arith}
 use lib.Dec.{eqb}
 use lib.ListN.{length}
 use Rattle.meaning.specs.Outcome.{Outcome, refused, passed, andThen}
-use Rattle.meaning.specs.Pattern.{Pattern, nothing, line, test, same, other, either, then, repeat, keep, commands, keeps, Command, commandAt, leaf, around, joined, isKeep, keptIn, depthIn, Part, part, whole, readAt, readPattern}
+use Rattle.meaning.specs.Pattern.{Rule, Pattern, nothing, line, test, either, then, repeat, keep, commands, keeps, Command, commandAt, testRule, leaf, around, joined, isKeep, keptIn, depthIn, Part, part, whole, readAt, readPattern}
 use Rattle.pattern.specs.Reading.{patternAt}
 use Rattle.pattern.specs.Passed.{passed-same, not-passed, ask-passed, and-then-passed, Passed, command-passed, command-none, next-later, next-inside, inside-small, one-pattern}
 
 -- ---- the trees' counts
 
-leaf-tree : (a b c : Bool) (kind slot : ℕ) (p : Pattern) → cond a nothing (cond b (line kind) (cond c (test same kind slot) (test other kind slot))) ≡ p → (commands p ≡ 1) × (keeps p ≡ 0)
-leaf-tree true b c kind slot p e = (sym (ap commands e), sym (ap keeps e))
-leaf-tree false true c kind slot p e = (sym (ap commands e), sym (ap keeps e))
-leaf-tree false false true kind slot p e = (sym (ap commands e), sym (ap keeps e))
-leaf-tree false false false kind slot p e = (sym (ap commands e), sym (ap keeps e))
+leaf-tree : (a b : Bool) (r : Rule) (kind slot : ℕ) → let p = cond a nothing (cond b (line kind) (test r kind slot)) in (commands p ≡ 1) × (keeps p ≡ 0)
+leaf-tree true b r kind slot = (refl, refl)
+leaf-tree false true r kind slot = (refl, refl)
+leaf-tree false false r kind slot = (refl, refl)
 
 -- a command without patterns: one command, no keep
 pub leaf-counts : (b kind slot : ℕ) → (commands (leaf b kind slot) ≡ 1) × (keeps (leaf b kind slot) ≡ 0)
-leaf-counts b kind slot = leaf-tree (eqb b 0x20) (eqb b 0x21) (eqb b 0x22) kind slot (leaf b kind slot) refl
+leaf-counts b kind slot = leaf-tree (eqb b 0x20) (eqb b 0x21) (testRule b) kind slot
 
 around-tree : (t : Bool) (kind slot : ℕ) (p : Pattern) → commands (cond t (repeat p) (keep kind slot p)) ≡ suc (commands p)
 around-tree true kind slot p = refl

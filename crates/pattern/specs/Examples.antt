@@ -5,7 +5,7 @@ use mathlib.Core.Bool.{Bool, true, false}
 use mathlib.Core.List.{List, [], _∷_, _++_, map, List·Memᴰ, List·Memᴰ·head, List·Memᴰ·tail, head-eq-of-cons-eq, tail-eq-of-cons-eq}
 use mathlib.Core.Logic.{_↔_}
 use Prim.Native.Nat.{ℕ}
-use Rattle.meaning.specs.Pattern.{Pattern, nothing, line, test, same, other, either, then, repeat, keep}
+use Rattle.meaning.specs.Pattern.{Pattern, nothing, line, test, same, other, sister, foreign, either, then, repeat, keep}
 use Rattle.meaning.specs.Language.{Letter, Word, unbound, L}
 use Rattle.pattern.specs.Membership.{member, member-sound, member-complete}
 
@@ -89,6 +89,12 @@ tests =
     ++ rows (keep 1 0 (test other 2 0))
     ((letter 1 1 150 ∷ letter 2 2 150 ∷ []) ∷ (letter 1 1 150 ∷ letter 2 1 151 ∷ []) ∷ [])
     ((letter 1 1 150 ∷ letter 2 1 150 ∷ []) ∷ (letter 1 1 150 ∷ letter 1 1 151 ∷ []) ∷ [])
+    ++ rows (keep 1 0 (test sister 2 0))
+    ((letter 1 1 150 ∷ letter 2 1 151 ∷ []) ∷ [])
+    ((letter 1 1 150 ∷ letter 2 1 150 ∷ []) ∷ (letter 1 1 150 ∷ letter 2 2 151 ∷ []) ∷ (letter 1 1 150 ∷ letter 1 1 151 ∷ []) ∷ [])
+    ++ rows (keep 1 0 (test foreign 2 0))
+    ((letter 1 1 150 ∷ letter 2 2 150 ∷ []) ∷ (letter 1 1 150 ∷ letter 2 2 151 ∷ []) ∷ [])
+    ((letter 1 1 150 ∷ letter 2 1 150 ∷ []) ∷ (letter 1 1 150 ∷ letter 2 1 151 ∷ []) ∷ (letter 1 1 150 ∷ letter 1 2 150 ∷ []) ∷ [])
 
 -- a slot has a boat only inside the keep that gives it one, and only that slot
 abbrev slots : List Row

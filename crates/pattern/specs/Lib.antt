@@ -6,3 +6,4 @@ pub mod Membership
 pub mod Wordings
 pub mod Examples
 pub mod Unread
+pub mod Classes

@@ -130,7 +130,9 @@ row-one (suc (suc (suc (suc zero)))) h = absurd (omega (arith, h))
 row-one (suc (suc (suc (suc (suc zero))))) h = absurd (omega (arith, h))
 row-one (suc (suc (suc (suc (suc (suc zero)))))) h = inl refl
 row-one (suc (suc (suc (suc (suc (suc (suc zero))))))) h = inr refl
-row-one (suc (suc (suc (suc (suc (suc (suc (suc n)))))))) h = absurd (omega (arith, h))
+row-one (suc (suc (suc (suc (suc (suc (suc (suc zero)))))))) h = absurd (omega (arith, h))
+row-one (suc (suc (suc (suc (suc (suc (suc (suc (suc zero))))))))) h = absurd (omega (arith, h))
+row-one (suc (suc (suc (suc (suc (suc (suc (suc (suc (suc n)))))))))) h = absurd (omega (arith, h))
 
 from-row : (t : Bool) (b : ℕ) → ltb b 0x20 ≡ t → patternsOf (cond t none (getD table (b - 0x20) none)) ≡ 1 → (b ≡ 0x26) ⊎ (b ≡ 0x27)
 from-row true b e h = absurd (omega (arith, h))

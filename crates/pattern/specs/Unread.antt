@@ -5,38 +5,43 @@ use mathlib.Core.Bool.{Bool, true, false, cond, not, _||_, false≢true}
 use mathlib.Core.List.{[], _∷_}
 use mathlib.Core.Option.{Option, none, some}
 use Prim.Native.Nat.{ℕ}
+use lib.Dec.{eqb}
 use Rattle.meaning.specs.Record.{Boat, agree}
-use Rattle.meaning.specs.Pattern.{Rule, same, other, test}
-use Rattle.meaning.specs.Language.{Letter, Word, Valuation, unread, same-boat, other-boat, isUnread, compared, meets, Meets, L}
+use Rattle.meaning.specs.Pattern.{Rule, same, other, sister, foreign, test}
+use Rattle.meaning.specs.Language.{Letter, Word, Valuation, Compared, unread, same-boat, same-class, other-class, isUnread, compared, meets, Meets, L}
 
 -- ---- two boats
 
 pub met-read : (r : Rule) (b kept : Boat) → meets r (compared b kept) ≡ true → (isUnread b ≡ false) × (isUnread kept ≡ false)
-met-read r b kept met = go (isUnread b) (isUnread kept) met
+met-read r b kept met = go (isUnread b) (isUnread kept) _ met
   where
     none-met : (r : Rule) → meets r unread ≡ true → ⊥
     none-met same e = false≢true e
     none-met other e = false≢true e
+    none-met sister e = false≢true e
+    none-met foreign e = false≢true e
 
-    go : (x y : Bool) → meets r (cond (x || y) unread (cond (agree b kept) same-boat other-boat)) ≡ true → (x ≡ false) × (y ≡ false)
-    go true y e = absurd (none-met r e)
-    go false true e = absurd (none-met r e)
-    go false false e = (refl, refl)
+    go : (x y : Bool) (o : Compared) → meets r (cond (x || y) unread o) ≡ true → (x ≡ false) × (y ≡ false)
+    go true y o e = absurd (none-met r e)
+    go false true o e = absurd (none-met r e)
+    go false false o e = (refl, refl)
 
 module _ (b kept : Boat) (line : isUnread b ≡ false) (slot : isUnread kept ≡ false) where
   pub read-same : meets same (compared b kept) ≡ agree b kept
-  read-same = rw (line, slot) (go (agree b kept))
+  read-same = rw (line, slot) (go (agree b kept) (eqb (b .class) (kept .class)))
     where
-      go : (t : Bool) → meets same (cond t same-boat other-boat) ≡ t
-      go true = refl
-      go false = refl
+      go : (t u : Bool) → meets same (cond t same-boat (cond u same-class other-class)) ≡ t
+      go true u = refl
+      go false true = refl
+      go false false = refl
 
   pub read-other : meets other (compared b kept) ≡ not (agree b kept)
-  read-other = rw (line, slot) (go (agree b kept))
+  read-other = rw (line, slot) (go (agree b kept) (eqb (b .class) (kept .class)))
     where
-      go : (t : Bool) → meets other (cond t same-boat other-boat) ≡ not t
-      go true = refl
-      go false = refl
+      go : (t u : Bool) → meets other (cond t same-boat (cond u same-class other-class)) ≡ not t
+      go true u = refl
+      go false true = refl
+      go false false = refl
 
 -- ---- the language
 

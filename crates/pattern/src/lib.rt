@@ -20,10 +20,10 @@ pub enum Shape {
 // The mark of a byte that is no command, in place of its count of patterns.
 const NO_COMMAND: usize = 3;
 
-// The rows stand by byte - 0x20: nothing, line, same, other, either, then, repeat, keep, and eight that are free.
-const OPERANDS: [usize; 16] = [0, 1, 2, 2, 0, 0, 0, 2, 0, 0, 0, 0, 0, 0, 0, 0];
+// The rows stand by byte - 0x20: nothing, line, same, other, either, then, repeat, keep, sister, foreign, and six that are free.
+const OPERANDS: [usize; 16] = [0, 1, 2, 2, 0, 0, 0, 2, 2, 2, 0, 0, 0, 0, 0, 0];
 
-const PATTERNS: [usize; 16] = [0, 0, 0, 0, 2, 2, 1, 1, 3, 3, 3, 3, 3, 3, 3, 3];
+const PATTERNS: [usize; 16] = [0, 0, 0, 0, 2, 2, 1, 1, 0, 0, 3, 3, 3, 3, 3, 3];
 
 // A byte as an index.
 fn wide(b: u8) -> usize
@@ -59,6 +59,10 @@ const SAME: u8 = 0x22;
 const OTHER: u8 = 0x23;
 
 const KEEP: u8 = 0x27;
+
+const SISTER: u8 = 0x28;
+
+const FOREIGN: u8 = 0x29;
 
 // ---- one command
 
@@ -111,7 +115,13 @@ fn is_test(code: u8) -> bool
     if code == SAME {
         return true;
     }
-    code == OTHER
+    if code == OTHER {
+        return true;
+    }
+    if code == SISTER {
+        return true;
+    }
+    code == FOREIGN
 }
 
 // Question 12: a tested slot is kept by a keep around it, or given.

@@ -10,7 +10,7 @@ use native.Mathlib.Omega.{arith}
 use lib.Dec.{eqb}
 use lib.ListN.{length, getD, set, length-set}
 use lib.Seq.{getD-set-same, getD-set-other}
-use Rattle.meaning.specs.Pattern.{Pattern, same, other, commands}
+use Rattle.meaning.specs.Pattern.{Pattern, same, other, sister, foreign, commands}
 use Rattle.lists.specs.Listed.{_∈_}
 use Rattle.automaton.specs.Automaton.{Node, Test, never, always, against, nodes, nodeAt, start}
 use Rattle.automaton.specs.Shape.{deeper}
@@ -38,9 +38,16 @@ ruleCode Rule.Never = 0
 ruleCode Rule.Always = 1
 ruleCode Rule.Same = 2
 ruleCode Rule.Other = 3
+ruleCode Rule.Sister = 4
+ruleCode Rule.Foreign = 5
 
 abbrev pub ruleOf : ℕ → Rule
-ruleOf t = cond (eqb t 1) Rule.Always (cond (eqb t 2) Rule.Same (cond (eqb t 3) Rule.Other Rule.Never))
+ruleOf t =
+    cond (eqb t 1) Rule.Always
+    (cond (eqb t 2) Rule.Same
+    (cond (eqb t 3) Rule.Other
+    (cond (eqb t 4) Rule.Sister
+    (cond (eqb t 5) Rule.Foreign Rule.Never))))
 
 abbrev pub bit : Bool → ℕ
 bit true = 1
@@ -70,6 +77,8 @@ packed-back x h = λ i. record { kind = kind i; rule = rule i; level = level i; 
     few Rule.Always = omega arith
     few Rule.Same = omega arith
     few Rule.Other = omega arith
+    few Rule.Sister = omega arith
+    few Rule.Foreign = omega arith
 
     kind : w % 16 ≡ x .kind
     kind = omega (arith, h .kind)
@@ -82,6 +91,8 @@ packed-back x h = λ i. record { kind = kind i; rule = rule i; level = level i; 
     back Rule.Always = refl
     back Rule.Same = refl
     back Rule.Other = refl
+    back Rule.Sister = refl
+    back Rule.Foreign = refl
 
     rule : ruleOf (w / 256 % 16) ≡ x .rule
     rule = ap ruleOf code ∙ back (x .rule)
@@ -140,6 +151,8 @@ testIn Rule.Never j = never
 testIn Rule.Always j = always
 testIn Rule.Same j = against same j
 testIn Rule.Other j = against other j
+testIn Rule.Sister j = against sister j
+testIn Rule.Foreign j = against foreign j
 
 -- the node that a row and a mask say
 abbrev pub said : Row → ℕ → Node

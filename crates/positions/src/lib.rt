@@ -5,12 +5,15 @@ ghost use Prim.Native.Nat.{_<_};
 ghost use lib.ListN.{length, set};
 ghost use Rattle.positions.specs.Program.{ruleCode, ruleOf, bit, packed, unpacked, Packs, rowAt, followAt, Put};
 
-// What a position asks of a line's boat: nobody passes, everybody does, only the boat that is kept, or all others.
+// What a position asks of a line's boat: nobody passes, everybody does, only the boat that is kept, all others, those of its class, or
+// those of another class.
 pub enum Rule {
     Never,
     Always,
     Same,
     Other,
+    Sister,
+    Foreign,
 }
 
 // A position: its kind and rule, the stack level of the boat that the rule compares with, the stack's depth before it, and whether it
@@ -33,6 +36,8 @@ fn code_of(rule: Rule) -> u8
         Rule::Always => 1,
         Rule::Same => 2,
         Rule::Other => 3,
+        Rule::Sister => 4,
+        Rule::Foreign => 5,
     }
 }
 
@@ -47,6 +52,12 @@ fn rule_of(code: u64) -> Rule
     }
     if code == 3 {
         return Rule::Other;
+    }
+    if code == 4 {
+        return Rule::Sister;
+    }
+    if code == 5 {
+        return Rule::Foreign;
     }
     Rule::Never
 }
