@@ -11,7 +11,7 @@ use lib.Bits.{bitOr}
 use lib.Dec.{eqb}
 use lib.Pow.{pow-lt}
 use borrow.Author.Tests.{eq-eqb, ne-eqb}
-use Rattle.meaning.specs.Pattern.{Pattern, nothing, line, test, same, other, either, then, repeat, keep, commands, leaf, around, joined, Part}
+use Rattle.meaning.specs.Pattern.{Rule, Pattern, nothing, line, test, either, then, repeat, keep, commands, testRule, leaf, around, joined, Part}
 use Rattle.automaton.specs.Automaton.{heads, nullable, enter}
 use Rattle.positions.specs.Masks.{Marks, marks-none, marks-append, marks-when}
 use Rattle.compiler.specs.declared.Begin.{Begin}
@@ -64,12 +64,11 @@ nothing-begins b n a h e = record { next-is = n; after-is = a; heads-are = subst
 -- every other command without patterns takes a letter
 pub leaf-begins : {code : ℕ} (kind slot b : ℕ) {next : ℕ} {r : Begin} → (code ≡ 0x20 → ⊥)
     → r .next ≡ next → r .after ≡ b + 1 → Marks (r .heads) (b ∷ []) → r .nullable ≡ false → Begins (leaf code kind slot) b next r
-leaf-begins {code} kind slot b {next} {r} ne n a h e = rw (ne-eqb code 0x20 ne) (go (eqb code 0x21) (eqb code 0x22))
+leaf-begins {code} kind slot b {next} {r} ne n a h e = rw (ne-eqb code 0x20 ne) (go (eqb code 0x21) (testRule code))
   where
-    go : (t u : Bool) → Begins (cond t (line kind) (cond u (test same kind slot) (test other kind slot))) b next r
-    go true u = record { next-is = n; after-is = a; heads-are = h; nullable-is = e }
-    go false true = record { next-is = n; after-is = a; heads-are = h; nullable-is = e }
-    go false false = record { next-is = n; after-is = a; heads-are = h; nullable-is = e }
+    go : (t : Bool) (q : Rule) → Begins (cond t (line kind) (test q kind slot)) b next r
+    go true q = record { next-is = n; after-is = a; heads-are = h; nullable-is = e }
+    go false q = record { next-is = n; after-is = a; heads-are = h; nullable-is = e }
 
 module _ {x : Pattern} {b next : ℕ} {p r : Begin} (h : Begins x (b + 1) next p) (n : r .next ≡ p .next) (a : r .after ≡ p .after) where
   pub keep-begins : (kind slot : ℕ) → Marks (r .heads) (b ∷ []) → r .nullable ≡ false → Begins (keep kind slot x) b next r

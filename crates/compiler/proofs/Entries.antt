@@ -9,7 +9,7 @@ use native.Mathlib.Omega.{arith}
 use lib.Dec.{eqb}
 use lib.ListN.{length}
 use borrow.Author.Tests.{ne-eqb}
-use Rattle.meaning.specs.Pattern.{Rule, Pattern, nothing, line, test, same, other, either, then, commands, leaf, around, joined}
+use Rattle.meaning.specs.Pattern.{Rule, Pattern, nothing, line, test, same, other, sister, foreign, either, then, commands, testRule, leaf, around, joined}
 use Rattle.automaton.specs.Automaton.{Node, Test, always, against, silent, taking, heads, enter, levelOf, testOf, compile}
 use Rattle.positions.specs.Program.{testIn}
 use Rattle.positions.specs.declared.Rule.the-variants as Asked
@@ -21,15 +21,12 @@ use Rattle.compiler.specs.declared.Entry.{Entry}
 -- ---- a pattern's nodes, by its command
 
 pub compile-leaf : (code kind slot b : ℕ) (scope K : List ℕ) → compile (leaf code kind slot) b scope K ≡ firstNode (leaf code kind slot) b scope K ∷ []
-compile-leaf code kind slot b scope K = go (eqb code 0x20) (eqb code 0x21) (eqb code 0x22)
+compile-leaf code kind slot b scope K = go (eqb code 0x20) (eqb code 0x21) (testRule code)
   where
-    go : (t u v : Bool)
-        → let p = cond t nothing (cond u (line kind) (cond v (test same kind slot) (test other kind slot))) in
-        compile p b scope K ≡ firstNode p b scope K ∷ []
-    go true u v = refl
-    go false true v = refl
-    go false false true = refl
-    go false false false = refl
+    go : (t u : Bool) (r : Rule) → let p = cond t nothing (cond u (line kind) (test r kind slot)) in compile p b scope K ≡ firstNode p b scope K ∷ []
+    go true u r = refl
+    go false true r = refl
+    go false false r = refl
 
 pub compile-around : {code : ℕ} (kind slot b : ℕ) (x : Pattern) (scope K : List ℕ) → OnePattern code
     → compile (around code kind slot x) b scope K ≡ firstNode (around code kind slot x) b scope K ∷ compile x (suc b) (scopeIn code slot scope) (afterIn code (heads x (suc b)) K)
@@ -49,16 +46,9 @@ compile-joined code b x y scope K = go (eqb code 0x24)
 pub node-line : {code : ℕ} (kind slot b : ℕ) (scope K : List ℕ) → code ≡ 0x21 → firstNode (leaf code kind slot) b scope K ≡ taking kind always false scope K
 node-line kind slot b scope K e = rw e
 
-abbrev pub ruleOf : ℕ → Rule
-ruleOf code = cond (eqb code 0x22) same other
-
 pub node-test : {code : ℕ} (kind slot b : ℕ) (scope K : List ℕ) → (code ≡ 0x20 → ⊥) → (code ≡ 0x21 → ⊥)
-    → firstNode (leaf code kind slot) b scope K ≡ taking kind (testOf (ruleOf code) (levelOf slot scope)) false scope K
-node-test {code} kind slot b scope K h k = rw (ne-eqb code 0x20 h, ne-eqb code 0x21 k) (go (eqb code 0x22))
-  where
-    go : (t : Bool) → firstNode (cond t (test same kind slot) (test other kind slot)) b scope K ≡ taking kind (testOf (cond t same other) (levelOf slot scope)) false scope K
-    go true = refl
-    go false = refl
+    → firstNode (leaf code kind slot) b scope K ≡ taking kind (testOf (testRule code) (levelOf slot scope)) false scope K
+node-test {code} kind slot b scope K h k = rw (ne-eqb code 0x20 h, ne-eqb code 0x21 k)
 
 -- ---- tests
 
@@ -67,13 +57,16 @@ pub level-none : (r : Rule) (o : Option ℕ) → mark o ≡ 0 → testIn Asked.N
 level-none r none e = refl
 level-none r (some j) e = absurd (omega (arith, e))
 
-against-rule : (t : Bool) (j : ℕ) → testIn (cond t Asked.Same Asked.Other) j ≡ against (cond t same other) j
-against-rule true j = refl
-against-rule false j = refl
+against-rule : (t u v : Bool) (j : ℕ)
+    → testIn (cond t Asked.Same (cond u Asked.Other (cond v Asked.Sister Asked.Foreign))) j ≡ against (cond t same (cond u other (cond v sister foreign))) j
+against-rule true u v j = refl
+against-rule false true v j = refl
+against-rule false false true j = refl
+against-rule false false false j = refl
 
-pub level-some : (code : ℕ) (o : Option ℕ) → (mark o ≡ 0 → ⊥) → testIn (askedRule code) (mark o - 1) ≡ testOf (ruleOf code) o
+pub level-some : (code : ℕ) (o : Option ℕ) → (mark o ≡ 0 → ⊥) → testIn (askedRule code) (mark o - 1) ≡ testOf (testRule code) o
 level-some code none h = absurd (h refl)
-level-some code (some j) h = let down : suc j - 1 ≡ j = omega arith in ap (testIn (askedRule code)) down ∙ against-rule (eqb code 0x22) j
+level-some code (some j) h = let down : suc j - 1 ≡ j = omega arith in ap (testIn (askedRule code)) down ∙ against-rule (eqb code 0x22) (eqb code 0x23) (eqb code 0x28) j
 
 -- the level is below the depth
 pub level-fits : (slot : ℕ) (scope : List ℕ) → mark (levelOf slot scope) ≤ length scope

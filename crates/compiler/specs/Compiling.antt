@@ -194,9 +194,9 @@ pub record Written (b : ℕ) (ns : List Node) (before now : List ℕ) : Type 0 w
 abbrev pub firstNode : Pattern → ℕ → List ℕ → List ℕ → Node
 firstNode p b scope K = nodeAt (compile p b scope K) 0
 
--- the rule of a command same or other
+-- the rule of a test
 abbrev pub askedRule : ℕ → Rule
-askedRule code = cond (eqb code 0x22) Rule.Same Rule.Other
+askedRule code = cond (eqb code 0x22) Rule.Same (cond (eqb code 0x23) Rule.Other (cond (eqb code 0x28) Rule.Sister Rule.Foreign))
 
 -- the entry of a command that takes a letter and pushes nothing, with its rule and level
 abbrev pub TakingSaid : Step → Task → Rule → ℕ → Entry → Type 0

@@ -19,9 +19,13 @@ const LINE: u8 = 0x21;
 
 const SAME: u8 = 0x22;
 
+const OTHER: u8 = 0x23;
+
 const EITHER: u8 = 0x24;
 
 const KEEP: u8 = 0x27;
+
+const SISTER: u8 = 0x28;
 
 // A command that passed its questions: its byte, its operands, the count of patterns after it, the place after it.
 pub struct Step {
@@ -286,14 +290,20 @@ fn taking_entry(c: Step, task: Task, rule: Rule, level: u8) -> Entry
     }
 }
 
-// The rule of a command same or other.
+// The rule of a test: of command same, other, sister or foreign.
 fn rule_of(code: u8) -> Rule
     ensures { λ r. ⌜ r ≡ askedRule code ⌝ }
 {
     if code == SAME {
         return Rule::Same;
     }
-    Rule::Other
+    if code == OTHER {
+        return Rule::Other;
+    }
+    if code == SISTER {
+        return Rule::Sister;
+    }
+    Rule::Foreign
 }
 
 // A command without patterns: nothing, line, or a test, which no value passes where no keep has the slot.

@@ -5,12 +5,13 @@ use Prim.Native.Nat.{ℕ, _-_, _≤_}
 use native.Mathlib.Omega.{arith}
 use lib.ListN.{getD}
 use borrow.Author.Needs.{needs}
+use Rattle.meaning.specs.Pattern.{testRule}
 use Rattle.automaton.specs.Automaton.{always, levelOf, testOf}
 use Rattle.positions.specs.Program.{testIn}
 use Rattle.positions.specs.declared.Rule.{Rule}
 use Rattle.compiler.specs.Compiling.{firstNode, mark, askedRule}
 use Rattle.compiler.proofs.Beginnings.{leaf-nothing}
-use Rattle.compiler.proofs.Entries.{says-as, ruleOf, node-line, node-test, level-none, level-some, level-fits}
+use Rattle.compiler.proofs.Entries.{says-as, node-line, node-test, level-none, level-some, level-fits}
 use Rattle.compiler.proofs.leaf_entry.Statement.{statement}
 use Rattle.compiler.proofs.leaf_entry.Tie as tie
 
@@ -47,7 +48,7 @@ returns-3 c scope K f =
     let a = start .args in
     let none : mark (levelOf (a .c .slot) scope) ≡ 0 = sym (f .levels-are (a .c .slot) (start .pre .slot)) ∙ c .before .if3 .taken in
     says-as (node-test (a .c .kind) (a .c .slot) (a .t2 .base) scope K (c .before .before .before .before .before .before .if1 .left) (c .before .before .before .before .if2 .left))
-    (c .taking-entry2 .ensures scope K (testOf (ruleOf (a .c .code)) (levelOf (a .c .slot) scope)) f (level-none (ruleOf (a .c .code)) (levelOf (a .c .slot) scope) none) (omega arith))
+    (c .taking-entry2 .ensures scope K (testOf (testRule (a .c .code)) (levelOf (a .c .slot) scope)) f (level-none (testRule (a .c .code)) (levelOf (a .c .slot) scope) none) (omega arith))
 
 rule-of-requires : tie.Need-rule-of-requires
 rule-of-requires c κs = search needs
@@ -66,11 +67,11 @@ returns-4 c scope K f =
     let level = getD (a .t2 .levels) slot 0 in
     let is : level ≡ mark (levelOf slot scope) = f .levels-are slot (start .pre .slot) in
     let low : level - 1 ≤ a .t2 .depth = omega (arith, is, level-fits slot scope, f .depth-is) in
-    let code : testIn (c .before .rule-of .result) (level - 1) ≡ testOf (ruleOf (a .c .code)) (levelOf slot scope) =
+    let code : testIn (c .before .rule-of .result) (level - 1) ≡ testOf (testRule (a .c .code)) (levelOf slot scope) =
     ap (λ (x : Rule). testIn x (level - 1)) (c .before .rule-of .ensures)
     ∙ (ap (λ (x : ℕ). testIn (askedRule (a .c .code)) (x - 1)) is ∙ level-some (a .c .code) (levelOf slot scope) (λ e. c .before .before .if3 .left (is ∙ e))) in
     says-as (node-test (a .c .kind) slot (a .t2 .base) scope K (c .before .before .before .before .before .before .before .if1 .left) (c .before .before .before .before .before .if2 .left))
-    (c .taking-entry3 .ensures scope K (testOf (ruleOf (a .c .code)) (levelOf slot scope)) f code low)
+    (c .taking-entry3 .ensures scope K (testOf (testRule (a .c .code)) (levelOf slot scope)) f code low)
 
 pub leaf-entry-spec : {M : Type 1} → statement M
 leaf-entry-spec =

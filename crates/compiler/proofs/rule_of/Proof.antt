@@ -1,4 +1,4 @@
--- `compiler::rule_of` meets its contract: each arm is one side of the definition's test. Assumes nothing.
+-- `compiler::rule_of` meets its contract: each arm is one side of the definition's tests. Assumes nothing.
 use borrow.Author.Tests.{eq-eqb, ne-eqb}
 use Rattle.compiler.proofs.rule_of.Statement.{statement}
 use Rattle.compiler.proofs.rule_of.Tie as tie
@@ -7,7 +7,13 @@ returns : tie.Need-returns
 returns c = simp (eq-eqb _ _ (c .if1 .taken))
 
 returns-2 : tie.Need-returns-2
-returns-2 c = simp (ne-eqb _ _ (c .if1 .left))
+returns-2 c = simp (ne-eqb _ _ (c .before .if1 .left), eq-eqb _ _ (c .if2 .taken))
+
+returns-3 : tie.Need-returns-3
+returns-3 c = simp (ne-eqb _ _ (c .before .before .if1 .left), ne-eqb _ _ (c .before .if2 .left), eq-eqb _ _ (c .if3 .taken))
+
+returns-4 : tie.Need-returns-4
+returns-4 c = rw (ne-eqb _ _ (c .before .before .if1 .left), ne-eqb _ _ (c .before .if2 .left), ne-eqb _ _ (c .if3 .left))
 
 pub rule-of-spec : {M : Type 1} → statement M
-rule-of-spec = tie.close (tie.spec returns returns-2)
+rule-of-spec = tie.close (tie.spec returns returns-2 returns-3 returns-4)
