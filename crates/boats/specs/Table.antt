@@ -1,10 +1,10 @@
 -- The boats by their numbers as a table of words, which the search goes by.
--- Claimed: `table-told` (comparing two numbers by the table tells what comparing their boats does); no boat has two numbers;
--- `next-new` and `next-known` (a line adds its boat to the table exactly where its number is the next one), for the code that writes it.
+-- Claimed: `table-told` (comparing two numbers by the table tells what comparing their boats does, where sail numbers are below 2^24); no boat
+-- has two numbers; `next-new` and `next-known` (a line adds its boat to the table exactly where its number is the next one), for the writer.
 use mathlib.Core.Path.{_≡_, refl, sym, ap, _∙_, subst}
 use mathlib.Core.Bool.{Bool, true, false, cond, _||_, or-true, false≢true}
 use mathlib.Core.List.{List, [], _∷_, _++_, map, List·Memᴰ·head, List·Memᴰ·tail}
-use Prim.Native.Nat.{ℕ, zero, suc, _+_, _<_, _≤_}
+use Prim.Native.Nat.{ℕ, zero, suc, _+_, _/_, _<_, _≤_}
 use native.Mathlib.Decide.{ℕ-discrete}
 use native.Mathlib.Omega.{arith}
 use lib.Dec.{eqb, ltb}
@@ -13,7 +13,7 @@ use lib.Seq.{getD-append-add}
 use borrow.Author.Tests.{eq-eqb, ne-eqb, ltb-true, ltb-false}
 use Rattle.meaning.specs.Record.{Boat, Line, agree, among, boatsAfter, boats}
 use Rattle.meaning.specs.Writing.{noLine, lineAt}
-use Rattle.meaning.specs.Language.{Compared, unread, same-boat, other-boat, isUnread}
+use Rattle.meaning.specs.Language.{Compared, unread, same-boat, same-class, other-class, isUnread}
 use Rattle.lists.specs.Listed.{_∈_}
 use Rattle.boats.specs.Boats.{agree-same, agree-self, asNumber, noted, firstWith, firstSame, first-le, boats-next, boats-more}
 use Rattle.boats.specs.Codes.{numbered, telling, same-agree, among-in, first-has, code, code-earlier, code-new}
@@ -24,9 +24,13 @@ use Rattle.boats.specs.Codes.{numbered, telling, same-agree, among-in, f
 unfoldable pub boatTable : List Line → List ℕ
 boatTable lines = 0 ∷ map asNumber (boats lines)
 
+-- the class that such a word says
+abbrev pub classIn : ℕ → ℕ
+classIn w = w / 16777216
+
 -- what comparing two numbers tells, by such a table: each boat has one number, so that of two read boats the numbers tell whether they are one
 abbrev pub toldBy : (ℕ → ℕ) → ℕ → ℕ → Compared
-toldBy T x y = cond (eqb (T x) 0 || eqb (T y) 0) unread (cond (eqb x y) same-boat other-boat)
+toldBy T x y = cond (eqb (T x) 0 || eqb (T y) 0) unread (cond (eqb x y) same-boat (cond (eqb (classIn (T x)) (classIn (T y))) same-class other-class))
 
 -- ---- no boat has two numbers
 
@@ -58,6 +62,32 @@ after-apart : (ls : List Line) (seen : List Boat) → Apart seen → Apart (boat
 unfolding boatsAfter
 after-apart [] seen apart = apart
 after-apart (l ∷ ls) seen apart = after-apart ls (noted seen (l .boat)) (noted-apart seen (l .boat) apart)
+
+-- ---- sail numbers of three bytes
+
+abbrev LowSails : List Boat → Type 0
+LowSails bs = (i : ℕ) → getD bs i (noLine .boat) .sail < 16777216
+
+append-low : (bs : List Boat) (x : Boat) → x .sail < 16777216 → LowSails bs → LowSails (bs ++ (x ∷ []))
+append-low [] x h low zero = h
+append-low [] x h low (suc i) = omega arith
+append-low (b ∷ bs) x h low zero = low 0
+append-low (b ∷ bs) x h low (suc i) = append-low bs x h (λ k. low (suc k)) i
+
+noted-low : (seen : List Boat) (x : Boat) → x .sail < 16777216 → LowSails seen → LowSails (noted seen x)
+noted-low seen x h low = go (among x seen)
+  where
+    go : (t : Bool) → LowSails (cond t seen (seen ++ (x ∷ [])))
+    go true = low
+    go false = append-low seen x h low
+
+after-low : (ls : List Line) (seen : List Boat) → ((i : ℕ) → i < length ls → lineAt ls i .boat .sail < 16777216) → LowSails seen → LowSails (boatsAfter seen ls)
+unfolding boatsAfter
+after-low [] seen h low = low
+after-low (l ∷ ls) seen h low = after-low ls (noted seen (l .boat)) (λ i less. h (suc i) (omega (arith, less))) (noted-low seen (l .boat) (h 0 (omega arith)) low)
+
+word-class : (b : Boat) → b .sail < 16777216 → classIn (asNumber b) ≡ b .class
+word-class b h = omega (arith, h)
 
 module _ (lines : List Line) where
   abbrev bs : List Boat
@@ -99,19 +129,32 @@ module _ (lines : List Line) where
   word-is zero h = refl
   word-is (suc x) h = List·getD-map asNumber bs x (noLine .boat)
 
-  pub table-told : (x y : ℕ) → x ≤ length bs → y ≤ length bs → toldBy its-word x y ≡ telling bs x y
-  table-told x y hx hy =
-      ap (λ t. cond t unread (cond (eqb x y) same-boat other-boat)) (λ i. read-is x hx i || read-is y hy i) ∙ go x y hx hy
-    where
-      read-is : (x : ℕ) → x ≤ length bs → eqb (its-word x) 0 ≡ isUnread (numbered bs x)
-      read-is x h = ap (λ w. eqb w 0) (word-is x h) ∙ unread-word (numbered bs x)
+  module _ (sails : (i : ℕ) → i < length lines → lineAt lines i .boat .sail < 16777216) where
+    low : (x : ℕ) → numbered bs x .sail < 16777216
+    low zero = omega arith
+    low (suc x) = after-low lines [] sails (λ i. omega arith) x
 
-      go : (x y : ℕ) → x ≤ length bs → y ≤ length bs
-          → cond (isUnread (numbered bs x) || isUnread (numbered bs y)) unread (cond (eqb x y) same-boat other-boat) ≡ telling bs x y
-      go zero y hx hy = refl
-      go (suc x) zero hx hy = rw (or-true (isUnread (numbered bs (suc x))))
-      go (suc x) (suc y) hx hy =
-          ap (λ t. cond (isUnread (numbered bs (suc x)) || isUnread (numbered bs (suc y))) unread (cond t same-boat other-boat)) (numbers-agree x y (omega arith) (omega arith))
+    -- what two boats tell, where t says whether they are one
+    abbrev by : Bool → ℕ → ℕ → Compared
+    by t x y =
+        cond (isUnread (numbered bs x) || isUnread (numbered bs y)) unread
+        (cond t same-boat (cond (eqb (numbered bs x .class) (numbered bs y .class)) same-class other-class))
+
+    pub table-told : (x y : ℕ) → x ≤ length bs → y ≤ length bs → toldBy its-word x y ≡ telling bs x y
+    table-told x y hx hy =
+        (λ i. cond (read-is x hx i || read-is y hy i) unread (cond (eqb x y) same-boat (cond (eqb (class-is x hx i) (class-is y hy i)) same-class other-class)))
+        ∙ go x y hx hy
+      where
+        read-is : (x : ℕ) → x ≤ length bs → eqb (its-word x) 0 ≡ isUnread (numbered bs x)
+        read-is x h = ap (λ w. eqb w 0) (word-is x h) ∙ unread-word (numbered bs x)
+
+        class-is : (x : ℕ) → x ≤ length bs → classIn (its-word x) ≡ numbered bs x .class
+        class-is x h = ap classIn (word-is x h) ∙ word-class (numbered bs x) (low x)
+
+        go : (x y : ℕ) → x ≤ length bs → y ≤ length bs → by (eqb x y) x y ≡ telling bs x y
+        go zero y hx hy = refl
+        go (suc x) zero hx hy = rw (or-true (isUnread (numbered bs (suc x))))
+        go (suc x) (suc y) hx hy = ap (λ t. by t (suc x) (suc y)) (numbers-agree x y (omega arith) (omega arith))
 
 -- ---- line by line: a line's number is the next one exactly where no earlier line has its boat
 
