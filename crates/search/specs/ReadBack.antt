@@ -14,7 +14,7 @@ use borrow.Author.Tests.{lt-ltb}
 use Rattle.meaning.specs.Record.{Line, boats}
 use Rattle.meaning.specs.Writing.{noLine, lineAt}
 use Rattle.meaning.specs.Pattern.{Pattern, commands, keeps}
-use Rattle.meaning.specs.Language.{Compared, unread, same-boat, other-boat, meets}
+use Rattle.meaning.specs.Language.{Compared, unread, same-boat, same-class, other-class, meets}
 use Rattle.meaning.specs.Request.{Asked, searchSize}
 use Rattle.meaning.specs.Chain.{exist}
 use Rattle.record.specs.Fit.{Fit}
@@ -23,7 +23,7 @@ use Rattle.automaton.specs.Automaton.{Test, never, always, against, nodes, node
 use Rattle.automaton.specs.Shape.{deeper, Reads, shape}
 use Rattle.positions.specs.Program.{Compiled, members}
 use Rattle.boats.specs.Codes.{codes, codes-length, code-low, telling}
-use Rattle.boats.specs.Table.{boatTable, toldBy, table-told}
+use Rattle.boats.specs.Table.{boatTable, classIn, toldBy, table-told}
 use Rattle.request.specs.Layout.{Laid, Planned, lineWord, line-from, line-to, line-kind, boatWords, boatsLoaded, table-long, some-words, loadedOf}
 use Rattle.request.specs.declared.Plan.{Plan}
 use Rattle.graph.specs.Plain.{memb, solve}
@@ -117,28 +117,28 @@ module _ (q : Asked) (plan : Plan) (area : ℕ) (planned : Planned q plan) (laid
         ∙ (table-word (plan .boats + x) x refl (omega (arith, under, laid .words-at, laid .base-at))
         ∙ (List·getD-append table rest 0 x (omega (arith, long, low)) ∙ ap (λ l. getD l x 0) is))
 
-    told-back : 0 < plan .keeps → (x y : ℕ) → x ≤ length (boats lines) → y ≤ length (boats lines) → toldBy (boatAt plan g) x y ≡ telling (boats lines) x y
-    told-back some x y hx hy = (λ t. told (boat-back some x hx t) (boat-back some y hy t)) ∙ table-told lines x y hx hy
-      where
-        told : ℕ → ℕ → Compared
-        told a b = cond (eqb a 0 || eqb b 0) unread (cond (eqb x y) same-boat other-boat)
-
-    -- a test of the automaton, whatever the stack: only where boats are kept is there one that compares
-    module _ (program : List ℕ) (v i : ℕ) (less : i < length lines) where
-      test-back : (n : Test) (d : ℕ) → Reads n d → d ≤ keeps p
-          → passes (settingIn program plan g) n v (getD (codes lines) i 0) ≡ passes (setting lines p) n v (getD (codes lines) i 0)
-      unfolding settingIn setting
-      test-back never d reads deep = refl
-      test-back always d reads deep = refl
-      test-back (against r j) d reads deep =
-          let x = getD (codes lines) i 0 in
-          let y = v / suc (length (boats lines)) ^ j % suc (length (boats lines)) in
-          let low : y < suc (length (boats lines)) = mod-lt _ (omega arith) in
-          let some : 0 < plan .keeps = omega (arith, reads, deep, planned .keeps-are) in
-          (λ t. meets r (toldBy (boatAt plan g) x (v / planned .radix-is t ^ j % planned .radix-is t)))
-          ∙ ap (meets r) (told-back some x y (omega (arith, code-low lines i less)) (omega (arith, low)))
-
     module _ (fit : Fit lines places) where
+      told-back : 0 < plan .keeps → (x y : ℕ) → x ≤ length (boats lines) → y ≤ length (boats lines) → toldBy (boatAt plan g) x y ≡ telling (boats lines) x y
+      told-back some x y hx hy = (λ t. told (boat-back some x hx t) (boat-back some y hy t)) ∙ table-told lines (λ i less. fit .boat i less .1) x y hx hy
+        where
+          told : ℕ → ℕ → Compared
+          told a b = cond (eqb a 0 || eqb b 0) unread (cond (eqb x y) same-boat (cond (eqb (classIn a) (classIn b)) same-class other-class))
+
+      -- a test of the automaton, whatever the stack: only where boats are kept is there one that compares
+      module _ (program : List ℕ) (v i : ℕ) (less : i < length lines) where
+        test-back : (n : Test) (d : ℕ) → Reads n d → d ≤ keeps p
+            → passes (settingIn program plan g) n v (getD (codes lines) i 0) ≡ passes (setting lines p) n v (getD (codes lines) i 0)
+        unfolding settingIn setting
+        test-back never d reads deep = refl
+        test-back always d reads deep = refl
+        test-back (against r j) d reads deep =
+            let x = getD (codes lines) i 0 in
+            let y = v / suc (length (boats lines)) ^ j % suc (length (boats lines)) in
+            let low : y < suc (length (boats lines)) = mod-lt _ (omega arith) in
+            let some : 0 < plan .keeps = omega (arith, reads, deep, planned .keeps-are) in
+            (λ t. meets r (toldBy (boatAt plan g) x (v / planned .radix-is t ^ j % planned .radix-is t)))
+            ∙ ap (meets r) (told-back some x y (omega (arith, code-low lines i less)) (omega (arith, low)))
+
       -- ---- the setting that they say
 
       module _ (program : List ℕ) (begin : ℕ) (compiled : Compiled p program begin) where
