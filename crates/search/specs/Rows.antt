@@ -2,11 +2,11 @@
 -- definition is changed. Document 01's starred rows stand in crate `starred`, from the bytes.
 use mathlib.Core.Path.{_≡_, refl}
 use mathlib.Core.Bool.{true, false}
-use mathlib.Core.List.{List, [], _∷_, map}
+use mathlib.Core.List.{List, [], _∷_, _++_, map}
 use mathlib.Core.Option.{none, some}
 use Prim.Native.Nat.{ℕ}
 use Rattle.meaning.specs.Record.{Line, boatsAfter}
-use Rattle.meaning.specs.Pattern.{Pattern, line, test, same, other, either, then, keep}
+use Rattle.meaning.specs.Pattern.{Rule, Pattern, line, test, same, other, sister, foreign, either, then, keep}
 use Rattle.meaning.specs.Request.{searchSize}
 use Rattle.meaning.specs.Chain.{exist}
 use Rattle.boats.specs.Codes.{codes}
@@ -21,20 +21,20 @@ ln from kind class sail to = record { from = from; kind = kind; boat = record { 
 
 -- ---- kept boats
 
+-- a boat entered, then one that the rule takes
+by : Rule → Pattern
+by r = keep 1 0 (test r 2 0)
+
 -- a boat entered, another started
 Q : List Line
 Q = ln 0 1 1 150 1 ∷ ln 1 2 2 150 2 ∷ []
-
--- a boat entered, that boat started
-K : Pattern
-K = keep 1 0 (test same 2 0)
 
 codes-Q : codes Q ≡ 1 ∷ 2 ∷ []
 unfolding codes boatsAfter Q ln
 codes-Q = refl
 
-not-the-same : answer Q 3 K 0 2 ≡ none
-unfolding Q K ln boatsAfter codes solve found news look bfs chosen pick first next level nearest lesser isAt memb nub filt flat count stacks state placeOf posOf stackOf succs preds setting searchSize starts answer
+not-the-same : answer Q 3 (by same) 0 2 ≡ none
+unfolding Q by ln boatsAfter codes solve found news look bfs chosen pick first next level nearest lesser isAt memb nub filt flat count stacks state placeOf posOf stackOf succs preds setting searchSize starts answer
 not-the-same = refl
 
 -- two boats at one place
@@ -72,22 +72,48 @@ both-checked = refl
 W : List Line
 W = ln 0 1 1 1 1 ∷ ln 1 2 0 0 2 ∷ ln 1 2 1 1 2 ∷ ln 1 2 1 2 2 ∷ []
 
--- a boat entered, another started
-O : Pattern
-O = keep 1 0 (test other 2 0)
-
-unread-passed-over : answer W 3 O 0 2 ≡ some (0 ∷ 3 ∷ [])
-unfolding W O ln boatsAfter codes solve found news look bfs chosen pick first next level nearest lesser isAt memb nub filt flat count stacks state placeOf posOf stackOf succs preds setting searchSize starts answer
+unread-passed-over : map (λ (r : Rule). answer W 3 (by r) 0 2) (same ∷ other ∷ sister ∷ foreign ∷ []) ≡ some (0 ∷ 2 ∷ []) ∷ some (0 ∷ 3 ∷ []) ∷ some (0 ∷ 3 ∷ []) ∷ none ∷ []
+unfolding W by ln boatsAfter codes solve found news look bfs chosen pick first next level nearest lesser isAt memb nub filt flat count stacks state placeOf posOf stackOf succs preds setting searchSize starts answer
 unread-passed-over = refl
 
-unread-checked : map (check W O 0 2) ((0 ∷ 1 ∷ []) ∷ (0 ∷ 2 ∷ []) ∷ (0 ∷ 3 ∷ []) ∷ []) ≡ false ∷ false ∷ true ∷ []
-unfolding W O ln boatsAfter codes news look memb nub filt flat count stacks state placeOf posOf stackOf succs setting starts exist moved check
+unread-checked : map (check W (by other) 0 2) ((0 ∷ 1 ∷ []) ∷ (0 ∷ 2 ∷ []) ∷ (0 ∷ 3 ∷ []) ∷ []) ≡ false ∷ false ∷ true ∷ []
+unfolding W by ln boatsAfter codes news look memb nub filt flat count stacks state placeOf posOf stackOf succs setting starts exist moved check
 unread-checked = refl
 
--- an unread number entered: no line of it or of another boat is known to be the same or another
+-- an unread number entered: no line of it or of another boat is known to be the same, another, or of one class or another
 E : List Line
 E = ln 0 1 0 0 1 ∷ ln 1 2 0 0 1 ∷ ln 1 2 1 1 1 ∷ []
 
-unread-entered : map (λ (p : Pattern). answer E 2 p 0 1) (keep 1 0 (test same 2 0) ∷ keep 1 0 (test other 2 0) ∷ keep 1 0 (line 2) ∷ []) ≡ none ∷ none ∷ some (0 ∷ 1 ∷ []) ∷ []
-unfolding E ln boatsAfter codes solve found news look bfs chosen pick first next level nearest lesser isAt memb nub filt flat count stacks state placeOf posOf stackOf succs preds setting searchSize starts answer
+unread-entered : map (λ (p : Pattern). answer E 2 p 0 1) (map by (same ∷ other ∷ sister ∷ foreign ∷ []) ++ (keep 1 0 (line 2) ∷ []))
+    ≡ none ∷ none ∷ none ∷ none ∷ some (0 ∷ 1 ∷ []) ∷ []
+unfolding E by ln boatsAfter codes solve found news look bfs chosen pick first next level nearest lesser isAt memb nub filt flat count stacks state placeOf posOf stackOf succs preds setting searchSize starts answer
 unread-entered = refl
+
+-- ---- classes
+
+-- boat 2-1 entered; then from one place two boats of class 1, that boat, another of its class, and one of class 3
+C : List Line
+C = ln 0 1 2 1 1 ∷ ln 1 2 1 7 2 ∷ ln 1 2 1 8 2 ∷ ln 1 2 2 1 2 ∷ ln 1 2 2 9 2 ∷ ln 1 2 3 1 2 ∷ []
+
+classes-told : map (λ (r : Rule). answer C 3 (by r) 0 2) (same ∷ other ∷ sister ∷ foreign ∷ [])
+    ≡ some (0 ∷ 3 ∷ []) ∷ some (0 ∷ 1 ∷ []) ∷ some (0 ∷ 4 ∷ []) ∷ some (0 ∷ 1 ∷ []) ∷ []
+unfolding C by ln boatsAfter codes solve found news look bfs chosen pick first next level nearest lesser isAt memb nub filt flat count stacks state placeOf posOf stackOf succs preds setting searchSize starts answer
+classes-told = refl
+
+-- each line in turn: those of other classes are foreign, one is a sister, and every other is one of the two
+classes-checked : map (λ (r : Rule). map (check C (by r) 0 2) ((0 ∷ 1 ∷ []) ∷ (0 ∷ 2 ∷ []) ∷ (0 ∷ 3 ∷ []) ∷ (0 ∷ 4 ∷ []) ∷ (0 ∷ 5 ∷ []) ∷ [])) (same ∷ other ∷ sister ∷ foreign ∷ [])
+    ≡ (false ∷ false ∷ true ∷ false ∷ false ∷ [])
+    ∷ (true ∷ true ∷ false ∷ true ∷ true ∷ [])
+    ∷ (false ∷ false ∷ false ∷ true ∷ false ∷ [])
+    ∷ (true ∷ true ∷ false ∷ false ∷ true ∷ [])
+    ∷ []
+unfolding C by ln boatsAfter codes news look memb nub filt flat count stacks state placeOf posOf stackOf succs setting starts exist moved check
+classes-checked = refl
+
+-- boat 1-1 entered: two sisters are passed over, and the first of another class has its number
+D : List Line
+D = ln 0 1 1 1 1 ∷ ln 1 2 1 7 2 ∷ ln 1 2 1 8 2 ∷ ln 1 2 2 1 2 ∷ []
+
+sisters-passed-over : answer D 3 (by foreign) 0 2 ≡ some (0 ∷ 3 ∷ [])
+unfolding D by ln boatsAfter codes solve found news look bfs chosen pick first next level nearest lesser isAt memb nub filt flat count stacks state placeOf posOf stackOf succs preds setting searchSize starts answer
+sisters-passed-over = refl
