@@ -75,6 +75,8 @@ module _ (a : List ℕ) (plan : Plan) (g : List ℕ) where
   passes-rule Rule.Always j v x = refl
   passes-rule Rule.Same j v x = refl
   passes-rule Rule.Other j v x = refl
+  passes-rule Rule.Sister j v x = refl
+  passes-rule Rule.Foreign j v x = refl
 
   pub passes-is : (c v x : ℕ) → passes (settingIn a plan g) (testIn (rowAt a c .rule) (rowAt a c .level)) v x ≡ okay (boatAt plan g) (plan .radix) (spotIn a (plan .radix) c) x v
   unfolding okay spotIn

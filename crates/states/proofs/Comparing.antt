@@ -1,26 +1,23 @@
 -- Comparing two boats by their numbers, and what a rule takes of it.
 use mathlib.Core.Path.{_≡_, refl, sym, ap, _∙_}
 use mathlib.Core.Bool.{Bool, true, false, cond, not, _&&_, _||_, and-false, or-true}
-use mathlib.Core.List.{[], _∷_}
-use mathlib.Core.Logic.{inl, inr}
+use mathlib.Core.List.{List, [], _∷_}
 use Prim.Native.Nat.{ℕ, _/_, _%_}
 use native.Mathlib.Decide.{ℕ-discrete}
 use native.Mathlib.Omega.{arith}
 use lib.Dec.{eqb}
 use borrow.Author.Tests.{eq-eqb, ne-eqb}
-use Rattle.meaning.specs.Language.{Compared, unread, same-boat, other-boat, meets}
+use Rattle.meaning.specs.Language.{Compared, unread, same-boat, same-class, other-class, meets}
 use Rattle.meaning.specs.Pattern.{same, other}
 use Rattle.positions.specs.declared.Rule.{Rule}
 use Rattle.positions.proofs.Rule.{the-type}
 use denote.Enum.Declared.{tagOf}
-use types.Run.{OneOf}
+use types.Run.{OneOf, miss}
 use Rattle.positions.specs.declared.Rule.the-variants as Rule
-use Rattle.boats.specs.Table.{toldBy}
-use Rattle.states.specs.Spots.{toldShown, sameShown, otherShown, metBy, okay, readBy, readBut}
+use Rattle.boats.specs.Table.{classIn, toldBy}
+use Rattle.states.specs.Spots.{metBy, okay, readBy, readBut}
 use Rattle.states.specs.Served.{Served, read-but, nobody}
 use Rattle.states.specs.declared.Spot.{Spot}
-use Rattle.states.specs.declared.Told.{Told}
-use Rattle.states.specs.declared.Told.the-variants as Told
 
 module _ (B : ℕ → ℕ) (x y : ℕ) where
   pub told-unread : B x ≡ 0 → toldBy B x y ≡ unread
@@ -32,39 +29,50 @@ module _ (B : ℕ → ℕ) (x y : ℕ) where
   pub told-same : (B x ≡ 0 → ⊥) → (B y ≡ 0 → ⊥) → x ≡ y → toldBy B x y ≡ same-boat
   told-same m n e = rw (ne-eqb (B x) 0 m, ne-eqb (B y) 0 n, eq-eqb x y e)
 
-  pub told-other : (B x ≡ 0 → ⊥) → (B y ≡ 0 → ⊥) → (x ≡ y → ⊥) → toldBy B x y ≡ other-boat
-  told-other m n d = rw (ne-eqb (B x) 0 m, ne-eqb (B y) 0 n, ne-eqb x y d)
+  pub told-sister : (B x ≡ 0 → ⊥) → (B y ≡ 0 → ⊥) → (x ≡ y → ⊥) → classIn (B x) ≡ classIn (B y) → toldBy B x y ≡ same-class
+  told-sister m n d e = rw (ne-eqb (B x) 0 m, ne-eqb (B y) 0 n, ne-eqb x y d, eq-eqb (classIn (B x)) (classIn (B y)) e)
+
+  pub told-foreign : (B x ≡ 0 → ⊥) → (B y ≡ 0 → ⊥) → (x ≡ y → ⊥) → (classIn (B x) ≡ classIn (B y) → ⊥) → toldBy B x y ≡ other-class
+  told-foreign m n d e = rw (ne-eqb (B x) 0 m, ne-eqb (B y) 0 n, ne-eqb x y d, ne-eqb (classIn (B x)) (classIn (B y)) e)
 
 -- ---- what a rule takes
 
-none-of : {A : Type 0} (x i j k : ℕ) → OneOf (i ∷ j ∷ k ∷ []) x → (x ≡ i → ⊥) → (x ≡ j → ⊥) → (x ≡ k → ⊥) → A
-none-of x i j k (inl e) a b c = absurd (a e)
-none-of x i j k (inr (inl e)) a b c = absurd (b e)
-none-of x i j k (inr (inr e)) a b c = absurd (c e)
+-- the rules that an `if let` leaves, by their tags: all but one
+abbrev Left : List ℕ → Rule → Type 0
+Left tags r = OneOf tags (tagOf the-type r)
 
-pub same-met : (o : Told) → sameShown o ≡ metBy Rule.Same (toldShown o)
-same-met Told.Unread = refl
-same-met Told.SameBoat = refl
-same-met Told.OtherBoat = refl
+abbrev notAlways : List ℕ
+notAlways = 0 ∷ 2 ∷ 3 ∷ 4 ∷ 5 ∷ []
 
-pub other-met : (o : Told) → otherShown o ≡ metBy Rule.Other (toldShown o)
-other-met Told.Unread = refl
-other-met Told.SameBoat = refl
-other-met Told.OtherBoat = refl
+abbrev notSame : List ℕ
+notSame = 0 ∷ 1 ∷ 3 ∷ 4 ∷ 5 ∷ []
 
--- a rule that is none of the other three takes nothing
-pub never-left : (r : Rule) → OneOf (0 ∷ 2 ∷ 3 ∷ []) (tagOf the-type r) → OneOf (0 ∷ 1 ∷ 3 ∷ []) (tagOf the-type r) → OneOf (0 ∷ 1 ∷ 2 ∷ []) (tagOf the-type r) → (o : Compared) → false ≡ metBy r o
-never-left Rule.Never a s t o = refl
-never-left Rule.Always a s t o = none-of 1 0 2 3 a (omega arith) (omega arith) (omega arith)
-never-left Rule.Same a s t o = none-of 2 0 1 3 s (omega arith) (omega arith) (omega arith)
-never-left Rule.Other a s t o = none-of 3 0 1 2 t (omega arith) (omega arith) (omega arith)
+abbrev notOther : List ℕ
+notOther = 0 ∷ 1 ∷ 2 ∷ 4 ∷ 5 ∷ []
+
+abbrev notSister : List ℕ
+notSister = 0 ∷ 1 ∷ 2 ∷ 3 ∷ 5 ∷ []
+
+abbrev notForeign : List ℕ
+notForeign = 0 ∷ 1 ∷ 2 ∷ 3 ∷ 4 ∷ []
+
+-- a rule that is none of the other five takes nothing
+pub never-left : (r : Rule) → Left notAlways r → Left notSame r → Left notOther r → Left notSister r → Left notForeign r → (o : Compared) → false ≡ metBy r o
+never-left Rule.Never a s t u v o = refl
+never-left Rule.Always a s t u v o = absurd (miss notAlways 1 tt a)
+never-left Rule.Same a s t u v o = absurd (miss notSame 2 tt s)
+never-left Rule.Other a s t u v o = absurd (miss notOther 3 tt t)
+never-left Rule.Sister a s t u v o = absurd (miss notSister 4 tt u)
+never-left Rule.Foreign a s t u v o = absurd (miss notForeign 5 tt v)
 
 -- a rule that does not take everybody takes no unread boat
-unread-left : (r : Rule) → OneOf (0 ∷ 2 ∷ 3 ∷ []) (tagOf the-type r) → metBy r unread ≡ false
+unread-left : (r : Rule) → Left notAlways r → metBy r unread ≡ false
 unread-left Rule.Never a = refl
-unread-left Rule.Always a = none-of 1 0 2 3 a (omega arith) (omega arith) (omega arith)
+unread-left Rule.Always a = absurd (miss notAlways 1 tt a)
 unread-left Rule.Same a = refl
 unread-left Rule.Other a = refl
+unread-left Rule.Sister a = refl
+unread-left Rule.Foreign a = refl
 
 -- ---- the rule of a position
 
@@ -82,7 +90,7 @@ module _ (B : ℕ → ℕ) (R : ℕ) (s : Spot) (x v : ℕ) where
   okay-never e = rw e
 
   -- where the kept boat is unread, a rule that compares takes nobody
-  pub okay-unkept : OneOf (0 ∷ 2 ∷ 3 ∷ []) (tagOf the-type (s .rule)) → B kept ≡ 0 → okay B R s x v ≡ false
+  pub okay-unkept : Left notAlways (s .rule) → B kept ≡ 0 → okay B R s x v ≡ false
   unfolding okay
   okay-unkept e none = ap (metBy (s .rule)) (told-unkept B x kept none) ∙ unread-left (s .rule) e
 
@@ -91,17 +99,18 @@ module _ (B : ℕ → ℕ) (R : ℕ) (s : Spot) (x v : ℕ) where
   unfolding okay
   okay-same e = elim (ℕ-discrete x kept) [
     | yes q ↦ rw (e, ← q, eq-eqb x x refl) (one (eqb (B x) 0))
-    | no n ↦ rw (e, ne-eqb x kept n) (two (eqb (B x) 0) (eqb (B kept) 0))
+    | no n ↦ rw (e, ne-eqb x kept n) (two (eqb (B x) 0) (eqb (B kept) 0) (eqb (classIn (B x)) (classIn (B kept))))
   ]
     where
       one : (a : Bool) → meets same (cond (a || a) unread same-boat) ≡ (not a && true)
       one true = refl
       one false = refl
 
-      two : (a b : Bool) → meets same (cond (a || b) unread other-boat) ≡ (not a && false)
-      two true b = refl
-      two false true = refl
-      two false false = refl
+      two : (a b c : Bool) → meets same (cond (a || b) unread (cond c same-class other-class)) ≡ (not a && false)
+      two true b c = refl
+      two false true c = refl
+      two false false true = refl
+      two false false false = refl
 
   -- the same boat, where the kept one is read
   pub okay-same-read : s .rule ≡ Rule.Same → (B kept ≡ 0 → ⊥) → okay B R s x v ≡ eqb x kept
@@ -113,12 +122,13 @@ module _ (B : ℕ → ℕ) (R : ℕ) (s : Spot) (x v : ℕ) where
   -- another, read, where the kept one is
   pub okay-other-read : s .rule ≡ Rule.Other → (B kept ≡ 0 → ⊥) → okay B R s x v ≡ readBut B kept x
   unfolding okay
-  okay-other-read e some = rw (e, ne-eqb (B kept) 0 some) (go (eqb (B x) 0) (eqb x kept))
+  okay-other-read e some = rw (e, ne-eqb (B kept) 0 some) (go (eqb (B x) 0) (eqb x kept) (eqb (classIn (B x)) (classIn (B kept))))
     where
-      go : (a b : Bool) → meets other (cond (a || false) unread (cond b same-boat other-boat)) ≡ (not a && not b)
-      go true b = refl
-      go false true = refl
-      go false false = refl
+      go : (a b c : Bool) → meets other (cond (a || false) unread (cond b same-boat (cond c same-class other-class))) ≡ (not a && not b)
+      go true b c = refl
+      go false true c = refl
+      go false false true = refl
+      go false false false = refl
 
   -- by what the comparison told
   pub okay-told : (o : Compared) → o ≡ toldBy B x kept → metBy (s .rule) o ≡ okay B R s x v

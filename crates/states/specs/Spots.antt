@@ -6,8 +6,8 @@ use mathlib.Core.List.{List}
 use Prim.Native.Nat.{ℕ, _+_, _*_, _-_, _^_, _/_, _%_, _≤_, _<_}
 use lib.Dec.{eqb}
 use lib.ListN.{length, take}
-use Rattle.meaning.specs.Pattern.{same, other}
-use Rattle.meaning.specs.Language.{Compared, unread, same-boat, other-boat, meets}
+use Rattle.meaning.specs.Pattern.{same, other, sister, foreign}
+use Rattle.meaning.specs.Language.{Compared, unread, same-boat, same-class, other-class, meets}
 use Rattle.positions.specs.Program.{bitOf, rowAt, followAt, depthAt, leavesAt}
 use Rattle.positions.specs.declared.Rule.{Rule}
 use Rattle.positions.specs.declared.Rule.the-variants as Rule
@@ -54,17 +54,8 @@ pub record Fit (plan : Plan) (a : List ℕ) (w : List ℕ) : Type 0 where
 abbrev pub toldShown : Told → Compared
 toldShown Told.Unread = unread
 toldShown Told.SameBoat = same-boat
-toldShown Told.OtherBoat = other-boat
-
-abbrev pub sameShown : Told → Bool
-sameShown Told.Unread = false
-sameShown Told.SameBoat = true
-sameShown Told.OtherBoat = false
-
-abbrev pub otherShown : Told → Bool
-otherShown Told.Unread = false
-otherShown Told.SameBoat = false
-otherShown Told.OtherBoat = true
+toldShown Told.SameClass = same-class
+toldShown Told.OtherClass = other-class
 
 -- does a rule take it?
 abbrev pub metBy : Rule → Compared → Bool
@@ -72,6 +63,8 @@ metBy Rule.Never o = false
 metBy Rule.Always o = true
 metBy Rule.Same o = meets same o
 metBy Rule.Other o = meets other o
+metBy Rule.Sister o = meets sister o
+metBy Rule.Foreign o = meets foreign o
 
 -- ---- a position by its numbers
 

@@ -5,10 +5,12 @@ ghost use Prim.Native.Nat.{ℕ, _+_, _*_, _-_, _^_, _/_, _%_, _≤_, _<_};
 ghost use lib.Dec.{eqb};
 ghost use Rattle.positions.specs.Program.{rowAt, depthAt};
 ghost use lib.ListN.{length};
-ghost use Rattle.boats.specs.Table.{toldBy};
+ghost use Rattle.meaning.specs.Pattern.{same, other, sister, foreign};
+ghost use Rattle.meaning.specs.Language.{meets};
+ghost use Rattle.boats.specs.Table.{classIn, toldBy};
 ghost use Rattle.request.specs.Layout.{largest, scale, Laid};
 ghost use Rattle.states.specs.Served.{Thinnable};
-ghost use Rattle.states.specs.Spots.{boatsIn, toldShown, sameShown, otherShown, metBy, spotIn, off, on, okay, TakenBy, OnlyKept, TakesAll, Lowest, From, Entries, targetIn};
+ghost use Rattle.states.specs.Spots.{boatsIn, toldShown, metBy, spotIn, off, on, okay, TakenBy, OnlyKept, TakesAll, Lowest, From, Entries, targetIn};
 use positions::Rule;
 use request::Plan;
 use request::SCALE;
@@ -31,29 +33,62 @@ pub fn boat_of(work: &[u32], plan: Plan, x: usize) -> u32
 pub enum Told {
     Unread,
     SameBoat,
-    OtherBoat,
+    SameClass,
+    OtherClass,
 }
 
+// What the four tests ask of it.
 impl Told {
     fn same(self) -> bool
-        ensures { λ r. ⌜ r ≡ sameShown self ⌝ }
+        ensures { λ r. ⌜ r ≡ meets same (toldShown self) ⌝ }
     {
         match self {
             Told::Unread => false,
             Told::SameBoat => true,
-            Told::OtherBoat => false,
+            Told::SameClass => false,
+            Told::OtherClass => false,
         }
     }
 
     fn other(self) -> bool
-        ensures { λ r. ⌜ r ≡ otherShown self ⌝ }
+        ensures { λ r. ⌜ r ≡ meets other (toldShown self) ⌝ }
     {
         match self {
             Told::Unread => false,
             Told::SameBoat => false,
-            Told::OtherBoat => true,
+            Told::SameClass => true,
+            Told::OtherClass => true,
         }
     }
+
+    fn sister(self) -> bool
+        ensures { λ r. ⌜ r ≡ meets sister (toldShown self) ⌝ }
+    {
+        match self {
+            Told::Unread => false,
+            Told::SameBoat => false,
+            Told::SameClass => true,
+            Told::OtherClass => false,
+        }
+    }
+
+    fn foreign(self) -> bool
+        ensures { λ r. ⌜ r ≡ meets foreign (toldShown self) ⌝ }
+    {
+        match self {
+            Told::Unread => false,
+            Told::SameBoat => false,
+            Told::SameClass => false,
+            Told::OtherClass => true,
+        }
+    }
+}
+
+// The class of a boat's word.
+fn class_in(word: u32) -> u32
+    ensures { λ r. ⌜ r ≡ classIn word ⌝ }
+{
+    word / 16777216
 }
 
 // Two boats compared, given by their numbers. Whoever compares boats does it here.
@@ -61,16 +96,21 @@ pub fn compared(work: &[u32], plan: Plan, a: usize, b: usize) -> Told
     requires { ⌜ Laid plan (length (now work)) × (a < 4294967296) × (b < 4294967296) ⌝ }
     ensures { λ r. ⌜ toldShown r ≡ toldBy (boatsIn plan (now (work .entry))) a b ⌝ }
 {
-    if boat_of(work, plan, a) == 0 {
+    let first = boat_of(work, plan, a);
+    if first == 0 {
         return Told::Unread;
     }
-    if boat_of(work, plan, b) == 0 {
+    let second = boat_of(work, plan, b);
+    if second == 0 {
         return Told::Unread;
     }
     if a == b {
-        Told::SameBoat
+        return Told::SameBoat;
+    }
+    if class_in(first) == class_in(second) {
+        Told::SameClass
     } else {
-        Told::OtherBoat
+        Told::OtherClass
     }
 }
 
@@ -83,6 +123,12 @@ pub fn meets(rule: Rule, told: Told) -> bool
     }
     if let Rule::Other = rule {
         return told.other();
+    }
+    if let Rule::Sister = rule {
+        return told.sister();
+    }
+    if let Rule::Foreign = rule {
+        return told.foreign();
     }
     if let Rule::Always = rule {
         return true;
@@ -312,6 +358,8 @@ pub fn thinnable(spot: Spot) -> bool
         Rule::Always => true,
         Rule::Same => false,
         Rule::Other => true,
+        Rule::Sister => false,
+        Rule::Foreign => false,
     }
 }
 

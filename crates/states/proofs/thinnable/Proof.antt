@@ -21,6 +21,12 @@ enum-told-3 c = search needs
 enum-told-4 : tie.Need-enum-told-4
 enum-told-4 c = search needs
 
+enum-told-5 : tie.Need-enum-told-5
+enum-told-5 c = search needs
+
+enum-told-6 : tie.Need-enum-told-6
+enum-told-6 c = search needs
+
 returns-2 : tie.Need-returns-2
 returns-2 c = λ _. record { plain = c .before .before .if1 .left; served = λ B R v. nobody (λ x. okay-never B R _ x v (c .enum-told .given .1)) }
 
@@ -35,6 +41,12 @@ returns-5 c = λ _.
     let s = c .before .before .before .args .spot in
     record { plain = c .before .before .if1 .left; served = λ B R v. other-served B R s v (c .enum-told4 .given .1) }
 
+returns-6 : tie.Need-returns-6
+returns-6 c = λ e. absurd (false≢true e)
+
+returns-7 : tie.Need-returns-7
+returns-7 c = λ e. absurd (false≢true e)
+
 pub thinnable-spec : {M : Type 1} → statement M
 thinnable-spec =
     tie.close
@@ -44,7 +56,11 @@ thinnable-spec =
     enum-told-2
     enum-told-3
     enum-told-4
+    enum-told-5
+    enum-told-6
     returns-2
     returns-3
     returns-4
-    returns-5)
+    returns-5
+    returns-6
+    returns-7)
