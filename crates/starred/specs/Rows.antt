@@ -135,6 +135,16 @@ rows-right = refl
 
 -- ---- more rows
 
+-- boat 2-1 entered; then from one place two boats of class 1, that boat, another of its class, and one of class 3
+C : List ℕ
+C =
+    0x01 ∷ 0 ∷ 3
+    ∷ (line-bytes 0 1 2 1 1 ++ (line-bytes 1 2 1 7 2 ++ (line-bytes 1 2 1 8 2 ++ (line-bytes 1 2 2 1 2 ++ (line-bytes 1 2 2 9 2 ++ (line-bytes 1 2 3 1 2 ++ (0x00 ∷ [])))))))
+
+-- a boat entered, and then the test of a command
+entered : ℕ → List ℕ
+entered b = 0x27 ∷ 1 ∷ 0 ∷ b ∷ 2 ∷ 0 ∷ []
+
 more : List Row
 more =
     -- an output that is one entry short, and one that just holds the chain
@@ -153,8 +163,19 @@ more =
     -- the empty chain leads from a place to itself
     ∷ checks R (0x26 ∷ 0x20 ∷ []) 0 0 [] (passed true)
     ∷ checks R (0x26 ∷ 0x20 ∷ []) 0 1 [] (passed false)
+    -- the same boat, another, another of its class, one of another class; a byte that is no command, and a slot that is not kept
+    ∷ finds C (entered 0x22) 0 2 16 (chain (0 ∷ 3 ∷ []))
+    ∷ finds C (entered 0x23) 0 2 16 (chain (0 ∷ 1 ∷ []))
+    ∷ finds C (entered 0x28) 0 2 16 (chain (0 ∷ 4 ∷ []))
+    ∷ finds C (entered 0x29) 0 2 16 (chain (0 ∷ 1 ∷ []))
+    ∷ finds C (entered 0x2A) 0 2 16 (stopped 8)
+    ∷ finds C (0x28 ∷ 2 ∷ 0 ∷ []) 0 2 16 (stopped 12)
+    ∷ finds C (0x29 ∷ 2 ∷ 0 ∷ []) 0 2 16 (stopped 12)
+    ∷ checks C (entered 0x28) 0 2 (0 ∷ 3 ∷ []) (passed false)
+    ∷ checks C (entered 0x29) 0 2 (0 ∷ 4 ∷ []) (passed false)
+    ∷ checks C (entered 0x29) 0 2 (0 ∷ 5 ∷ []) (passed true)
     ∷ []
 
 more-right : allRight more ≡ true
-unfolding allRight right sameCheck agrees sameFinding isStopped isNowhere isChain isLong sameChain more R R-more R-less head-R line-bytes T E P S findOf checkOf askRequest readRecord linesFrom entryAt readPattern readAt commandAt shapeOf searchSize boatsAfter codes solve found news look bfs chosen pick first next level nearest lesser isAt memb nub filt flat count stacks state placeOf posOf stackOf succs preds setting starts answer exist moved check
+unfolding allRight right sameCheck agrees sameFinding isStopped isNowhere isChain isLong sameChain more C entered R R-more R-less head-R line-bytes T E P S findOf checkOf askRequest readRecord linesFrom entryAt readPattern readAt commandAt shapeOf searchSize boatsAfter codes solve found news look bfs chosen pick first next level nearest lesser isAt memb nub filt flat count stacks state placeOf posOf stackOf succs preds setting starts answer exist moved check
 more-right = refl
