@@ -11,7 +11,7 @@ use Rattle.meaning.specs.Language.{Compared, unread, same-boat, same-class, oth
 use Rattle.positions.specs.Program.{bitOf, rowAt, followAt, depthAt, leavesAt}
 use Rattle.positions.specs.declared.Rule.{Rule}
 use Rattle.positions.specs.declared.Rule.the-variants as Rule
-use Rattle.boats.specs.Table.{toldBy}
+use Rattle.boats.specs.Table.{classIn, toldBy}
 use Rattle.request.specs.Layout.{largest, Laid, fromIn, toIn, kindIn}
 use Rattle.request.specs.declared.Plan.{Plan}
 use Rattle.graph.specs.Loops.{turns}
@@ -106,11 +106,21 @@ readBy B x = not (eqb (B x) 0)
 abbrev pub readBut : (ℕ → ℕ) → ℕ → ℕ → Bool
 readBut B y x = readBy B x && not (eqb x y)
 
+-- by the boats' table: is x the number of another boat of y's class, which is read?
+abbrev pub sisterOf : (ℕ → ℕ) → ℕ → ℕ → Bool
+sisterOf B y x = readBut B y x && eqb (classIn (B x)) (classIn (B y))
+
+-- is it the number of a read boat of another class than y's?
+abbrev pub foreignTo : (ℕ → ℕ) → ℕ → ℕ → Bool
+foreignTo B y x = readBy B x && not (eqb (classIn (B x)) (classIn (B y)))
+
 -- which boat numbers pass
 abbrev pub TakenBy : (ℕ → ℕ) → ℕ → Spot → ℕ → Takes → Type 0
 TakenBy B R s v Takes.Any = (x : ℕ) → okay B R s x v ≡ true
 TakenBy B R s v (Takes.Only y) = (y < R) × ((x : ℕ) → okay B R s x v ≡ eqb x y)
 TakenBy B R s v (Takes.ReadBut y) = (y < R) × ((x : ℕ) → okay B R s x v ≡ readBut B y x)
+TakenBy B R s v (Takes.Sister y) = (y < R) × ((x : ℕ) → okay B R s x v ≡ sisterOf B y x)
+TakenBy B R s v (Takes.Foreign y) = (y < R) × ((x : ℕ) → okay B R s x v ≡ foreignTo B y x)
 TakenBy B R s v Takes.Nobody = (x : ℕ) → okay B R s x v ≡ false
 TakenBy B R s v Takes.Ask = Unit {0}
 

@@ -9,7 +9,7 @@ ghost use Rattle.meaning.specs.Pattern.{same, other, sister, foreign};
 ghost use Rattle.meaning.specs.Language.{meets};
 ghost use Rattle.boats.specs.Table.{classIn, toldBy};
 ghost use Rattle.request.specs.Layout.{largest, scale, Laid};
-ghost use Rattle.states.specs.Served.{Thinnable};
+ghost use Rattle.states.specs.Served.{boatKey, classKey, Sifted};
 ghost use Rattle.states.specs.Spots.{boatsIn, toldShown, metBy, spotIn, off, on, okay, TakenBy, OnlyKept, TakesAll, Lowest, From, Entries, targetIn};
 use positions::Rule;
 use request::Plan;
@@ -27,6 +27,28 @@ pub fn boat_of(work: &[u32], plan: Plan, x: usize) -> u32
         return area::word(work, at);
     }
     0
+}
+
+// The key of a boat by its number, and that of its class: 0 where it is unread.
+pub fn boat_key(work: &[u32], plan: Plan, x: usize) -> usize
+    requires { ⌜ Laid plan (length (now work)) × (x < 4294967295) ⌝ }
+    ensures { λ r. ⌜ r ≡ boatKey (boatsIn plan (now (work .entry))) x ⌝ }
+{
+    if boat_of(work, plan, x) == 0 {
+        return 0;
+    }
+    x + 1
+}
+
+pub fn class_key(work: &[u32], plan: Plan, x: usize) -> usize
+    requires { ⌜ Laid plan (length (now work)) × (x < 4294967296) ⌝ }
+    ensures { λ r. ⌜ (r ≡ classKey (boatsIn plan (now (work .entry))) x) × (r < 257) ⌝ }
+{
+    let word = boat_of(work, plan, x);
+    if word == 0 {
+        return 0;
+    }
+    class_in(word) as usize + 1
 }
 
 // What comparing two boats tells.
@@ -319,6 +341,8 @@ pub enum Takes {
     Any,
     Only(usize),
     ReadBut(usize),
+    Sister(usize),
+    Foreign(usize),
     Nobody,
     Ask,
 }
@@ -345,21 +369,34 @@ pub fn takes_all(spot: Spot) -> bool
     false
 }
 
-// Are a few lines from each place enough for the position, the thin ones? It must not push, and, whatever the stack, take a set that is served.
-pub fn thinnable(spot: Spot) -> bool
-    ensures { λ r. ⌜ (r ≡ true → Thinnable spot) ⌝ }
+// What the lines of a thin table were told apart by: their boats, their classes, or, in each class, their boats.
+pub enum Sieve {
+    Boats,
+    Classes,
+    Sisters,
+}
+
+// Which lines are enough: the thin ones of a sieve, or no fewer than all.
+pub enum Sifting {
+    Thin(Sieve),
+    Whole,
+}
+
+// Which lines are enough for the position? For thin ones it must not push, and, whatever the stack, take a set that is served.
+pub fn enough(spot: Spot) -> Sifting
+    ensures { λ r. ⌜ Sifted spot r ⌝ }
 {
     if spot.push {
-        return false;
+        return Sifting::Whole;
     }
     let rule = spot.rule;
     match rule {
-        Rule::Never => true,
-        Rule::Always => true,
-        Rule::Same => false,
-        Rule::Other => true,
-        Rule::Sister => false,
-        Rule::Foreign => false,
+        Rule::Never => Sifting::Thin(Sieve::Boats),
+        Rule::Always => Sifting::Thin(Sieve::Boats),
+        Rule::Same => Sifting::Whole,
+        Rule::Other => Sifting::Thin(Sieve::Boats),
+        Rule::Sister => Sifting::Thin(Sieve::Sisters),
+        Rule::Foreign => Sifting::Thin(Sieve::Classes),
     }
 }
 
@@ -513,6 +550,12 @@ pub fn taken_by(work: &[u32], plan: Plan, spot: Spot, target: Target) -> Takes
     }
     if let Rule::Other = rule {
         return Takes::ReadBut(kept);
+    }
+    if let Rule::Sister = rule {
+        return Takes::Sister(kept);
+    }
+    if let Rule::Foreign = rule {
+        return Takes::Foreign(kept);
     }
     Takes::Ask
 }

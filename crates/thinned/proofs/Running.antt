@@ -1,7 +1,7 @@
 -- One key thinned: what its run goes by (`made-ahead`), what the table says then (`made-key`), and where all begins (`made-none`).
 use mathlib.Core.Path.{_≡_, sym, ap, _∙_, subst}
 use mathlib.Core.List.{List, map, Memᴰ·of-map}
-use Prim.Native.Nat.{ℕ, suc, _+_, _-_, _/_, _≤_, _<_}
+use Prim.Native.Nat.{ℕ, suc, _+_, _-_, _/_, _%_, _≤_, _<_}
 use native.Mathlib.Decide.{ℕ-discrete}
 use native.Mathlib.Omega.{arith}
 use lib.Dec.{eqb}
@@ -17,8 +17,9 @@ use Rattle.sorted.specs.declared.Order.the-variants as Order
 use Rattle.sorted.proofs.Turns.{kept-then, kept-set, kept-take, kept-wider, kept-get}
 use Rattle.area.specs.Area.{stretch, patch}
 use Rattle.states.specs.Spots.{front}
+use Rattle.states.specs.declared.Sieve.{Sieve}
 use Rattle.area.proofs.Stretches.{stretch-length, stretch-get, stretch-below, stretch-above, patch-length, patch-same, patch-take, patch-drop}
-use Rattle.thinned.specs.Thinning.{FromPlaces, thinEnd, ThinRun}
+use Rattle.thinned.specs.Thinning.{groups, FromPlaces, thinEnd, ThinRun}
 use Rattle.thinned.specs.Marks.{Stale, Ahead, Going, Ground, Made}
 use Rattle.thinned.specs.Runs.{cut-as, thin-as, thin-run-as, kept-stretch, sorted-kept}
 
@@ -34,13 +35,13 @@ some-key l = omega (arith, l .some-place)
 
 -- ---- the ground
 
-pub ground-kept : {plan : Plan} {of at : ℕ} {w v : List ℕ} → Ground plan of at w → Kept at (thinEnd plan at) w v → Ground plan of at v
-ground-kept {plan} {of} {at} {w} {v} d c =
+pub ground-kept : {sieve : Sieve} {plan : Plan} {of at : ℕ} {w v : List ℕ} → Ground sieve plan of at w → Kept at (thinEnd sieve plan at) w v → Ground sieve plan of at v
+ground-kept {sieve} {plan} {of} {at} {w} {v} d c =
     let past : plan .base ≤ at = omega (arith, d .past, d .apart) in
     record {
       laid = subst (Laid plan) (sym (c .long)) (d .laid);
-      sorted = sorted-kept Order.Kind plan of at (thinEnd plan at) w v (d .sorted) c past (d .apart) (omega (arith, d .room));
-      places = λ i h. subst (λ g. packIn Order.Kind plan g i / packBy < plan .places) (sym (kept-take c (plan .base) past)) (d .places i h);
+      sorted = sorted-kept Order.Kind plan of at (thinEnd sieve plan at) w v (d .sorted) c past (d .apart) (omega (arith, d .room));
+      places = λ i h. subst (λ g. (packIn Order.Kind plan g i / packBy < plan .places) × (packIn Order.Kind plan g i % packBy ≤ 4096)) (sym (kept-take c (plan .base) past)) (d .places i h);
       past = d .past;
       apart = d .apart;
       room = omega (arith, d .room, c .long);
@@ -49,7 +50,7 @@ ground-kept {plan} {of} {at} {w} {v} d c =
 
 -- a word of a sorted run is what is written of a line
 run-places : (plan : Plan) (of : ℕ) (w : List ℕ) (k : ℕ)
-    → FromPlaces plan w → Run Order.Kind plan of w k → sortedEnd Order.Kind plan of ≤ length w → (p : ℕ) → getD w (of + k) 0 ≤ p → p < getD w (of + suc k) 0 → getD w p 0 / packBy < plan .places
+    → FromPlaces plan w → Run Order.Kind plan of w k → sortedEnd Order.Kind plan of ≤ length w → (p : ℕ) → getD w (of + k) 0 ≤ p → p < getD w (of + suc k) 0 → (getD w p 0 / packBy < plan .places) × (getD w p 0 % packBy ≤ 4096)
 run-places plan of w k places r room p l h =
     let lo = getD w (of + k) 0 in
     let n = getD w (of + suc k) 0 - lo in
@@ -62,30 +63,30 @@ run-places plan of w k places r room p l h =
     let line = Memᴰ·of-map (packIn Order.Kind plan g) (having Order.Kind plan g k) inside in
     let below = count-in 0 (plan .lines) (line .0) .0 (filt-in (λ i. eqb (keyIn Order.Kind plan g i) k) (count 0 (plan .lines)) (line .0) .0 (line .1) .0) .1 in
     let is : packIn Order.Kind plan g (line .0) ≡ getD w p 0 = line .2 ∙ (stretch-get lo n w (p - lo) less ∙ ap (λ x. getD w x 0) sum) in
-    subst (λ x. x / packBy < plan .places) is (places (line .0) (omega (arith, below)))
+    subst (λ x. (x / packBy < plan .places) × (x % packBy ≤ 4096)) is (places (line .0) (omega (arith, below)))
 
-module _ {plan : Plan} {of at : ℕ} where
+module _ {sieve : Sieve} {plan : Plan} {of at : ℕ} where
   -- ---- the run of a key, by the numbers that the code has of it
 
-  module _ {B : ℕ → ℕ} {w : List ℕ} (d : Ground plan of at w) {k : ℕ} (under : k < keys Order.Kind plan) (m : Made plan of at B k w) {s t lo hi b : ℕ}
+  module _ {B : ℕ → ℕ} {w : List ℕ} (d : Ground sieve plan of at w) {k : ℕ} (under : k < keys Order.Kind plan) (m : Made sieve plan of at B k w) {s t lo hi b : ℕ}
       (es : s ≡ sortedEnd Order.Kind plan at) (et : t ≡ suc k) (el : lo ≡ getD w (of + k) 0) (eh : hi ≡ getD w (of + suc k) 0) (eb : b ≡ getD w (at + k) 0) where
     run : Run Order.Kind plan of w k
     run = d .sorted k under
 
-    pub made-ahead : Ahead s (plan .places) t lo hi b w
+    pub made-ahead : Ahead s (groups sieve plan) (plan .places) t lo hi b w
     made-ahead = record {
       fit = (omega (arith, es, d .room), omega (arith, es, d .small));
       rising = omega (arith, el, eh, run .rising);
       apart = omega (arith, eh, eb, run .high, d .apart, m .begins);
       room = omega (arith, es, el, eh, eb, m .few, run .high);
       low = λ p l h. run-places plan of w k (d .places) run (omega (arith, d .apart, d .room)) p (omega (arith, l, el)) (omega (arith, h, eh));
-      stale = subst (λ z. Stale z (plan .places) t w) (sym es) (subst (λ z. Stale (sortedEnd Order.Kind plan at) (plan .places) z w) (sym et) (m .stale));
+      stale = subst (λ z. Stale z (groups sieve plan) t w) (sym es) (subst (λ z. Stale (sortedEnd Order.Kind plan at) (groups sieve plan) z w) (sym et) (m .stale));
       stamp-low = omega (arith, et, under, keys-few (d .laid));
     }
 
     -- ---- the key after its run: the word at its end says where the next key's words begin
 
-    module _ {u : List ℕ} {r q : ℕ} (eq : q ≡ at + suc k) (g : Going s (plan .places) B t lo b hi r w u) where
+    module _ {u : List ℕ} {r q : ℕ} (eq : q ≡ at + suc k) (g : Going sieve B s (groups sieve plan) t lo b hi r w u) where
       abbrev v : List ℕ
       v = set u q r
 
@@ -127,7 +128,7 @@ module _ {plan : Plan} {of at : ℕ} where
           stretch-below c n u q r (omega (arith, x .low, eq, under)) ∙ kept-stretch (g .kept) c n (omega (arith, x .rising, m .before i h, eb)) room
 
       -- its own run
-      own-run : ThinRun B plan of at v k
+      own-run : ThinRun sieve B plan of at v k
       own-run =
           let start = same-at k (omega arith) ∙ sym eb in
           let xs = cut-as _ _ _ _ v w (same-of k (omega (arith, under))) (same-of (suc k) under) (same-run k under) in
@@ -139,12 +140,12 @@ module _ {plan : Plan} {of at : ℕ} where
             has = thin-as (xs ∙ (λ z. stretch (sym el z) (sym eh z - sym el z) w)) ys (g .thin);
           }
 
-      all-runs : (j : ℕ) → j < suc k → ThinRun B plan of at v j
+      all-runs : (j : ℕ) → j < suc k → ThinRun sieve B plan of at v j
       all-runs j h = elim (ℕ-discrete j k) [
-        | yes e ↦ subst (ThinRun B plan of at v) (sym e) own-run
+        | yes e ↦ subst (ThinRun sieve B plan of at v) (sym e) own-run
         | no c ↦
             (let less : j < k = omega (arith, c, h) in
-            thin-run-as B plan of at w v j (same-of j (omega (arith, less, under))) (same-of (suc j) (omega (arith, less, under))) (same-at j (omega (arith, less))) (same-at (suc j) less)
+            thin-run-as sieve B plan of at w v j (same-of j (omega (arith, less, under))) (same-of (suc j) (omega (arith, less, under))) (same-at j (omega (arith, less))) (same-at (suc j) less)
             (same-run j (omega (arith, less, under))) (same-thin j less) (m .runs j less))
       ]
 
@@ -155,17 +156,17 @@ module _ {plan : Plan} {of at : ℕ} where
       ]
 
       -- the marks have its stamp at most, and none is its word
-      run-stale : Stale (sortedEnd Order.Kind plan at) (plan .places) (suc (suc k)) u
-      run-stale = subst (λ z. Stale z (plan .places) (suc (suc k)) u) es (subst (λ z. Stale s (plan .places) (suc z) u) et (g .marked .stale))
+      run-stale : Stale (sortedEnd Order.Kind plan at) (groups sieve plan) (suc (suc k)) u
+      run-stale = subst (λ z. Stale z (groups sieve plan) (suc (suc k)) u) es (subst (λ z. Stale s (groups sieve plan) (suc z) u) et (g .marked .stale))
 
-      all-stale : Stale (sortedEnd Order.Kind plan at) (plan .places) (suc (suc k)) v
+      all-stale : Stale (sortedEnd Order.Kind plan at) (groups sieve plan) (suc (suc k)) v
       all-stale f l =
           let same : (j : ℕ) → sortedEnd Order.Kind plan at ≤ j → getD v j 0 ≡ getD u j 0 = λ j h. getD-set-other u q j r 0 (λ e. omega (arith, e, eq, under, h)) in
           let one = same (sortedEnd Order.Kind plan at + f) (omega arith) in
-          let two = same (sortedEnd Order.Kind plan at + plan .places + f) (omega arith) in
+          let two = same (sortedEnd Order.Kind plan at + groups sieve plan + f) (omega arith) in
           (subst (λ z. z / packBy < suc (suc k)) (sym one) (run-stale f l .0), subst (λ z. z < suc (suc k)) (sym two) (run-stale f l .1))
 
-      pub made-key : Made plan of at B (suc k) v
+      pub made-key : Made sieve plan of at B (suc k) v
       made-key = record {
         begins = omega (arith, end-at, past, g .rising);
         few = omega (arith, end-at, same-of (suc k) under, eh, el, eb, g .few, m .few);
@@ -174,15 +175,15 @@ module _ {plan : Plan} {of at : ℕ} where
         stale = all-stale;
       }
 
-      pub kept-key : Kept at (thinEnd plan at) w v
+      pub kept-key : Kept at (thinEnd sieve plan at) w v
       kept-key =
           kept-then
-          (kept-wider at (thinEnd plan at) (omega (arith, past)) (omega (arith, es)) (g .kept))
-          (kept-set at (thinEnd plan at) u q r (omega (arith, eq)) (omega (arith, eq, under)))
+          (kept-wider at (thinEnd sieve plan at) (omega (arith, past)) (omega (arith, es)) (g .kept))
+          (kept-set at (thinEnd sieve plan at) u q r (omega (arith, eq)) (omega (arith, eq, under)))
 
   -- ---- no key yet
 
-  module _ {w : List ℕ} (d : Ground plan of at w) {b n u : ℕ} (eb : b ≡ sortedEnd Order.Kind plan at) (en : n ≡ plan .places + plan .places) (eu : u ≡ linesFrom Order.Kind plan at) where
+  module _ {w : List ℕ} (d : Ground sieve plan of at w) {b n u : ℕ} (eb : b ≡ sortedEnd Order.Kind plan at) (en : n ≡ groups sieve plan + groups sieve plan) (eu : u ≡ linesFrom Order.Kind plan at) where
     abbrev zeros : List ℕ
     zeros = patch b n (replicate n 0) w
 
@@ -196,11 +197,11 @@ module _ {plan : Plan} {of at : ℕ} where
       long = patch-length b n (replicate n 0) w (length-replicate n 0) fits;
     }
 
-    pub none-kept : Kept at (thinEnd plan at) w (set zeros at u)
+    pub none-kept : Kept at (thinEnd sieve plan at) w (set zeros at u)
     none-kept =
         kept-then
-        (kept-wider at (thinEnd plan at) (omega (arith, eb)) (omega (arith, eb, en)) zeros-kept)
-        (kept-set at (thinEnd plan at) zeros at u (omega arith) (omega arith))
+        (kept-wider at (thinEnd sieve plan at) (omega (arith, eb)) (omega (arith, eb, en)) zeros-kept)
+        (kept-set at (thinEnd sieve plan at) zeros at u (omega arith) (omega arith))
 
     -- a mark is 0
     no-mark : (i : ℕ) → i < n → getD (set zeros at u) (sortedEnd Order.Kind plan at + i) 0 ≡ 0
@@ -210,7 +211,7 @@ module _ {plan : Plan} {of at : ℕ} where
         ∙ (sym (stretch-get b n zeros i h)
         ∙ (ap (λ l. getD l i 0) (patch-same b n (replicate n 0) w (length-replicate n 0) fits) ∙ getD-replicate n i 0 0 h)))
 
-    pub made-none : (B : ℕ → ℕ) → Made plan of at B 0 (set zeros at u)
+    pub made-none : (B : ℕ → ℕ) → Made sieve plan of at B 0 (set zeros at u)
     made-none B =
         let here : at + 0 ≡ at = omega arith in
         let head : getD (set zeros at u) (at + 0) 0 ≡ u = ap (λ x. getD (set zeros at u) x 0) here ∙ getD-set-same zeros at u 0 (omega (arith, zeros-kept .long, d .room)) in
@@ -221,8 +222,8 @@ module _ {plan : Plan} {of at : ℕ} where
           runs = λ j h. absurd (omega arith);
           before = λ j h. absurd (omega arith);
           stale = λ f l.
-              let sum : sortedEnd Order.Kind plan at + plan .places + f ≡ sortedEnd Order.Kind plan at + (plan .places + f) = omega arith in
+              let sum : sortedEnd Order.Kind plan at + groups sieve plan + f ≡ sortedEnd Order.Kind plan at + (groups sieve plan + f) = omega arith in
               let one = no-mark f (omega (arith, en, l)) in
-              let two = ap (λ x. getD (set zeros at u) x 0) sum ∙ no-mark (plan .places + f) (omega (arith, en, l)) in
+              let two = ap (λ x. getD (set zeros at u) x 0) sum ∙ no-mark (groups sieve plan + f) (omega (arith, en, l)) in
               (omega (arith, one), omega (arith, two));
         }

@@ -31,7 +31,7 @@ same-length c = search needs
 returns : tie.Need-returns
 returns c =
     let a = c .before .before .before .before .before .before .before .before .before .before .before .before in
-    let place : a .args .plan .thin + (a .args .i - a .args .plan .thin) ≡ a .args .i = omega (arith, a .pre .1 .0) in
+    let place : a .args .table .at + (a .args .i - a .args .table .at) ≡ a .args .i = omega (arith, a .pre .1 .0) in
     (refl, c .before .before .write2 .ensures ∙ (λ t. set ((c .before .before .before .before .before .before .before .before .write .ensures) t) (place t) (a .args .x)))
 
 pub keep-word-spec : {M : Type 1} → statement M
