@@ -9,15 +9,18 @@ use lib.Dec.{eqb}
 use borrow.Author.Tests.{eq-eqb, ne-eqb}
 use Rattle.meaning.specs.Language.{Compared, unread, same-boat, same-class, other-class, meets}
 use Rattle.meaning.specs.Pattern.{same, other}
+use Rattle.positions.specs.Program.{bitOf}
 use Rattle.positions.specs.declared.Rule.{Rule}
 use Rattle.positions.proofs.Rule.{the-type}
 use denote.Enum.Declared.{tagOf}
 use types.Run.{OneOf, miss}
 use Rattle.positions.specs.declared.Rule.the-variants as Rule
 use Rattle.boats.specs.Table.{classIn, toldBy}
-use Rattle.states.specs.Spots.{metBy, okay, readBy, readBut}
+use Rattle.states.specs.Spots.{toldShown, outcomeBit, outcomes, metBy, okay, readBy, readBut}
 use Rattle.states.specs.Served.{Served, read-but, nobody}
 use Rattle.states.specs.declared.Spot.{Spot}
+use Rattle.states.specs.declared.Told.{Told}
+use Rattle.states.specs.declared.Told.the-variants as Told
 
 module _ (B : ℕ → ℕ) (x y : ℕ) where
   pub told-unread : B x ≡ 0 → toldBy B x y ≡ unread
@@ -37,33 +40,30 @@ module _ (B : ℕ → ℕ) (x y : ℕ) where
 
 -- ---- what a rule takes
 
--- the rules that an `if let` leaves, by their tags: all but one
-abbrev Left : List ℕ → Rule → Type 0
-Left tags r = OneOf tags (tagOf the-type r)
+-- the bits of a rule's mask are what it takes
+abbrev BitMet : Rule → Compared → ℕ → Type 0
+BitMet r o i = eqb (bitOf (outcomes r) i) 1 ≡ metBy r o
 
+bits-met : (r : Rule) → BitMet r unread 0 × BitMet r same-boat 1 × BitMet r same-class 2 × BitMet r other-class 3
+bits-met Rule.Never = (refl, refl, refl, refl)
+bits-met Rule.Always = (refl, refl, refl, refl)
+bits-met Rule.Same = (refl, refl, refl, refl)
+bits-met Rule.Other = (refl, refl, refl, refl)
+bits-met Rule.Sister = (refl, refl, refl, refl)
+bits-met Rule.Foreign = (refl, refl, refl, refl)
+
+pub bit-met : (r : Rule) (o : Told) → BitMet r (toldShown o) (outcomeBit o)
+bit-met r Told.Unread = bits-met r .0
+bit-met r Told.SameBoat = bits-met r .1
+bit-met r Told.SameClass = bits-met r .2
+bit-met r Told.OtherClass = bits-met r .3
+
+-- the rules that are not Always, by their tags
 abbrev notAlways : List ℕ
 notAlways = 0 ∷ 2 ∷ 3 ∷ 4 ∷ 5 ∷ []
 
-abbrev notSame : List ℕ
-notSame = 0 ∷ 1 ∷ 3 ∷ 4 ∷ 5 ∷ []
-
-abbrev notOther : List ℕ
-notOther = 0 ∷ 1 ∷ 2 ∷ 4 ∷ 5 ∷ []
-
-abbrev notSister : List ℕ
-notSister = 0 ∷ 1 ∷ 2 ∷ 3 ∷ 5 ∷ []
-
-abbrev notForeign : List ℕ
-notForeign = 0 ∷ 1 ∷ 2 ∷ 3 ∷ 4 ∷ []
-
--- a rule that is none of the other five takes nothing
-pub never-left : (r : Rule) → Left notAlways r → Left notSame r → Left notOther r → Left notSister r → Left notForeign r → (o : Compared) → false ≡ metBy r o
-never-left Rule.Never a s t u v o = refl
-never-left Rule.Always a s t u v o = absurd (miss notAlways 1 tt a)
-never-left Rule.Same a s t u v o = absurd (miss notSame 2 tt s)
-never-left Rule.Other a s t u v o = absurd (miss notOther 3 tt t)
-never-left Rule.Sister a s t u v o = absurd (miss notSister 4 tt u)
-never-left Rule.Foreign a s t u v o = absurd (miss notForeign 5 tt v)
+abbrev Left : List ℕ → Rule → Type 0
+Left tags r = OneOf tags (tagOf the-type r)
 
 -- a rule that does not take everybody takes no unread boat
 unread-left : (r : Rule) → Left notAlways r → metBy r unread ≡ false
