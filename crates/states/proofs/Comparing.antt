@@ -1,7 +1,7 @@
 -- Comparing two boats by their numbers, and what a rule takes of it.
 use mathlib.Core.Path.{_≡_, refl, sym, ap, _∙_}
 use mathlib.Core.Bool.{Bool, true, false, cond, not, _&&_, _||_, and-false, or-true}
-use mathlib.Core.List.{List, [], _∷_}
+use mathlib.Core.List.{[], _∷_}
 use Prim.Native.Nat.{ℕ, _/_, _%_}
 use native.Mathlib.Decide.{ℕ-discrete}
 use native.Mathlib.Omega.{arith}
@@ -58,17 +58,14 @@ bit-met r Told.SameBoat = bits-met r .1
 bit-met r Told.SameClass = bits-met r .2
 bit-met r Told.OtherClass = bits-met r .3
 
--- the rules that are not Always, by their tags
-abbrev notAlways : List ℕ
-notAlways = 0 ∷ 2 ∷ 3 ∷ 4 ∷ 5 ∷ []
+-- a rule that does not take everybody, by its tag
+abbrev NotAlways : Rule → Type 0
+NotAlways r = OneOf (0 ∷ 2 ∷ 3 ∷ 4 ∷ 5 ∷ []) (tagOf the-type r)
 
-abbrev Left : List ℕ → Rule → Type 0
-Left tags r = OneOf tags (tagOf the-type r)
-
--- a rule that does not take everybody takes no unread boat
-unread-left : (r : Rule) → Left notAlways r → metBy r unread ≡ false
+-- it takes no unread boat
+unread-left : (r : Rule) → NotAlways r → metBy r unread ≡ false
 unread-left Rule.Never a = refl
-unread-left Rule.Always a = absurd (miss notAlways 1 tt a)
+unread-left Rule.Always a = absurd (miss (0 ∷ 2 ∷ 3 ∷ 4 ∷ 5 ∷ []) 1 tt a)
 unread-left Rule.Same a = refl
 unread-left Rule.Other a = refl
 unread-left Rule.Sister a = refl
@@ -90,7 +87,7 @@ module _ (B : ℕ → ℕ) (R : ℕ) (s : Spot) (x v : ℕ) where
   okay-never e = rw e
 
   -- where the kept boat is unread, a rule that compares takes nobody
-  pub okay-unkept : Left notAlways (s .rule) → B kept ≡ 0 → okay B R s x v ≡ false
+  pub okay-unkept : NotAlways (s .rule) → B kept ≡ 0 → okay B R s x v ≡ false
   unfolding okay
   okay-unkept e none = ap (metBy (s .rule)) (told-unkept B x kept none) ∙ unread-left (s .rule) e
 
