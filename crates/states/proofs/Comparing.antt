@@ -2,7 +2,7 @@
 use mathlib.Core.Path.{_≡_, refl, sym, ap, _∙_, subst}
 use mathlib.Core.Bool.{Bool, true, false, cond, not, _&&_, _||_, and-false, or-true, false≢true}
 use mathlib.Core.Logic.{inl, inr}
-use mathlib.Core.List.{List, [], _∷_}
+use mathlib.Core.List.{[], _∷_}
 use Prim.Native.Nat.{ℕ, suc, _/_, _%_}
 use native.Mathlib.Decide.{ℕ-discrete}
 use native.Mathlib.Omega.{arith}
@@ -10,17 +10,20 @@ use lib.Dec.{eqb}
 use borrow.Author.Tests.{eq-eqb, ne-eqb, eqb-true, eqb-false}
 use Rattle.meaning.specs.Language.{Compared, unread, same-boat, same-class, other-class, meets}
 use Rattle.meaning.specs.Pattern.{same, other, sister, foreign}
+use Rattle.positions.specs.Program.{bitOf}
 use Rattle.positions.specs.declared.Rule.{Rule}
 use Rattle.positions.proofs.Rule.{the-type}
 use denote.Enum.Declared.{tagOf}
 use types.Run.{OneOf, miss}
 use Rattle.positions.specs.declared.Rule.the-variants as Rule
 use Rattle.boats.specs.Table.{classIn, toldBy}
-use Rattle.states.specs.Spots.{metBy, okay, readBy, readBut, sisterOf, foreignTo}
+use Rattle.states.specs.Spots.{toldShown, outcomeBit, outcomes, metBy, okay, readBy, readBut, sisterOf, foreignTo}
 use Rattle.states.specs.Served.{boatKey, classKey, but, nobody, ServedBy}
 use Rattle.states.specs.declared.Sieve.{Sieve}
 use Rattle.states.specs.declared.Sieve.the-variants as Sieve
 use Rattle.states.specs.declared.Spot.{Spot}
+use Rattle.states.specs.declared.Told.{Told}
+use Rattle.states.specs.declared.Told.the-variants as Told
 
 module _ (B : ℕ → ℕ) (x y : ℕ) where
   pub told-unread : B x ≡ 0 → toldBy B x y ≡ unread
@@ -51,47 +54,41 @@ both false b e = absurd (false≢true e)
 
 -- ---- what a rule takes
 
--- the rules that an `if let` leaves, by their tags: all but one
-abbrev Left : List ℕ → Rule → Type 0
-Left tags r = OneOf tags (tagOf the-type r)
+-- the bits of a rule's mask are what it takes
+abbrev BitMet : Rule → Compared → ℕ → Type 0
+BitMet r o i = eqb (bitOf (outcomes r) i) 1 ≡ metBy r o
 
-abbrev notAlways : List ℕ
-notAlways = 0 ∷ 2 ∷ 3 ∷ 4 ∷ 5 ∷ []
+bits-met : (r : Rule) → BitMet r unread 0 × BitMet r same-boat 1 × BitMet r same-class 2 × BitMet r other-class 3
+bits-met Rule.Never = (refl, refl, refl, refl)
+bits-met Rule.Always = (refl, refl, refl, refl)
+bits-met Rule.Same = (refl, refl, refl, refl)
+bits-met Rule.Other = (refl, refl, refl, refl)
+bits-met Rule.Sister = (refl, refl, refl, refl)
+bits-met Rule.Foreign = (refl, refl, refl, refl)
 
-abbrev notSame : List ℕ
-notSame = 0 ∷ 1 ∷ 3 ∷ 4 ∷ 5 ∷ []
+pub bit-met : (r : Rule) (o : Told) → BitMet r (toldShown o) (outcomeBit o)
+bit-met r Told.Unread = bits-met r .0
+bit-met r Told.SameBoat = bits-met r .1
+bit-met r Told.SameClass = bits-met r .2
+bit-met r Told.OtherClass = bits-met r .3
 
-abbrev notOther : List ℕ
-notOther = 0 ∷ 1 ∷ 2 ∷ 4 ∷ 5 ∷ []
+-- a rule that does not take everybody, by its tag
+abbrev NotAlways : Rule → Type 0
+NotAlways r = OneOf (0 ∷ 2 ∷ 3 ∷ 4 ∷ 5 ∷ []) (tagOf the-type r)
 
-abbrev notSister : List ℕ
-notSister = 0 ∷ 1 ∷ 2 ∷ 3 ∷ 5 ∷ []
-
-abbrev notForeign : List ℕ
-notForeign = 0 ∷ 1 ∷ 2 ∷ 3 ∷ 4 ∷ []
-
-left-other : Left notAlways Rule.Other
+left-other : NotAlways Rule.Other
 left-other = inr (inr (inl refl))
 
-left-sister : Left notAlways Rule.Sister
+left-sister : NotAlways Rule.Sister
 left-sister = inr (inr (inr (inl refl)))
 
-left-foreign : Left notAlways Rule.Foreign
+left-foreign : NotAlways Rule.Foreign
 left-foreign = inr (inr (inr (inr refl)))
 
--- a rule that is none of the other five takes nothing
-pub never-left : (r : Rule) → Left notAlways r → Left notSame r → Left notOther r → Left notSister r → Left notForeign r → (o : Compared) → false ≡ metBy r o
-never-left Rule.Never a s t u v o = refl
-never-left Rule.Always a s t u v o = absurd (miss notAlways 1 tt a)
-never-left Rule.Same a s t u v o = absurd (miss notSame 2 tt s)
-never-left Rule.Other a s t u v o = absurd (miss notOther 3 tt t)
-never-left Rule.Sister a s t u v o = absurd (miss notSister 4 tt u)
-never-left Rule.Foreign a s t u v o = absurd (miss notForeign 5 tt v)
-
--- a rule that does not take everybody takes no unread boat
-unread-left : (r : Rule) → Left notAlways r → metBy r unread ≡ false
+-- it takes no unread boat
+unread-left : (r : Rule) → NotAlways r → metBy r unread ≡ false
 unread-left Rule.Never a = refl
-unread-left Rule.Always a = absurd (miss notAlways 1 tt a)
+unread-left Rule.Always a = absurd (miss (0 ∷ 2 ∷ 3 ∷ 4 ∷ 5 ∷ []) 1 tt a)
 unread-left Rule.Same a = refl
 unread-left Rule.Other a = refl
 unread-left Rule.Sister a = refl
@@ -113,7 +110,7 @@ module _ (B : ℕ → ℕ) (R : ℕ) (s : Spot) (x v : ℕ) where
   okay-never e = rw e
 
   -- where the kept boat is unread, a rule that compares takes nobody
-  pub okay-unkept : Left notAlways (s .rule) → B kept ≡ 0 → okay B R s x v ≡ false
+  pub okay-unkept : NotAlways (s .rule) → B kept ≡ 0 → okay B R s x v ≡ false
   unfolding okay
   okay-unkept e none = ap (metBy (s .rule)) (told-unkept B x kept none) ∙ unread-left (s .rule) e
 
@@ -238,17 +235,17 @@ module _ (B : ℕ → ℕ) (R : ℕ) (s : Spot) (v : ℕ) where
   at = v / s .level % R
 
   -- where the kept boat is unread, nobody
-  rule-served : (sieve : Sieve) → Left notAlways (s .rule) → ((B at ≡ 0 → ⊥) → ServedBy sieve B (λ x. okay B R s x v)) → ServedBy sieve B (λ x. okay B R s x v)
+  rule-served : (sieve : Sieve) → NotAlways (s .rule) → ((B at ≡ 0 → ⊥) → ServedBy sieve B (λ x. okay B R s x v)) → ServedBy sieve B (λ x. okay B R s x v)
   rule-served sieve left read = elim (ℕ-discrete (B at) 0) [
     | yes none ↦ nobody (λ x. okay-unkept B R s x v left none)
     | no some ↦ read some
   ]
 
   pub other-served : s .rule ≡ Rule.Other → ServedBy Sieve.Boats B (λ x. okay B R s x v)
-  other-served e = rule-served Sieve.Boats (subst (Left notAlways) (sym e) left-other) (λ some. read-served B at _ (λ x. okay-other-read B R s x v e some))
+  other-served e = rule-served Sieve.Boats (subst NotAlways (sym e) left-other) (λ some. read-served B at _ (λ x. okay-other-read B R s x v e some))
 
   pub sister-always : s .rule ≡ Rule.Sister → ServedBy Sieve.Sisters B (λ x. okay B R s x v)
-  sister-always e = rule-served Sieve.Sisters (subst (Left notAlways) (sym e) left-sister) (λ some. sister-served B at _ (λ x. okay-sister-read B R s x v e some))
+  sister-always e = rule-served Sieve.Sisters (subst NotAlways (sym e) left-sister) (λ some. sister-served B at _ (λ x. okay-sister-read B R s x v e some))
 
   pub foreign-always : s .rule ≡ Rule.Foreign → ServedBy Sieve.Classes B (λ x. okay B R s x v)
-  foreign-always e = rule-served Sieve.Classes (subst (Left notAlways) (sym e) left-foreign) (λ some. foreign-served B at _ (λ x. okay-foreign-read B R s x v e some))
+  foreign-always e = rule-served Sieve.Classes (subst NotAlways (sym e) left-foreign) (λ some. foreign-served B at _ (λ x. okay-foreign-read B R s x v e some))

@@ -66,6 +66,21 @@ metBy Rule.Other o = meets other o
 metBy Rule.Sister o = meets sister o
 metBy Rule.Foreign o = meets foreign o
 
+-- the outcomes that a rule takes, as a mask, and the bit of an outcome in it
+abbrev pub outcomes : Rule → ℕ
+outcomes Rule.Never = 0
+outcomes Rule.Always = 15
+outcomes Rule.Same = 2
+outcomes Rule.Other = 12
+outcomes Rule.Sister = 4
+outcomes Rule.Foreign = 8
+
+abbrev pub outcomeBit : Told → ℕ
+outcomeBit Told.Unread = 0
+outcomeBit Told.SameBoat = 1
+outcomeBit Told.SameClass = 2
+outcomeBit Told.OtherClass = 3
+
 -- ---- a position by its numbers
 
 unfoldable pub spotIn : List ℕ → ℕ → ℕ → Spot
