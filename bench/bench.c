@@ -664,7 +664,7 @@ static struct request *slowest(const char *name, unsigned test, unsigned boats, 
 
 /* The full days stand by twos, each request about the day read and then about the day with a third unread. */
 enum { FULL = 1, FULL_END = 7, CASES = 14, SLOWEST = CASES + 16, CLASSES = SLOWEST + 2, FULL_CLASSES = CLASSES + 2,
-       FULL_CLASSES_END = FULL_CLASSES + 4, SLOWEST_CLASSES = FULL_CLASSES_END + 2, ROWS = SLOWEST_CLASSES + 4 };
+       FULL_CLASSES_END = FULL_CLASSES + 4, SLOWEST_CLASSES = FULL_CLASSES_END + 2, ROWS = SLOWEST_CLASSES + 6 };
 
 /* Is the row one of the slowest requests, which stand apart from the table? */
 static int is_slowest(int i) { return (i >= SLOWEST && i < CLASSES) || i >= SLOWEST_CLASSES; }
@@ -721,13 +721,17 @@ static struct request *row(unsigned i)
     case FULL_CLASSES_END + 1:
         return largest_one_keep("largest size, 1,024 places, other classes", 0, FOREIGN, 3);
     case SLOWEST_CLASSES:
-        return slowest("one place, 4,096 boats of 64 classes, 28, one keep", SISTER, 4096, 64, 1);
+        return slowest("28: one place, 4,096 boats of one class, one keep", SISTER, 4096, 1, 1);
     case SLOWEST_CLASSES + 1:
-        return slowest("one place, 127 boats of 63 classes, 28, two keeps", SISTER, 127, 63, 2);
+        return slowest("28: one place, 127 boats of one class, two keeps", SISTER, 127, 1, 2);
     case SLOWEST_CLASSES + 2:
-        return slowest("one place, 4,096 boats of 64 classes, 29, one keep", FOREIGN, 4096, 64, 1);
+        return slowest("28: one place, 4,096 boats of 64 classes, one keep", SISTER, 4096, 64, 1);
     case SLOWEST_CLASSES + 3:
-        return slowest("one place, 127 boats of 63 classes, 29, two keeps", FOREIGN, 127, 63, 2);
+        return slowest("28: one place, 127 boats of 64 classes, two keeps", SISTER, 127, 64, 2);
+    case SLOWEST_CLASSES + 4:
+        return slowest("29: one place, 4,096 boats of 64 classes, one keep", FOREIGN, 4096, 64, 1);
+    case SLOWEST_CLASSES + 5:
+        return slowest("29: one place, 127 boats of 64 classes, two keeps", FOREIGN, 127, 64, 2);
     }
     unsigned step = (i - CASES) % 4;
     switch ((i - CASES) / 4) {
