@@ -1,8 +1,8 @@
 //! Requests made at random, leaning towards what goes wrong: laps and self-loops, so that
 //! chains get longer than the list of places; nested keeps that use a slot again; one
-//! sail number in two classes and several numbers in one; days with many unread numbers; patterns that accept the empty
-//! word under repeat; every question at its edge; damaged bytes; areas and outputs that fit
-//! exactly or just don't.
+//! sail number in two classes, and several numbers in one; days with many unread numbers;
+//! patterns that accept the empty word under repeat; every question at its edge; damaged
+//! bytes; areas and outputs that fit exactly or just don't.
 
 use crate::membership::{compared, takes, Letter, Valuation};
 use crate::pattern::{read_pattern, Node, Rule};
