@@ -3,18 +3,21 @@
    output are dirtied before every call, outside the clock. The calls of a sample alternate between the programs; each program
    makes as many as last at least BATCH together.
 
-   bench [ROW...]                    the table, or these rows of it, numbered from 0; after it, where both were measured, the full
-                                     days with a third of their lines unread by the same days read
+   bench [ROW...]                    the table, or these rows, numbered from 0; after it, where both were measured, the full days with
+                                     a third of their lines unread by the same days read
    bench --slowest                   the slowest requests, one call each
    bench --call ROW PROGRAM TIMES    calls alone, for a profiler; programs are 0 library, 1 C, 2 C grouped, 3 second
 
    Linked with an earlier build of the library, whose functions are then old_chains_*, it times that and the present one alone:
 
-   bench [--differ] [ROW...]         the table, or these rows; the slowest requests are numbered after its rows
+   bench [--differ] [ROW...]         the table, or these rows
    bench [--differ] --slowest        the table and the slowest requests
    bench --call ROW PROGRAM TIMES    as above; 4 is the earlier build
 
-   It stops at a row where the replies of the two differ; with --differ it says what the reply was and goes on. */
+   It stops at a row where the replies of the two differ; with --differ it says what the reply was and goes on. A row whose pattern the
+   earlier build refuses with 8, as one with a command that it does not have, is left out; with --differ it is timed.
+
+   Rows have their numbers for good, so the slowest requests stand among them: 30 and 31, and those from 40 on. */
 #include "hand.h"
 
 #include <math.h>
@@ -336,7 +339,7 @@ static void shuffle(struct request *r)
     }
 }
 
-enum { NOTHING = 0x20, LINE, SAME, OTHER, EITHER, THEN, REPEAT, KEEP };
+enum { NOTHING = 0x20, LINE, SAME, OTHER, EITHER, THEN, REPEAT, KEEP, SISTER, FOREIGN };
 
 static void byte(struct request *r, unsigned b) { r->pat[r->pat_len++] = b; }
 
@@ -348,13 +351,13 @@ static void command(struct request *r, unsigned code, unsigned kind, unsigned sl
         byte(r, slot);
 }
 
-/* One of `count` patterns, each `other` of the kind and one of the slots. */
-static void others(struct request *r, unsigned count, unsigned kind, unsigned slots)
+/* One of `count` patterns, each this test of the kind and one of the slots. */
+static void tests(struct request *r, unsigned test, unsigned count, unsigned kind, unsigned slots)
 {
     for (unsigned i = 0; i < count; i++) {
         if (i + 1 < count)
             byte(r, EITHER);
-        command(r, OTHER, kind, i % slots);
+        command(r, test, kind, i % slots);
     }
 }
 
@@ -369,11 +372,12 @@ static struct request *fresh(const char *name)
 
 /* ---- the cases */
 
-/* Desk 0, start 1, four of the marks 2 to 8 for each class, hut 9. 60 boats in three classes; a few do not start or finish. */
-static struct request *typical_day(void)
+/* Desk 0, start 1, four of the marks 2 to 8 for each class, hut 9. 60 boats in three classes; a few do not start or finish. A boat
+   entered; by the test that boat, another of its class or one of another class started, rounded or not, and finished. */
+static struct request *typical_day(const char *name, unsigned test)
 {
     static const uint8_t course[3][4] = {{2, 3, 4, 5}, {3, 5, 7, 8}, {6, 4, 2, 8}};
-    struct request *r = fresh("typical day");
+    struct request *r = fresh(name);
     begin_day(r, 10);
     for (unsigned b = 0; b < 60; b++) {
         unsigned class = b % 3, sail = 100 + b;
@@ -394,14 +398,13 @@ static struct request *typical_day(void)
     shuffle(r);
     r->from = 0;
     r->to = 9;
-    /* Entered, that boat started, rounded or not, finished. */
     command(r, KEEP, 1, 0);
     byte(r, THEN);
-    command(r, SAME, 2, 0);
+    command(r, test, 2, 0);
     byte(r, THEN);
     byte(r, REPEAT);
-    command(r, SAME, 3, 0);
-    command(r, SAME, 4, 0);
+    command(r, test, 3, 0);
+    command(r, test, 4, 0);
     return r;
 }
 
@@ -478,20 +481,20 @@ static struct request *full_day_twice(void)
     return r;
 }
 
-static struct request *full_day_others(void)
+static struct request *full_day_others(const char *name, unsigned test)
 {
-    struct request *r = fresh("full day, others twice");
+    struct request *r = fresh(name);
     full_record(r);
-    /* Entered; twice: another boat started, others rounded; another finished. */
+    /* Entered; twice, by the test: another boat started, others rounded; another finished. */
     command(r, KEEP, 1, 0);
     for (unsigned start = 0; start < 2; start++) {
         byte(r, THEN);
-        command(r, OTHER, 2, 0);
+        command(r, test, 2, 0);
         byte(r, THEN);
         byte(r, REPEAT);
-        command(r, OTHER, 3, 0);
+        command(r, test, 3, 0);
     }
-    command(r, OTHER, 4, 0);
+    command(r, test, 4, 0);
     return r;
 }
 
@@ -512,22 +515,22 @@ static unsigned place_before(const struct request *r, unsigned place)
     return line[1] * 256u + line[2];
 }
 
-/* 1,024 places in two halves that no line joins, 63 boats, one kind: size 1,048,576. */
-static struct request *largest_one_keep(int near, const char *name)
+/* 1,024 places in two halves that no line joins, 63 boats of so many classes, one kind: size 1,048,576. */
+static struct request *largest_one_keep(const char *name, int near, unsigned test, unsigned classes)
 {
     struct request *r = fresh(name);
     begin_day(r, 1024);
     for (unsigned i = 0; i < 4096; i++) {
         unsigned half = i % 2 * 512;
-        add(r, half + below(512), 1, 1, i % 63, half + below(512));
+        add(r, half + below(512), 1, 1 + i % 63 % classes, i % 63, half + below(512));
     }
     r->to = 512;
     r->from = near ? place_before(r, place_before(r, 512)) : 0;
-    /* A boat kept, then others, and any line last. */
+    /* A boat kept, then others by the test, and any line last. */
     command(r, KEEP, 1, 0);
     byte(r, THEN);
     byte(r, REPEAT);
-    others(r, 6, 1, 1);
+    tests(r, test, 6, 1, 1);
     command(r, LINE, 1, 0);
     return r;
 }
@@ -550,7 +553,7 @@ static struct request *largest_two_keeps(void)
     command(r, OTHER, 1, 0);
     command(r, KEEP, 1, 1);
     byte(r, REPEAT);
-    others(r, 17, 1, 2);
+    tests(r, OTHER, 17, 1, 2);
     return r;
 }
 
@@ -639,20 +642,20 @@ static struct request *growth(const char *name, unsigned places, unsigned count,
     return r;
 }
 
-/* One place, 4,096 lines, as many positions that follow each other as there can be, each with a test. The first keep is of a
+/* One place, 4,096 lines, as many positions that follow each other as there can be, each with the test. The first keep is of a
    kind that no line has. */
-static struct request *slowest(const char *name, unsigned boats, unsigned keeps)
+static struct request *slowest(const char *name, unsigned test, unsigned boats, unsigned classes, unsigned keeps)
 {
     struct request *r = fresh(name);
     begin_day(r, 1);
     for (unsigned i = 0; i < 4096; i++)
-        add(r, 0, 1, 1, i % boats, 0);
+        add(r, 0, 1, 1 + i % boats % classes, i % boats, 0);
     for (unsigned k = 0; k < keeps; k++)
         command(r, KEEP, k == 0 ? 2 : 1, k);
     byte(r, REPEAT);
     if (keeps == 2) /* to have 63 commands */
         byte(r, REPEAT);
-    others(r, (63 - keeps) / 2, 1, keeps);
+    tests(r, test, (63 - keeps) / 2, 1, keeps);
     r->left_out |= 1 << SECOND;
     return r;
 }
@@ -660,13 +663,17 @@ static struct request *slowest(const char *name, unsigned boats, unsigned keeps)
 /* ---- the runs */
 
 /* The full days stand by twos, each request about the day read and then about the day with a third unread. */
-enum { FULL = 1, FULL_END = 7, CASES = 14, ROWS = CASES + 16, SLOWEST = 2 };
+enum { FULL = 1, FULL_END = 7, CASES = 14, SLOWEST = CASES + 16, CLASSES = SLOWEST + 2, FULL_CLASSES = CLASSES + 2,
+       FULL_CLASSES_END = FULL_CLASSES + 4, SLOWEST_CLASSES = FULL_CLASSES_END + 2, ROWS = SLOWEST_CLASSES + 6 };
+
+/* Is the row one of the slowest requests, which stand apart from the table? */
+static int is_slowest(int i) { return (i >= SLOWEST && i < CLASSES) || i >= SLOWEST_CLASSES; }
 
 static struct request *row(unsigned i)
 {
     switch (i) {
     case 0:
-        return typical_day();
+        return typical_day("typical day", SAME);
     case 1:
         return full_day_laps();
     case 2:
@@ -676,13 +683,13 @@ static struct request *row(unsigned i)
     case 4:
         return with_third_unread(full_day_twice());
     case 5:
-        return full_day_others();
+        return full_day_others("full day, others twice", OTHER);
     case 6:
-        return with_third_unread(full_day_others());
+        return with_third_unread(full_day_others("full day, others twice", OTHER));
     case 7:
-        return largest_one_keep(0, "largest size, 1,024 places, one keep");
+        return largest_one_keep("largest size, 1,024 places, one keep", 0, OTHER, 1);
     case 8:
-        return largest_one_keep(1, "largest size, 1,024 places, a chain near by");
+        return largest_one_keep("largest size, 1,024 places, a chain near by", 1, OTHER, 1);
     case 9:
         return largest_two_keeps();
     case 10:
@@ -693,10 +700,38 @@ static struct request *row(unsigned i)
         return long_check();
     case 13:
         return wide_check();
-    case ROWS:
-        return slowest("one place, 4,096 lines, 4,096 boats, one keep", 4096, 1);
-    case ROWS + 1:
-        return slowest("one place, 4,096 lines, 127 boats, two keeps", 127, 2);
+    case SLOWEST:
+        return slowest("one place, 4,096 lines, 4,096 boats, one keep", OTHER, 4096, 1, 1);
+    case SLOWEST + 1:
+        return slowest("one place, 4,096 lines, 127 boats, two keeps", OTHER, 127, 1, 2);
+    case CLASSES:
+        return typical_day("typical day, a lent sail", SISTER);
+    case CLASSES + 1:
+        return typical_day("typical day, another class", FOREIGN);
+    case FULL_CLASSES:
+        return full_day_others("full day, lent sails twice", SISTER);
+    case FULL_CLASSES + 1:
+        return with_third_unread(full_day_others("full day, lent sails twice", SISTER));
+    case FULL_CLASSES + 2:
+        return full_day_others("full day, other classes twice", FOREIGN);
+    case FULL_CLASSES + 3:
+        return with_third_unread(full_day_others("full day, other classes twice", FOREIGN));
+    case FULL_CLASSES_END:
+        return largest_one_keep("largest size, 1,024 places, lent sails", 0, SISTER, 3);
+    case FULL_CLASSES_END + 1:
+        return largest_one_keep("largest size, 1,024 places, other classes", 0, FOREIGN, 3);
+    case SLOWEST_CLASSES:
+        return slowest("28: one place, 4,096 boats of one class, one keep", SISTER, 4096, 1, 1);
+    case SLOWEST_CLASSES + 1:
+        return slowest("28: one place, 127 boats of one class, two keeps", SISTER, 127, 1, 2);
+    case SLOWEST_CLASSES + 2:
+        return slowest("28: one place, 4,096 boats of 64 classes, one keep", SISTER, 4096, 64, 1);
+    case SLOWEST_CLASSES + 3:
+        return slowest("28: one place, 127 boats of 64 classes, two keeps", SISTER, 127, 64, 2);
+    case SLOWEST_CLASSES + 4:
+        return slowest("29: one place, 4,096 boats of 64 classes, one keep", FOREIGN, 4096, 64, 1);
+    case SLOWEST_CLASSES + 5:
+        return slowest("29: one place, 127 boats of 64 classes, two keeps", FOREIGN, 127, 64, 2);
     }
     unsigned step = (i - CASES) % 4;
     switch ((i - CASES) / 4) {
@@ -715,7 +750,7 @@ static struct request *row(unsigned i)
 static void compare_unread(double least[][PROGRAMS])
 {
     int titled = 0;
-    for (int i = FULL; i < FULL_END; i += 2) {
+    for (int i = FULL; i < FULL_CLASSES_END; i = i + 2 == FULL_END ? FULL_CLASSES : i + 2) {
         if (least[i][LIBRARY] == 0 || least[i + 1][LIBRARY] == 0)
             continue;
         if (!titled)
@@ -745,11 +780,17 @@ static int profiled(char **argument)
     return 0;
 }
 
+/* Has the pattern a command that the earlier build does not know? */
+static int not_known_before(const struct request *r)
+{
+    return before && !differ && old_chains_words(r->rec, r->rec_len, r->pat, r->pat_len) >> 32 == 8;
+}
+
 int main(int count, char **argument)
 {
     read_clock_cost();
     before = old_chains_find != NULL;
-    int rows = before ? ROWS + SLOWEST : ROWS, all = ROWS;
+    int slowest_too = 0;
     if (before && count > 1 && strcmp(argument[1], "--differ") == 0) {
         differ = 1;
         count--;
@@ -760,17 +801,18 @@ int main(int count, char **argument)
     if (count == 2 && strcmp(argument[1], "--slowest") == 0) {
         if (!before) {
             printf("| case | reply | states reached | C, s | C grouped, s | library, s |\n|---|---|---|---|---|---|\n");
-            for (int i = ROWS; i < ROWS + SLOWEST; i++)
-                measure_once(row(i));
+            for (int i = 0; i < ROWS; i++)
+                if (is_slowest(i))
+                    measure_once(row(i));
             return 0;
         }
-        all = rows;
+        slowest_too = 1;
         count = 1;
     }
     for (int i = 1; i < count; i++)
-        if (strspn(argument[i], "0123456789") != strlen(argument[i]) || atoi(argument[i]) >= rows) {
+        if (strspn(argument[i], "0123456789") != strlen(argument[i]) || atoi(argument[i]) >= ROWS) {
             fprintf(stderr, "bench %s[ROW... | --slowest | --call ROW PROGRAM TIMES], rows 0 to %d\n", before ? "[--differ] " : "",
-                    rows - 1);
+                    ROWS - 1);
             return 2;
         }
     if (before)
@@ -778,11 +820,16 @@ int main(int count, char **argument)
     else
         printf("| case | reply | states reached | C, us | library / C | the same, medians | C grouped / C | second / C |\n"
                "|---|---|---|---|---|---|---|---|\n");
-    static double least[ROWS + SLOWEST][PROGRAMS];
-    for (int i = 0; i < (count > 1 ? count - 1 : all); i++) {
+    static double least[ROWS][PROGRAMS];
+    for (int i = 0; i < (count > 1 ? count - 1 : ROWS); i++) {
         int number = count > 1 ? atoi(argument[i + 1]) : i;
+        if (count == 1 && is_slowest(number) && !slowest_too)
+            continue;
         struct request *r = row(number);
-        measure(r, least[number]);
+        if (not_known_before(r))
+            printf("| %-52s | not known before | - | - | - |\n", r->name);
+        else
+            measure(r, least[number]);
         free(r->chain);
         free(r);
     }

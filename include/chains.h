@@ -4,8 +4,11 @@
  * A record is a day's written lines; a line has a kind and a boat (class and sail number) and leads from a place to a place. A
  * pattern says which chains of lines are accepted. README.md explains the bytes of both.
  *
- * Unread numbers. Class 0 with sail number 0 says that the number was not read, so that nothing is known of the boat. A pattern's same
- * (22) and other (23) both fail on such a line, and both fail where the slot holds such a number. Line (21) takes the line, keep (27)
+ * Boats compared. A line's boat is the slot's (same, 22) or another (other, 23); another one has the slot's class and another number
+ * (sister, 28) or another class, whatever its number (foreign, 29).
+ *
+ * Unread numbers. Class 0 with sail number 0 says that the number was not read, so that nothing is known of the boat. A pattern's same,
+ * other, sister and foreign all fail on such a line, and all fail where the slot holds such a number. Line (21) takes the line, keep (27)
  * keeps the number, and chains_words counts all unread numbers as one boat. Class 0 alone, and number 0 alone, are boats.
  *
  * Slices. A pointer and the count that follows it are one slice: so many entries from there on. A pointer is never null and is
@@ -55,11 +58,11 @@ enum chains_refusal {
     CHAINS_BYTES_AFTER_END = 7,         /* there are bytes after the record's end byte */
 
     /* The pattern, command by command. */
-    CHAINS_COMMAND_NOT_KNOWN = 8,       /* where a command (20 to 27) must stand, there is another byte or none */
+    CHAINS_COMMAND_NOT_KNOWN = 8,       /* where a command (20 to 29) must stand, there is another byte or none */
     CHAINS_TOO_MANY_COMMANDS = 9,       /* there are more than 63 commands */
     CHAINS_OPERANDS_MISSING = 10,       /* a command's kind or slot is not there */
     CHAINS_OPERAND_OUT_OF_RANGE = 11,   /* a command's kind is not 1 to 15, or its slot is not 0 to 3 */
-    CHAINS_SLOT_NOT_KEPT = 12,          /* same or other names a slot that no keep around it keeps */
+    CHAINS_SLOT_NOT_KEPT = 12,          /* same, other, sister or foreign names a slot that no keep around it keeps */
     CHAINS_KEEPS_TOO_DEEP = 13,         /* keeps are nested more than three deep */
     CHAINS_BYTES_AFTER_PATTERN = 14,    /* there are bytes after the complete pattern */
 

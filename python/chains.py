@@ -1,8 +1,9 @@
 """A sailing day's record, and the first shortest chain of its lines that a pattern accepts: the functions of libchains.so.
 
-A record and a pattern are bytes or a bytearray. Class 0 with sail number 0 says that the number was not read: a pattern's same and other
-both fail on such a line, and both fail where the slot holds such a number; line takes it, keep keeps it, and together they count as one
-boat.
+A record and a pattern are bytes or a bytearray. A pattern compares a line's boat with one that it has kept: the same (22) or another (23),
+and of others those of its class (sister, 28) and those of another class (foreign, 29). Class 0 with sail number 0 says that the number was
+not read: all four fail on such a line, and all four fail where the slot holds such a number; line takes it, keep keeps it, and together
+they count as one boat.
 
 CHAINS_LIB names the library's file; else it is looked for beside this module, in the folder above and in the repository's target. A
 question that was answered no is a Refused, which has its number, its second number (value) and, as its text, a sentence; a number

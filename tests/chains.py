@@ -1,5 +1,5 @@
 #!/usr/bin/env python3
-"""The small program: its data sets and the line that each prints, from the text of document 01 and request One alone.
+"""The small program: its data sets and the line that each prints, from the text of document 01 and requests One and Two alone.
 
 Run from the repository's root:
 python3 tests/chains.py write FOLDER    writes crates/chains/data, its stdout, examples/day and tests/data under the folder
@@ -8,7 +8,8 @@ import os
 import subprocess
 import sys
 import tempfile
-from chains01 import A, B, E, P, R, R_LINES, S, T, THEN_ANY, THEN_OTHER, THEN_SAME, boats_like, find, record, line
+from chains01 import (A, B, C, D, E, P, R, R_LINES, S, T, THEN_ANY, THEN_FOREIGN, THEN_OTHER, THEN_SAME, THEN_SISTER, boats_like, find, record,
+                      line)
 
 
 def question(a, b, pattern): return a.to_bytes(2, "big") + b.to_bytes(2, "big") + bytes(pattern)
@@ -74,6 +75,17 @@ OTHERS = {
     "3-0 kept, same": (boats_like((3, 0), (4, 0)), question(0, 1, THEN_SAME)),
     "62 boats and two unread lines, search size 2,048": (unread(62), question(0, 3, P)),
     "63 boats and two unread lines, search size 2,080": (unread(63), question(0, 3, P)),
+    "2-1 kept, same": (C, question(0, 2, THEN_SAME)),
+    "2-1 kept, other": (C, question(0, 2, THEN_OTHER)),
+    "2-1 kept, sister": (C, question(0, 2, THEN_SISTER)),
+    "2-1 kept, foreign": (C, question(0, 2, THEN_FOREIGN)),
+    "1-1 kept, foreign": (D, question(0, 2, THEN_FOREIGN)),
+    "unread line, sister": (A, question(0, 2, THEN_SISTER)),
+    "unread line, foreign": (A, question(0, 2, THEN_FOREIGN)),
+    "unread kept, sister": (B, question(0, 1, THEN_SISTER)),
+    "unread kept, foreign": (B, question(0, 1, THEN_FOREIGN)),
+    "28 with no keep": (C, question(0, 2, [0x28, 1, 0])),
+    "2A": (C, question(0, 2, [0x27, 1, 0, 0x2A, 2, 0])),
     "31 laps and home": (LAPS, question(0, 1, TIMES + [0x21, 4])),
     "4,096 lines": (LONG + [0], question(0, 1, [0x21, 1])),
     "4,096 lines and no end": (LONG, question(0, 1, [0x21, 1])),

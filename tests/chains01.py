@@ -1,7 +1,8 @@
-"""The text of document 01 and of request One as Python, for the tests' expected outputs: reading records and patterns, membership clause
-by clause, questions 1 to 17 of a request, and the worked records and patterns."""
+"""The text of document 01 and of requests One and Two as Python, for the tests' expected outputs: reading records and patterns, membership
+clause by clause, questions 1 to 17 of a request, and the worked records and patterns."""
 
-TABLE = {0x20: (0, 0), 0x21: (1, 0), 0x22: (2, 0), 0x23: (2, 0), 0x24: (0, 2), 0x25: (0, 2), 0x26: (0, 1), 0x27: (2, 1)}
+TABLE = {0x20: (0, 0), 0x21: (1, 0), 0x22: (2, 0), 0x23: (2, 0), 0x24: (0, 2), 0x25: (0, 2), 0x26: (0, 1), 0x27: (2, 1),
+         0x28: (2, 0), 0x29: (2, 0)}
 
 
 class Refused(Exception):
@@ -41,7 +42,7 @@ def read_pattern(data):
         operands = data[at + 1:at + 1 + width]
         ask(len(operands) == width, 10)
         ask((width < 1 or 1 <= operands[0] <= 15) and (width < 2 or operands[1] <= 3), 11)
-        ask(code not in (0x22, 0x23) or operands[1] in kept, 12)
+        ask(code not in TAKES or operands[1] in kept, 12)
         ask(code != 0x27 or len(kept) < 3, 13)
         inside = kept + [operands[1]] if code == 0x27 else kept
         at, inner = at + 1 + width, []
@@ -61,10 +62,18 @@ def keeps(p): return (p[0] == 0x27) + max([keeps(q) for q in p[2]] or [0])
 UNREAD = (0, 0)
 
 
-def met(code, kept, boat):
-    """Do a slot's boat and a line's pass same (22) or other (23)? An unread number on either side passes neither."""
-    if UNREAD in (kept, boat): return False
-    return (kept == boat) == (code == 0x22)
+def compared(kept, boat):
+    """What comparing a slot's boat with a line's tells."""
+    if UNREAD in (kept, boat): return "unread"
+    if kept == boat: return "same boat"
+    return "same class only" if kept[0] == boat[0] else "other class"
+
+
+# What the tests take: same, other, sister and foreign.
+TAKES = {0x22: ("same boat",), 0x23: ("same class only", "other class"), 0x28: ("same class only",), 0x29: ("other class",)}
+
+
+def met(code, kept, boat): return compared(kept, boat) in TAKES[code]
 
 
 def accepts(p, word, slots):
@@ -73,7 +82,7 @@ def accepts(p, word, slots):
     one = len(word) == 1 and operands and word[0][0] == operands[0]
     if code == 0x20: return not word
     if code == 0x21: return one
-    if code in (0x22, 0x23): return one and met(code, slots[operands[1]], word[0][1])
+    if code in TAKES: return one and met(code, slots[operands[1]], word[0][1])
     if code == 0x24: return any(accepts(q, word, slots) for q in inner)
     if code == 0x25: return any(accepts(inner[0], word[:i], slots) and accepts(inner[1], word[i:], slots) for i in range(len(word) + 1))
     if code == 0x26: return not word or any(accepts(inner[0], word[:i], slots) and accepts(p, word[i:], slots) for i in range(1, len(word) + 1))
@@ -111,8 +120,13 @@ E = record(1)
 # line and a read one.
 A = record(3, (0, 1, 1, 1, 1), (1, 2, 0, 0, 2), (1, 2, 1, 1, 2), (1, 2, 1, 2, 2))
 B = record(2, (0, 1, 0, 0, 1), (1, 2, 0, 0, 1), (1, 2, 1, 1, 1))
-# A boat kept at kind 1, then a line of kind 2: any, its own, another's.
-THEN_ANY, THEN_SAME, THEN_OTHER = [0x27, 1, 0, 0x21, 2], [0x27, 1, 0, 0x22, 2, 0], [0x27, 1, 0, 0x23, 2, 0]
+# A boat kept at kind 1, then a line of kind 2: any, its own, another's, another's of its class, one's of another class.
+THEN_ANY = [0x27, 1, 0, 0x21, 2]
+THEN_SAME, THEN_OTHER, THEN_SISTER, THEN_FOREIGN = ([0x27, 1, 0, test, 2, 0] for test in TAKES)
+# Request Two. C: after boat 2-1, lines of two classes before its own, and after it those of its class and of another. D: after boat 1-1,
+# two others of its class and one of another.
+C = record(3, (0, 1, 2, 1, 1), (1, 2, 1, 7, 2), (1, 2, 1, 8, 2), (1, 2, 2, 1, 2), (1, 2, 2, 9, 2), (1, 2, 3, 1, 2))
+D = record(3, (0, 1, 1, 1, 1), (1, 2, 1, 7, 2), (1, 2, 1, 8, 2), (1, 2, 2, 1, 2))
 
 
 def boats_like(kept, other):
@@ -126,11 +140,11 @@ def boats_like(kept, other):
 
 
 def heads(todo):
-    """The lists that begin with a line, same, other or keep, or are empty, to which a list comes without reading a line."""
+    """The lists that begin with a line, a test or keep, or are empty, to which a list comes without reading a line."""
     found, met, left = [], {todo}, [todo]
     while left:
         todo = left.pop()
-        if not todo or todo[0][0][0] in (0x21, 0x22, 0x23, 0x27):
+        if not todo or todo[0][0][0] in (0x21, 0x27, *TAKES):
             found.append(todo)
             continue
         (code, _, inner), slots = todo[0]
@@ -150,7 +164,7 @@ def read_one(todo, kind, boat):
     """What is left after a line of this kind and boat, the list beginning with a command that reads one; or None."""
     ((code, operands, inner), slots), rest = todo[0], todo[1:]
     if operands[0] != kind: return None
-    if code in (0x22, 0x23) and not met(code, dict(slots)[operands[1]], boat): return None
+    if code in TAKES and not met(code, dict(slots)[operands[1]], boat): return None
     if code == 0x27: return ((inner[0], tuple(sorted({**dict(slots), operands[1]: boat}.items()))),) + rest
     return rest
 

@@ -1,9 +1,10 @@
 #!/usr/bin/env python3
-"""Rows about the checker and what they make crates/rows write, from the text of document 01 and request One alone: questions 1 to 18, and
-membership clause by clause.
+"""Rows about the checker and what they make crates/rows write, from the text of document 01 and requests One and Two alone: questions 1 to
+18, and membership clause by clause.
 
 Run from the repository's root: python3 tests/checks.py FOLDER writes FOLDER/checks.bin and prints a part of crates/rows/stdout."""
-from chains01 import A, B, E, P, R, S, T, THEN_ANY, THEN_OTHER, THEN_SAME, Refused, accepts, asked, boats_like, record
+from chains01 import (A, B, C, D, E, P, R, S, T, THEN_ANY, THEN_FOREIGN, THEN_OTHER, THEN_SAME, THEN_SISTER, Refused, accepts, asked,
+                      boats_like, record)
 from table import Table, long, short
 
 table = Table("checks")
@@ -73,4 +74,28 @@ for word, test in (("same", 0x22), ("other", 0x23)):
 KEEP, TWO = [0x27, 1, 0, 0x20], [(0, 1, 1, 1, 0), (0, 1, 1, 2, 0)]
 for unread, needed in ((0, 8228), (1, 8240), (2, 8240)):
     for words in (needed - 1, needed): row("two boats, %d unread, %d words" % (unread, words), record(1, *TWO, *[(0, 1, 0, 0, 0)] * unread), KEEP, 0, 0, [0], words)
+
+# ---- request Two: same takes the same boat; other any that is not; sister the same class only, foreign another class; none an unread number
+SISTERS = (("sister", THEN_SISTER), ("foreign", THEN_FOREIGN))
+for word, pattern in (("same", THEN_SAME), ("other", THEN_OTHER)) + SISTERS:
+    for second, boat in enumerate(("1-7", "1-8", "2-1", "2-9", "3-1"), 1): row("2-1 kept, %s: %s" % (word, boat), C, pattern, 0, 2, [0, second])
+for word, pattern in SISTERS:
+    for second, boat in enumerate(("1-7", "1-8", "2-1"), 1): row("1-1 kept, %s: %s" % (word, boat), D, pattern, 0, 2, [0, second])
+    for second, boat in ((1, "unread"), (2, "1-1"), (3, "1-2")): row("1-1 kept, %s: %s" % (word, boat), A, pattern, 0, 2, [0, second])
+    for second, boat in ((1, "unread"), (2, "1-1")): row("unread kept, %s: %s" % (word, boat), B, pattern, 0, 1, [0, second])
+    for kept, other in (((0, 5), (0, 6)), ((0, 5), (3, 5)), ((3, 0), (3, 1)), ((3, 0), (4, 0)), ((255, 16777215), (127, 16777215)), ((1, 8388609), (1, 1))):
+        day, name = boats_like(kept, other), "%d-%d" % kept
+        for second, boat in ((1, "unread"), (2, "%d-%d" % other), (3, name)): row("%s kept, %s: %s" % (name, word, boat), day, pattern, 0, 1, [0, second])
+    for other in ((0, 5), (3, 0)): row("unread kept, %s: %d-%d" % (word, *other), boats_like((0, 0), other), pattern, 0, 1, [0, 2])
+    row("%s, another kind" % word, record(1, (0, 1, 1, 1, 0), (0, 3, 1, 2, 0), (0, 3, 2, 1, 0)), pattern, 0, 0, [0, 1])
+# Two boats kept, 1-1 and then 2-1: in another slot, in the same slot, and after the inner keep.
+KEPT = record(4, (0, 1, 1, 1, 1), (1, 2, 2, 1, 2), (2, 3, 1, 2, 3), (2, 3, 2, 2, 3))
+for word, test in (("sister", 0x28), ("foreign", 0x29)):
+    for last, boat in ((2, "1-2"), (3, "2-2")):
+        for of in (0, 1): row("1-1 and 2-1 kept, %s of %s: %s" % (word, ("1-1", "2-1")[of], boat), KEPT, [0x27, 1, 0, 0x27, 2, 1, test, 3, of], 0, 3, [0, 1, last])
+        row("2-1 in the slot of 1-1, %s: %s" % (word, boat), KEPT, [0x27, 1, 0, 0x27, 2, 0, test, 3, 0], 0, 3, [0, 1, last])
+        row("1-1 back after 2-1, %s: %s" % (word, boat), KEPT, [0x27, 1, 0, 0x25, 0x27, 2, 0, 0x20, test, 3, 0], 0, 3, [0, 1, last])
+row("pattern 28 01 00, no keep", C, [0x28, 1, 0], 0, 2, [0])
+row("pattern 29 01 00, no keep", C, [0x29, 1, 0], 0, 2, [0])
+row("pattern 2a", C, [0x27, 1, 0, 0x2A, 2, 0], 0, 2, [0, 1])
 table.write()

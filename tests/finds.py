@@ -1,10 +1,11 @@
 #!/usr/bin/env python3
-"""Rows about the finder and what they make crates/rows write, from the text of document 01 and request One alone: 01's table, the
+"""Rows about the finder and what they make crates/rows write, from the text of document 01 and requests One and Two alone: 01's table, the
 misreadings that they shut out, and requests at the edge of each question.
 
 Run from the repository's root: python3 tests/finds.py FOLDER writes FOLDER/finds.bin and prints a part of crates/rows/stdout."""
 from itertools import permutations
-from chains01 import A, B, E, P, R, R_LINES, S, T, THEN_ANY, THEN_OTHER, THEN_SAME, boats_like, find, line, record
+from chains01 import (A, B, C, D, E, P, R, R_LINES, S, T, THEN_ANY, THEN_FOREIGN, THEN_OTHER, THEN_SAME, THEN_SISTER, boats_like, find, line,
+                      record)
 from table import Table, long, short
 
 table = Table("finds")
@@ -92,6 +93,31 @@ TWO = [(0, 1, 1, 1, 0), (0, 1, 1, 2, 0)]
 for unread, needed in ((0, 8228), (1, 8240), (2, 8240)):
     for words in (needed - 1, needed): row("two boats, %d unread, %d words" % (unread, words), record(1, *TWO, *[(0, 1, 0, 0, 0)] * unread), [0x27, 1, 0, 0x20], words=words)
 
+# ---- request Two: sister takes the same class only, foreign another class; none an unread number
+SISTERS = (("sister", THEN_SISTER), ("foreign", THEN_FOREIGN))
+for word, pattern in (("same", THEN_SAME), ("other", THEN_OTHER)) + SISTERS: row("2-1 kept, %s" % word, C, pattern, 0, 2)
+for word, pattern in SISTERS:
+    row("1-1 kept among 1-7, 1-8, 2-1, %s" % word, D, pattern, 0, 2)
+    row("1-1 kept, %s" % word, A, pattern, 0, 2)
+    row("unread kept, %s" % word, B, pattern, 0, 1)
+    row("unread kept, class 0, %s" % word, boats_like((0, 0), (0, 5)), pattern, 0, 1)
+    for kept, other in (((0, 5), (0, 6)), ((0, 5), (3, 5)), ((3, 0), (3, 1)), ((3, 0), (4, 0))):
+        row("%d-%d kept, %s of %d-%d" % (*kept, word, *other), boats_like(kept, other), pattern, 0, 1)
+# Lines between the same two places, boats of two classes in every order, and the one that is wanted after two others or three: sister and
+# foreign take the first that compares so.
+LATE = [((2, 1), (3, 1), (1, 2)), ((2, 1), (2, 2), (1, 1), (1, 2)), ((1, 2), (1, 3), (2, 1)), ((1, 1), (0, 0), (1, 2), (1, 3), (2, 1))]
+for order in [*permutations(((1, 1), (1, 2), (2, 1))), *LATE]:
+    for word, pattern in SISTERS:
+        row("1-1, %s of %s" % (word, ", ".join("%d-%d" % boat for boat in order)),
+            record(3, (0, 1, 1, 1, 1), *[(1, 2, *boat, 2) for boat in order]), pattern, 0, 2)
+# A boat kept, any number of its sisters, or of boats of other classes, and it again.
+for word, test, boat in (("sisters", 0x28, (3, 2)), ("foreigners", 0x29, (1, 2))):
+    around = [0x27, 1, 0, 0x25, 0x26, test, 2, 0, 0x22, 3, 0]
+    row("%s on the way" % word, record(4, (0, 1, 1, 1, 1), (1, 2, 1, 2, 2), (1, 2, 2, 1, 2), (2, 2, 3, 1, 3), (2, 2, 1, 9, 3), (3, 3, 1, 1, 3)), around, 0, 3)
+    row("no %s on the way" % word, record(3, (0, 1, 1, 1, 1), (1, 2, *boat, 2), (1, 2, 0, 0, 2), (2, 3, 1, 1, 2)), around, 0, 2)
+    row("%s, before a line" % word, record(4, (3, 4, 0, 0, 3), (0, 1, 1, 1, 1), (1, 2, 2, 1, 2), (1, 2, 1, 1, 2), (1, 2, 1, 2, 2), (2, 3, 0, 0, 3)),
+        [0x27, 1, 0, 0x25, test, 2, 0, 0x21, 3], 0, 3)
+
 # ---- the record's questions
 row("40,965 bytes", [1, 4, 0] + line(0, 1, 1, 1, 1) * 4096 + [0, 0], [0x20])
 row("record empty", [], [0x20])
@@ -107,6 +133,11 @@ row("byte after the end", R + [0], P, 0, 3)
 
 # ---- the pattern's questions
 row("pattern 28", E, [0x28])
+row("pattern 28 01 00", E, [0x28, 1, 0])
+row("pattern 29 01 00", E, [0x29, 1, 0])
+row("pattern 2a", E, [0x2A])
+row("pattern 2c", E, [0x2C])
+row("pattern 2f", E, [0x2F])
 row("slot 4", E, [0x27, 1, 4, 0x20])
 row("three keeps", E, [0x27, 1, 0, 0x27, 1, 1, 0x27, 1, 2, 0x22, 1, 2])
 row("four keeps", E, [0x27, 1, 0, 0x27, 1, 1, 0x27, 1, 2, 0x27, 1, 3, 0x20])

@@ -1,11 +1,14 @@
 #!/usr/bin/env python3
-"""Rows about patterns and what they make crates/rows write, from document 01's text alone (table, questions 8 to 14, "keeps").
+"""Rows about patterns and what they make crates/rows write, from the text of document 01 (table, questions 8 to 14, "keeps") and of
+request Two alone.
 
 A pattern is read with a list of patterns still due, each with the slots kept and the keeps around it: no recursion, no tree.
 Run from the repository's root: python3 tests/patterns.py FOLDER writes FOLDER/patterns.bin and prints a part of crates/rows/stdout."""
 from table import Table, byte
 
-TABLE = {0x20: (0, 0), 0x21: (1, 0), 0x22: (2, 0), 0x23: (2, 0), 0x24: (0, 2), 0x25: (0, 2), 0x26: (0, 1), 0x27: (2, 1)}
+TABLE = {0x20: (0, 0), 0x21: (1, 0), 0x22: (2, 0), 0x23: (2, 0), 0x24: (0, 2), 0x25: (0, 2), 0x26: (0, 1), 0x27: (2, 1),
+         0x28: (2, 0), 0x29: (2, 0)}
+TESTS = (0x22, 0x23, 0x28, 0x29)
 
 def read(data, given=()):
     due, at, commands, deepest = [(frozenset(given), 0)], 0, 0, 0
@@ -20,7 +23,7 @@ def read(data, given=()):
         if len(operands) < width: return "refused 10 0"
         if width > 0 and operands[0] not in range(1, 16): return "refused 11 0"
         if width > 1 and operands[1] not in range(4): return "refused 11 0"
-        if code in (0x22, 0x23) and operands[1] not in kept: return "refused 12 0"
+        if code in TESTS and operands[1] not in kept: return "refused 12 0"
         if code == 0x27:
             kept, around = kept | {operands[1]}, around + 1
             if around > 3: return "refused 13 0"
@@ -50,7 +53,7 @@ heading("single bytes")
 for code in range(256): number(" " if code % 16 else "\n" if code else "", bytes([code]))
 heading("\nnumber of commands")
 for n in 61, 62, 63, 64: repeats(n, "20")
-repeats(62, ""); repeats(63, ""); repeats(63, "ff"); repeats(63, "28"); repeats(63, "21"); repeats(62, "21")
+repeats(62, ""); repeats(63, ""); repeats(63, "ff"); repeats(63, "28"); repeats(63, "2a"); repeats(63, "21"); repeats(62, "21")
 repeats(62, "2101"); repeats(62, "2100"); repeats(62, "2020"); repeats(62, "20ff")
 thens("", 30, 31); thens("26", 30, 31); thens("", 31, 32); thens("26", 31, 32); thens("", 32, 33)
 heading("order of questions")
@@ -70,7 +73,17 @@ asked("270100 20", "270100 270101 20", "270100 270101 270102 20", "270100 270101
       "25 270100 20 270101 270102 20", "25 270101 270102 20 270100 20",
       "25 270100 270101 270102 20 270100 270101 270102 20",
       "270100 26 270101 24 20 270102 26 20", "270100 26 270101 24 20 270102 26 270103 20")
+heading("another boat of the class, another class")
+for test in "28", "29":
+    asked(test, test + "01", test + "0100", test + "00", test + "0005", test + "0104", test + "1000", "27010020" + test)
+    asked("270100 " + test, "270100 %s01" % test, "270100 %s0100" % test, "270100 %s0f00" % test, "270100 %s0000" % test, "270100 %s1000" % test,
+          "270100 %s0104" % test, "270100 %s0101" % test, "270100 %s010020" % test, "270100 25 %s0100" % test)
+    asked("25 270100 20 %s0100" % test, "270100 25 270101 20 %s0101" % test, "270100 25 270101 20 %s0100" % test, "270102 26 24 20 %s0102" % test)
+    reply("keep, 61 times 26 %s 01 00 " % test, bytes.fromhex("270100" + "26" * 61 + test + "0100"))
+    reply("keep, 62 times 26 %s 01 00 " % test, bytes.fromhex("270100" + "26" * 62 + test + "0100"))
+for code in range(0x2A, 0x30): asked("270100 %02x0100" % code, "25 20 %02x" % code, "20 %02x" % code)
 heading("slots given")
+given("280103", 3); given("290103", 0, 1, 2); given("25 280103 290103", 3)
 given("220103", 3); given("220103", 0, 1, 2); given("220102", 3); given("220104", 0, 1, 2, 3)
 given("25 270103 20 230103", 3); given("25 220103 25 220203 25 26 220303 220403", 3); given("270100 270101 270102 220103", 3)
 table.write()

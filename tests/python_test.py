@@ -109,6 +109,22 @@ class Requests(Asking):
         sizes = [chains.words(day_of(1, [(0, 1, 1, 1, 0)] + [(0, 1, 0, 0, 0)] * unread), keep) for unread in range(3)]
         self.assertEqual(sizes, [8216, 8228, 8228])
 
+    def test_classes(self):
+        same, other, sister, foreign = (bytes((0x27, 1, 0, test, 2, 0)) for test in (0x22, 0x23, 0x28, 0x29))
+        day = day_of(3, [(0, 1, 2, 1, 1)] + [(1, 2, *boat, 2) for boat in ((1, 7), (1, 8), (2, 1), (2, 9), (3, 1))])
+        self.assertEqual([chains.find(day, pattern, 0, 2) for pattern in (same, other, sister, foreign)], [[0, 3], [0, 1], [0, 4], [0, 1]])
+        self.assertEqual([chains.check(day, sister, 0, 2, [0, n]) for n in range(1, 6)], [False, False, False, True, False])
+        self.assertEqual([chains.check(day, foreign, 0, 2, [0, n]) for n in range(1, 6)], [True, True, False, False, True])
+        day = day_of(3, [(0, 1, 1, 1, 1), (1, 2, 1, 7, 2), (1, 2, 1, 8, 2), (1, 2, 2, 1, 2)])
+        self.assertEqual(chains.find(day, foreign, 0, 2), [0, 3])
+        for kept, boats in (((0, 0), ((0, 5), (1, 1))), ((0, 5), ((0, 0), (0, 5)))):
+            day = day_of(3, [(0, 1, *kept, 1)] + [(1, 2, *boat, 2) for boat in boats])
+            self.assertEqual([chains.find(day, pattern, 0, 2) for pattern in (sister, foreign)], [None, None])
+        for test in (0x28, 0x29):
+            self.assertEqual(chains.counts(bytes((0x27, 1, 0, test, 15, 0))), (2, 1))
+            for number, operands in ((10, (1,)), (11, (0, 0)), (11, (1, 4)), (12, (1, 0))): self.refused(number, chains.counts, bytes((test, *operands)))
+        for byte in range(0x2A, 0x30): self.refused(8, chains.counts, bytes((byte,)))
+
     def test_order_of_refusals(self):
         many = day_of(1024, [(0, 1, 1, boat, 0) for boat in range(64)])
         large = bytes.fromhex("270100") + b"\x26" * 13 + b"\x21\x01"

@@ -1,6 +1,6 @@
 //! Requests with replies written down by hand: document 01's rows, the places where it can
-//! be misread, request One's unread numbers, and the vectors that tell wrong programs apart.
-//! Each is compared with this program and with the reply that stands here, so that it tests
+//! be misread, request One's unread numbers, request Two's classes, and the vectors that tell
+//! wrong programs apart. Each is compared with this program and with the reply that stands here, so that it tests
 //! this program too.
 
 use crate::compare::{self, shown};
@@ -39,6 +39,12 @@ pub const ALL: &[Case] = &[
     case("One: unread numbers", unread_numbers),
     case("One: lines between two places, some unread", unread_runs),
     case("One: unread numbers and slots", unread_slots),
+    case("Two: the bytes 28 to 2F", class_questions),
+    case("Two: a lent sail", class_vectors),
+    case("Two: every rule, every outcome", class_outcomes),
+    case("Two: lines between two places, by class", class_runs),
+    case("Two: classes and slots", class_slots),
+    case("Two: 4,096 lines between two places", class_full_run),
     case("A 30: begin", begin_traps),
     case("A 31-34: add and read", add_traps),
     case("001, Example 2", example_2),
@@ -50,6 +56,7 @@ pub const ALL: &[Case] = &[
     case("V1-V7, V12", vectors),
     case("V11: a chain of 92,400 lines", vector_11),
     case("the largest size, found and none", largest),
+    case("Two: the largest size, found and none", largest_by_class),
     case("001, Proposition 3", proposition_3),
     case("a pattern's counts", pattern_counts),
 ];
@@ -391,7 +398,7 @@ fn pattern_traps(b: &Bench) -> Result<String, String> {
     asked(&[0x25, 0x21, 0, 0x22, 1, 0], 11)?;
     asked(&[0x25, 0x21, 1, 0xFF], 8)?;
     asked(&[0x1F], 8)?;
-    asked(&[0x28], 8)?;
+    asked(&[0x2A], 8)?;
     asked(&[0x25, 0x20], 8)?;
     // 10: 8 before 9, and 9 before 10.
     asked(&repeats(63, &[]), 8)?;
@@ -723,15 +730,16 @@ fn unread_runs(b: &Bench) -> Result<String, String> {
         for run in &runs {
             for kept in [(1, 1), (1, 3), (0, 0)] {
                 // The first line of the record is unread, or another.
-                unread_run(b, run, kept, (0, 0))?;
-                unread_run(b, run, kept, (9, 9))?;
+                one_run(b, &[0x22, 0x23], run, kept, (0, 0))?;
+                one_run(b, &[0x22, 0x23], run, kept, (9, 9))?;
             }
         }
     }
     ok()
 }
 
-fn unread_run(b: &Bench, run: &[(u8, u32)], kept: (u8, u32), ahead: (u8, u32)) -> Done {
+/// A boat kept, and then each of these tests of lines between two places: the first that passes.
+fn one_run(b: &Bench, tests: &[u8], run: &[(u8, u32)], kept: (u8, u32), ahead: (u8, u32)) -> Done {
     let mut lines = vec![
         line(3, 4, ahead.0, ahead.1, 3),
         line(0, 1, kept.0, kept.1, 1),
@@ -740,11 +748,10 @@ fn unread_run(b: &Bench, run: &[(u8, u32)], kept: (u8, u32), ahead: (u8, u32)) -
     lines.push(line(2, 3, 0, 0, 3));
     let last = lines.len() as u16 - 1;
     let rec = written(4, &lines);
-    for test in [0x22, 0x23] {
-        let both_read = |boat: (u8, u32)| boat != (0, 0) && kept != (0, 0);
+    for &test in tests {
         let second = run
             .iter()
-            .position(|&boat| both_read(boat) && (boat == kept) == (test == 0x22))
+            .position(|&boat| passed_by(kept, boat).contains(&test))
             .map(|at| 2 + at as u16);
         // The test stands last in its keep, and before a line that is inside too.
         let alone = [0x27, 1, 0, test, 2, 0];
@@ -762,6 +769,19 @@ fn unread_run(b: &Bench, run: &[(u8, u32)], kept: (u8, u32), ahead: (u8, u32)) -
         }
     }
     Ok(())
+}
+
+/// The commands that a line's boat passes, that boat being kept.
+fn passed_by(kept: (u8, u32), boat: (u8, u32)) -> &'static [u8] {
+    if kept == (0, 0) || boat == (0, 0) {
+        &[]
+    } else if kept == boat {
+        &[0x22]
+    } else if kept.0 == boat.0 {
+        &[0x23, 0x28]
+    } else {
+        &[0x23, 0x29]
+    }
 }
 
 /// Which slot a test looks at, an unread number being in one of them.
@@ -832,6 +852,267 @@ fn unread_slots(b: &Bench) -> Result<String, String> {
     ];
     b.found(ask(&written(5, &lines), &laps, 0, 4), &[2, 3, 4, 5])?;
     b.none(ask(&written(5, &lines[..3]), &laps, 0, 2))?;
+    ok()
+}
+
+// ---- request Two
+
+const TESTS: [u8; 4] = [0x22, 0x23, 0x28, 0x29];
+
+/// Questions 8 to 12 of the two commands, and 8 of the bytes after them.
+fn class_questions(b: &Bench) -> Result<String, String> {
+    let asked = |pat: &[u8], number: u8| {
+        b.words(&E, pat, refused(number, 0))?;
+        b.pattern(pat, Err(number))
+    };
+    let kept = |more: &[u8]| [&[0x27, 1, 0][..], more].concat();
+    for test in [0x28, 0x29] {
+        b.pattern(&kept(&[test, 15, 0]), Ok([2, 1]))?;
+        b.words(&E, &kept(&[test, 15, 0]), words_of(3))?;
+        b.pattern(&kept(&[0x27, 1, 3, test, 1, 3]), Ok([3, 2]))?;
+        // 9 before 10; the widest pattern of 63 commands passes.
+        asked(&repeats(63, &[test]), 9)?;
+        asked(&repeats(63, &[test, 1, 0]), 9)?;
+        b.pattern(&kept(&repeats(61, &[test, 1, 0])), Ok([63, 1]))?;
+        asked(&kept(&repeats(62, &[test, 1, 0])), 9)?;
+        // 10 before 11, and 11 before 12.
+        for short in [&[test][..], &[test, 1], &[test, 0], &[test, 16]] {
+            asked(short, 10)?;
+            asked(&kept(short), 10)?;
+        }
+        for (kind, slot) in [(0, 0), (16, 0), (255, 0), (1, 4), (1, 255), (0, 4)] {
+            asked(&[test, kind, slot], 11)?;
+            asked(&kept(&[test, kind, slot]), 11)?;
+        }
+        // 12: no keep, another slot's, one to its left, one that has ended.
+        asked(&[test, 1, 0], 12)?;
+        asked(&[test, 1, 3], 12)?;
+        for slot in 1..4 {
+            asked(&kept(&[test, 1, slot]), 12)?;
+        }
+        asked(&[0x25, 0x27, 1, 0, 0x20, test, 1, 0], 12)?;
+        asked(&kept(&[0x25, 0x27, 1, 1, 0x20, test, 1, 1]), 12)?;
+        // They have no patterns after them.
+        asked(&kept(&[test, 1, 0, 0x20]), 14)?;
+        asked(&kept(&[0x25, test, 1, 0]), 8)?;
+    }
+    for byte in 0x2A..=0x30 {
+        asked(&[byte], 8)?;
+        asked(&[byte, 1, 0], 8)?;
+        asked(&kept(&[byte, 1, 0]), 8)?;
+        asked(&[0x25, 0x20, byte], 8)?;
+        asked(&[0x20, byte], 14)?;
+        asked(&repeats(63, &[byte]), 8)?;
+    }
+    ok()
+}
+
+/// A boat enters, and then another one of its class starts; and a boat of another class.
+fn class_vectors(b: &Bench) -> Result<String, String> {
+    let rec = written(
+        3,
+        &[
+            line(0, 1, 2, 1, 1),
+            line(1, 2, 1, 7, 2),
+            line(1, 2, 1, 8, 2),
+            line(1, 2, 2, 1, 2),
+            line(1, 2, 2, 9, 2),
+            line(1, 2, 3, 1, 2),
+        ],
+    );
+    for (test, second) in [(0x22, 3), (0x23, 1), (0x28, 4), (0x29, 1)] {
+        b.found(ask(&rec, &then(test), 0, 2), &[0, second])?;
+    }
+    for (test, yes) in [(0x28, [0, 0, 0, 1, 0]), (0x29, [1, 1, 0, 0, 1])] {
+        for (second, yes) in (1..).zip(yes) {
+            b.check(ask(&rec, &then(test), 0, 2), &[0, second], yes)?;
+        }
+    }
+    let lines = [
+        line(0, 1, 1, 1, 1),
+        line(1, 2, 1, 7, 2),
+        line(1, 2, 1, 8, 2),
+        line(1, 2, 2, 1, 2),
+    ];
+    let rec = written(3, &lines);
+    b.found(ask(&rec, &then(0x29), 0, 2), &[0, 3])?;
+    b.found(ask(&rec, &then(0x28), 0, 2), &[0, 1])?;
+    b.none(ask(&written(3, &lines[..3]), &then(0x29), 0, 2))?;
+    b.none(ask(&written(3, &[lines[0], lines[3]]), &then(0x28), 0, 2))?;
+    ok()
+}
+
+/// A boat kept at kind 1, and then the test of a line of kind 2.
+fn then(test: u8) -> [u8; 6] {
+    [0x27, 1, 0, test, 2, 0]
+}
+
+/// Each command on lines that compare in each way, of the kind and of another.
+fn class_outcomes(b: &Bench) -> Result<String, String> {
+    let edges = [
+        // The same boat, another of its class, the same number of another class, neither.
+        ((2, 1), [(2, 1), (2, 9), (3, 1), (3, 9)]),
+        ((0, 5), [(0, 5), (0, 6), (6, 5), (6, 6)]),
+        ((3, 0), [(3, 0), (3, 1), (4, 0), (4, 1)]),
+        // Bytes at their edges: classes and numbers that differ in one bit, the highest or not.
+        ((1, 1), [(1, 1), (1, 65_537), (129, 1), (2, 1)]),
+        (
+            (1, 8_388_609),
+            [(1, 8_388_609), (1, 1), (0, 8_388_609), (0, 1)],
+        ),
+        (
+            (255, 16_777_215),
+            [
+                (255, 16_777_215),
+                (255, 16_777_214),
+                (254, 16_777_215),
+                (127, 0),
+            ],
+        ),
+    ];
+    for (kept, [same, sister, foreign, stranger]) in edges {
+        one_of_each(b, kept, same, &[0x22])?;
+        one_of_each(b, kept, sister, &[0x23, 0x28])?;
+        one_of_each(b, kept, foreign, &[0x23, 0x29])?;
+        one_of_each(b, kept, stranger, &[0x23, 0x29])?;
+        one_of_each(b, kept, (0, 0), &[])?;
+        one_of_each(b, (0, 0), kept, &[])?;
+    }
+    one_of_each(b, (0, 0), (0, 0), &[])?;
+    ok()
+}
+
+fn one_of_each(b: &Bench, kept: (u8, u32), boat: (u8, u32), passed: &[u8]) -> Done {
+    let rec = written(
+        3,
+        &[
+            line(0, 1, kept.0, kept.1, 1),
+            line(1, 3, boat.0, boat.1, 2),
+            line(1, 2, boat.0, boat.1, 2),
+        ],
+    );
+    for test in TESTS {
+        let pat = then(test);
+        let asked = ask(&rec, &pat, 0, 2);
+        b.check(asked, &[0, 1], 0)?;
+        b.check(asked, &[0, 2], passed.contains(&test) as u64)?;
+        if passed.contains(&test) {
+            b.found(asked, &[0, 2])?;
+        } else {
+            b.none(asked)?;
+        }
+    }
+    Ok(())
+}
+
+/// Lines between the same two places, boats of two classes and an unread number in every order:
+/// each command takes the first that compares as it wants.
+fn class_runs(b: &Bench) -> Result<String, String> {
+    let boats = [(0, 0), (1, 1), (1, 2), (2, 1), (2, 2)];
+    let mut runs: Vec<Vec<(u8, u32)>> = vec![vec![]];
+    for _ in 0..4 {
+        let longer = |run: &Vec<(u8, u32)>| {
+            let fresh = boats.iter().filter(|boat| !run.contains(boat));
+            fresh
+                .map(|&boat| [&run[..], &[boat]].concat())
+                .collect::<Vec<_>>()
+        };
+        runs = runs.iter().flat_map(longer).collect();
+        for run in &runs {
+            for kept in [(1, 1), (1, 3), (2, 2), (3, 1)] {
+                one_run(b, &TESTS, run, kept, (9, 9))?;
+            }
+        }
+    }
+    // Boats named again before the one that is wanted.
+    for run in [
+        &[(1, 1), (1, 1), (1, 2)][..],
+        &[(2, 1), (2, 1), (2, 2), (2, 1), (1, 1), (1, 2)],
+        &[(0, 0), (1, 1), (0, 0), (2, 1), (2, 2), (2, 1), (1, 2)],
+    ] {
+        for kept in [(1, 1), (1, 2), (2, 1), (0, 0)] {
+            one_run(b, &TESTS, run, kept, (0, 0))?;
+        }
+    }
+    ok()
+}
+
+/// Which slot a test looks at, boats of two classes being kept.
+fn class_slots(b: &Bench) -> Result<String, String> {
+    // 1-1 kept at kind 1 and 2-1 at kind 2, and then lines of kind 3.
+    let rec = written(
+        4,
+        &[
+            line(0, 1, 1, 1, 1),
+            line(1, 2, 2, 1, 2),
+            line(2, 3, 1, 1, 3),
+            line(2, 3, 2, 1, 3),
+            line(2, 3, 2, 2, 3),
+            line(2, 3, 1, 2, 3),
+        ],
+    );
+    let two = |slot: u8, test: u8, of: u8| [0x27, 1, 0, 0x27, 2, slot, test, 3, of];
+    let back = |test: u8| [0x27, 1, 0, 0x25, 0x27, 2, 0, 0x20, test, 3, 0];
+    for (test, of_outer, of_inner) in [(0x28, 5, 4), (0x29, 3, 2)] {
+        b.found(ask(&rec, &two(1, test, 0), 0, 3), &[0, 1, of_outer])?;
+        b.found(ask(&rec, &two(1, test, 1), 0, 3), &[0, 1, of_inner])?;
+        b.found(ask(&rec, &two(0, test, 0), 0, 3), &[0, 1, of_inner])?;
+        b.found(ask(&rec, &back(test), 0, 3), &[0, 1, of_outer])?;
+    }
+    // Both at once: of the outer boat's class and of another class than the inner one's.
+    let both = [0x27, 1, 0, 0x27, 2, 1, 0x25, 0x28, 3, 0, 0x29, 4, 1];
+    let mut lines = read_record(&rec)
+        .map_err(|n| format!("record refused {n}"))?
+        .lines;
+    lines.push(line(3, 4, 2, 5, 3));
+    b.none(ask(&written(4, &lines), &both, 0, 3))?;
+    lines.push(line(3, 4, 1, 1, 3));
+    b.found(ask(&written(4, &lines), &both, 0, 3), &[0, 1, 5, 7])?;
+    // A keep of a sister: the boat it is compared with is the inner one's from there on.
+    let ladder = [
+        0x27, 1, 0, 0x25, 0x28, 2, 0, 0x27, 3, 0, 0x25, 0x29, 4, 0, 0x28, 5, 0,
+    ];
+    let rec = written(
+        1,
+        &[
+            line(0, 1, 1, 1, 0),
+            line(0, 2, 1, 2, 0),
+            line(0, 3, 2, 2, 0),
+            line(0, 4, 2, 1, 0),
+            line(0, 4, 1, 2, 0),
+            line(0, 5, 1, 2, 0),
+            line(0, 5, 2, 1, 0),
+        ],
+    );
+    b.found(ask(&rec, &ladder, 0, 0), &[0, 1, 2, 4, 6])?;
+    ok()
+}
+
+/// A full record in which the line that is wanted is the last of all.
+fn class_full_run(b: &Bench) -> Result<String, String> {
+    let day = |other: fn(u32) -> (u8, u32), last: (u8, u32)| {
+        let mut lines = vec![line(0, 1, 7, 1, 1)];
+        for n in 1..MOST_LINES as u32 - 1 {
+            let boat = other(n);
+            lines.push(line(1, 2, boat.0, boat.1, 2));
+        }
+        lines.push(line(1, 2, last.0, last.1, 2));
+        written(3, &lines)
+    };
+    let last = MOST_LINES as u16 - 1;
+    let foreigners = day(|n| ((n % 5 + 1) as u8, n), (7, 2));
+    b.found(ask(&foreigners, &then(0x28), 0, 2), &[0, last])?;
+    b.found(ask(&foreigners, &then(0x29), 0, 2), &[0, 1])?;
+    b.none(ask(&foreigners, &then(0x22), 0, 2))?;
+    let sisters = day(|n| (7, n + 1), (8, 1));
+    b.found(ask(&sisters, &then(0x29), 0, 2), &[0, last])?;
+    b.found(ask(&sisters, &then(0x28), 0, 2), &[0, 1])?;
+    let own = day(|_| (7, 1), (7, 2));
+    b.found(ask(&own, &then(0x28), 0, 2), &[0, last])?;
+    b.none(ask(&own, &then(0x29), 0, 2))?;
+    let unread = day(|_| (0, 0), (0, 1));
+    b.found(ask(&unread, &then(0x29), 0, 2), &[0, last])?;
+    b.none(ask(&unread, &then(0x28), 0, 2))?;
     ok()
 }
 
@@ -1293,6 +1574,48 @@ fn largest(b: &Bench) -> Result<String, String> {
     Ok(format!("{:?} with the comparison", clock.elapsed()))
 }
 
+/// Requests of the largest search size with 63 boats in three classes.
+fn largest_by_class(b: &Bench) -> Result<String, String> {
+    let clock = Instant::now();
+    // Two rings that don't meet; from each place two lines of class 1, one of 2 and one of 3.
+    let mut lines = Vec::new();
+    for i in 0..1_000u16 {
+        let to = i / 500 * 500 + (i + 1) % 500;
+        for (class, shift) in [(1, 0), (1, 7), (2, 0), (3, 0)] {
+            lines.push(line(i, 1, class, (i as u32 + shift) % 21, to));
+        }
+    }
+    lines.push(line(300, 2, 1, 0, 301));
+    let rec = written(1_024, &lines);
+    for test in [0x28, 0x29] {
+        let pat = repeats(10, &[0x27, 1, 0, 0x25, 0x26, test, 1, 0, 0x22, 2, 0]);
+        b.words(&rec, &pat, 4_202_496)?;
+        b.find_in(ask(&rec, &pat, 0, 301), 4_202_496, 301, 301)?;
+        b.find_in(ask(&rec, &pat, 0, 301), 4_202_496, 300, refused(19, 301))?;
+        b.find_in(ask(&rec, &pat, 0, 600), 4_202_496, 300, NO_CHAIN)?;
+    }
+
+    // Four places, two keeps inside each other: sisters of the first, other classes than the
+    // second's.
+    let boat = |n: u16| ((n / 21 + 1) as u8, n as u32);
+    let mut lines: Vec<Line> = (0..63)
+        .map(|n| line(n % 3, 1, boat(n).0, boat(n).1, (n + 1) % 3))
+        .collect();
+    lines.push(line(1, 2, 1, 0, 2));
+    let none = written(4, &lines);
+    lines.push(line(2, 2, 1, 10, 3));
+    let found = written(4, &lines);
+    let core = [
+        0x27, 1, 0, 0x25, 0x26, 0x28, 1, 0, 0x27, 1, 1, 0x25, 0x26, 0x29, 1, 1, 0x25, 0x22, 2, 0,
+        0x22, 2, 1,
+    ];
+    let pat = repeats(52, &core);
+    b.words(&found, &pat, 4_202_496)?;
+    b.found(ask(&found, &pat, 0, 3), &[0, 10, 23, 21, 63, 64])?;
+    b.none(ask(&none, &pat, 0, 3))?;
+    Ok(format!("{:?} with the comparison", clock.elapsed()))
+}
+
 /// Commands, and the deepest nesting of keeps; refusals as they come before the room.
 fn pattern_counts(b: &Bench) -> Result<String, String> {
     let keep = [0x27, 1, 0];
@@ -1305,7 +1628,7 @@ fn pattern_counts(b: &Bench) -> Result<String, String> {
     b.pattern(&[&three[..], &[0x20]].concat(), Ok([4, 3]))?;
     b.pattern(&beside, Ok([5, 1]))?;
     b.pattern(&[], Err(8))?;
-    b.pattern(&[0x28], Err(8))?;
+    b.pattern(&[0x2A], Err(8))?;
     b.pattern(&repeats(63, &[0x20]), Err(9))?;
     b.pattern(&[0x21], Err(10))?;
     b.pattern(&[0x21, 0], Err(11))?;

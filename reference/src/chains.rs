@@ -1,7 +1,7 @@
 //! Chains: when one leads from a place to a place, when it is accepted, and the first
 //! shortest accepted one, found in two ways that share nothing but the record.
 
-use crate::machine::{boat_numbers, Machine, State};
+use crate::machine::{boat_words, Machine, State};
 use crate::membership::{is_member, Letter};
 use crate::pattern::Pattern;
 use crate::record::Record;
@@ -49,7 +49,7 @@ impl Asked {
 
     /// Is the chain accepted, by the machine?
     pub fn accepted_by_machine(&self, chain: &[u16]) -> bool {
-        let boats = boat_numbers(&self.record);
+        let boats = boat_words(&self.record);
         let lines = chain.iter().map(|&number| {
             let number = number as usize;
             (&self.record.lines[number], boats[number])
@@ -140,7 +140,7 @@ struct Group {
 /// The accepting state is met in the same way.
 pub fn search(asked: &Asked) -> Option<Vec<u16>> {
     let machine = Machine::new(&asked.pattern.root);
-    let boats = boat_numbers(&asked.record);
+    let boats = boat_words(&asked.record);
     let lines_from = asked.lines_from();
     let accepting = |s: &Standing| s.place == asked.to && machine.is_done(s.state);
 
@@ -235,6 +235,9 @@ impl Hasher for Mixer {
         self.write_u64(n as u64);
     }
     fn write_u16(&mut self, n: u16) {
+        self.write_u64(n as u64);
+    }
+    fn write_u32(&mut self, n: u32) {
         self.write_u64(n as u64);
     }
     fn write_u64(&mut self, n: u64) {

@@ -1,6 +1,6 @@
 //! Planted faults: copies of this program, each wrong in one way that a reader of document 01
-//! or of request One could fall into. The comparison must tell every one of them from this program, so that its
-//! silence about the library says something.
+//! or of requests One and Two could fall into. The comparison must tell every one of them from
+//! this program, so that its silence about the library says something.
 
 mod faulty;
 mod reading;
@@ -39,6 +39,9 @@ pub enum Fault {
     KeptEarlier,
     CountsAllKeeps,
     CountsSlots,
+    SixteenCommands,
+    Never12OfSister,
+    Never12OfForeign,
     // Sizes.
     SizeByAllKeeps,
     SizeBySlots,
@@ -66,6 +69,16 @@ pub enum Fault {
     UnreadByNumber,
     KeepRefusesUnread,
     LineRefusesUnread,
+    // Another boat of the class, and another class.
+    SisterTakesSame,
+    SisterOfAnyClass,
+    SisterOfUnreadLine,
+    SisterOfUnreadSlot,
+    ForeignAsOther,
+    ForeignOtherNumber,
+    ForeignOfUnreadLine,
+    ForeignOfUnreadSlot,
+    SisterAndForeign,
     // The checker.
     AnyStart,
     AnyEnd,
@@ -84,6 +97,10 @@ pub enum Fault {
     SilentStepsQueued,
     LastChain,
     TwoOfARun,
+    SisterOfThinRuns,
+    ForeignOfThinRuns,
+    ForeignOfFirstLine,
+    SisterOfFirstBoat,
     // The work area.
     TrustsArea,
     NeverClears,
@@ -159,6 +176,9 @@ pub const PLANTED: &[Planted] = &[
     planted(KeptEarlier, BCF, "12 by a keep of the slot anywhere before"),
     planted(CountsAllKeeps, BCF, "13 by the count of all keeps so far"),
     planted(CountsSlots, BCF, "13 by the different slots around"),
+    planted(SixteenCommands, BCF, "8 by the range from 20 to 2F"),
+    planted(Never12OfSister, BCF, "does not ask 12 of 28"),
+    planted(Never12OfForeign, BCF, "does not ask 12 of 29"),
     planted(SizeByAllKeeps, BCF, "takes all keeps of the pattern for the power in the search size"),
     planted(SizeBySlots, BCF, "takes the different slots for the power in the search size"),
     planted(SizeByLines, BCF, "counts lines, not boats, in the search size"),
@@ -182,6 +202,15 @@ pub const PLANTED: &[Planted] = &[
     planted(UnreadByNumber, CF, "takes number 0 of every class for unread"),
     planted(KeepRefusesUnread, CF, "keeps no unread number"),
     planted(LineRefusesUnread, CF, "21 takes no line with an unread number"),
+    planted(SisterTakesSame, CF, "28 takes the slot's boat too"),
+    planted(SisterOfAnyClass, CF, "28 takes another number of whatever class"),
+    planted(SisterOfUnreadLine, CF, "28 compares an unread line's class and number"),
+    planted(SisterOfUnreadSlot, CF, "28 compares an unread slot's class and number"),
+    planted(ForeignAsOther, CF, "29 as 23"),
+    planted(ForeignOtherNumber, CF, "29 wants another number too"),
+    planted(ForeignOfUnreadLine, CF, "29 compares an unread line's class"),
+    planted(ForeignOfUnreadSlot, CF, "29 compares an unread slot's class"),
+    planted(SisterAndForeign, CF, "28 and 29 taken for each other"),
     planted(AnyStart, C, "says yes wherever the chain begins"),
     planted(AnyEnd, C, "says yes wherever the chain ends"),
     planted(NoForMissingLine, C, "says no where a line does not exist"),
@@ -198,6 +227,10 @@ pub const PLANTED: &[Planted] = &[
     planted(SilentStepsQueued, F, "steps that take no line wait in the queue like the others"),
     planted(LastChain, F, "of shortest chains, the one with the higher line numbers"),
     planted(TwoOfARun, F, "of lines between two places, other sees the first and the first with another number"),
+    planted(SisterOfThinRuns, F, "of lines between two places, 28 sees the first and those of the first two read boats"),
+    planted(ForeignOfThinRuns, F, "of lines between two places, 29 sees the first and those of the first two read boats"),
+    planted(ForeignOfFirstLine, F, "of lines between two places, 29 sees the first read one"),
+    planted(SisterOfFirstBoat, F, "of lines between two places, 28 sees the first boat of each class"),
     planted(TrustsArea, CF, "takes what the area held before for its own marks"),
     planted(NeverClears, CF, "does not clear the area"),
     planted(ClearsNeeded, CF, "clears only the words that are needed"),

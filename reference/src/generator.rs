@@ -1,11 +1,11 @@
 //! Requests made at random, leaning towards what goes wrong: laps and self-loops, so that
 //! chains get longer than the list of places; nested keeps that use a slot again; one
-//! sail number in two classes; days with many unread numbers; patterns that accept the empty
-//! word under repeat; every question at its edge; damaged bytes; areas and outputs that fit
-//! exactly or just don't.
+//! sail number in two classes, and several numbers in one; days with many unread numbers;
+//! patterns that accept the empty word under repeat; every question at its edge; damaged
+//! bytes; areas and outputs that fit exactly or just don't.
 
-use crate::membership::{Letter, Valuation};
-use crate::pattern::{read_pattern, Node};
+use crate::membership::{compared, takes, Letter, Valuation};
+use crate::pattern::{read_pattern, Node, Rule};
 use crate::random::Random;
 use crate::record::{written, Boat, Line, LONGEST, MOST_LINES, UNREAD};
 use crate::request::words;
@@ -61,21 +61,25 @@ fn pool(random: &mut Random) -> Pool {
     let mut kinds = vec![1, 2, 3, 15];
     let most = random.pick(&[1, 2, 2, 3, 3, 4]);
     kinds.truncate(most);
-    // Numbers shared by two classes, class 0 and number 0, which alone are not unread, and bytes
-    // at their edges.
+    // Few classes with several numbers each, numbers shared by two of them, class 0 and number 0,
+    // which alone are not unread, and bytes at their edges. Half of the days have two classes.
     let mut boats = vec![
         boat(1, 150),
-        boat(2, 150),
         boat(1, 151),
+        boat(1, 0),
+        boat(1, 256 + 150),
+        boat(2, 150),
+        boat(2, 151),
+        boat(2, 0),
         boat(0, 150),
         boat(0, 5),
-        boat(1, 0),
-        boat(3, 0),
         boat(255, 16_777_215),
-        boat(1, 256 + 150),
     ];
+    if random.once_in(2) {
+        boats.retain(|boat| boat.class < 2);
+    }
     random.shuffle(&mut boats);
-    let most = random.between(1, 5);
+    let most = random.between(1, 6);
     boats.truncate(most);
     Pool {
         kinds,
@@ -135,12 +139,17 @@ fn grow_leaf(random: &mut Random, pool: &Pool, around: &[u8], bytes: &mut Vec<u8
     let choice = random.below(10);
     if !around.is_empty() && choice < 7 {
         let slot = random.pick(around);
-        bytes.extend([if choice < 4 { 0x22 } else { 0x23 }, kind, slot]);
+        bytes.extend([any_test(random), kind, slot]);
     } else if choice == 9 || (around.is_empty() && choice == 8) {
         bytes.push(0x20);
     } else {
         bytes.extend([0x21, kind]);
     }
+}
+
+/// A command that compares boats.
+fn any_test(random: &mut Random) -> u8 {
+    random.pick(&[0x22, 0x22, 0x22, 0x23, 0x23, 0x28, 0x28, 0x28, 0x29, 0x29])
 }
 
 /// A pattern of so many commands whose keeps nest so deep, for sizes at their edge.
@@ -162,7 +171,8 @@ fn edge_pattern(random: &mut Random) -> Vec<u8> {
         bytes
     };
     let slot = random.below(4) as u8;
-    match random.below(18) {
+    let test = random.pick(&[0x22, 0x23, 0x28, 0x29]);
+    match random.below(20) {
         0 => repeats(62, &[0x20]),
         1 => repeats(63, &[0x20]),
         2 => repeats(63, &[]),
@@ -171,22 +181,24 @@ fn edge_pattern(random: &mut Random) -> Vec<u8> {
         5 => repeats(62, &[0x20, 0x20]),
         6 => repeats(62, &[0x21, 1]),
         7 => repeats(62, &[0x21, 0]),
-        8 => vec![0x27, 1, 0, 0x27, 1, 1, 0x27, 1, 2, 0x22, 1, slot],
+        8 => vec![0x27, 1, 0, 0x27, 1, 1, 0x27, 1, 2, test, 1, slot],
         9 => vec![0x27, 1, 0, 0x27, 1, 1, 0x27, 1, 2, 0x27, 1, slot, 0x20],
         10 => vec![0x27, 1, 0, 0x27, 1, 0, 0x27, 1, 0, 0x27, 1, 7, 0x20],
-        11 => vec![0x25, 0x27, 1, 0, 0x20, 0x22, 1, 0],
-        12 => vec![0x27, 1, 0, 0x25, 0x27, 1, slot, 0x20, 0x22, 1, slot],
-        13 => vec![0x22, 0],
-        14 => vec![0x22, 0, 5],
-        15 => vec![0x22, 15, slot],
+        11 => vec![0x25, 0x27, 1, 0, 0x20, test, 1, 0],
+        12 => vec![0x27, 1, 0, 0x25, 0x27, 1, slot, 0x20, test, 1, slot],
+        13 => vec![test, 0],
+        14 => vec![test, 0, 5],
+        15 => vec![test, 15, slot],
         16 => vec![],
+        // The bytes after the last command, as one of a kept slot.
+        17 | 18 => vec![0x27, 1, slot, random.between(0x28, 0x2F) as u8, 1, slot],
         _ => {
             // Thirty-one pairs and one more: 63 commands of the widest kind.
             let mut bytes = vec![0x27, 1, slot];
             for _ in 0..30 {
-                bytes.extend([0x25, 0x22, 1, slot]);
+                bytes.extend([0x25, test, 1, slot]);
             }
-            bytes.extend([0x26, 0x23, 1, slot]);
+            bytes.extend([0x26, any_test(random), 1, slot]);
             bytes
         }
     }
@@ -194,7 +206,7 @@ fn edge_pattern(random: &mut Random) -> Vec<u8> {
 
 /// Patterns that are known to be hard to get right.
 fn known_pattern(random: &mut Random) -> Vec<u8> {
-    let known: [&[u8]; 10] = [
+    let known: [&[u8]; 14] = [
         &[
             0x27, 1, 0, 0x25, 0x22, 2, 0, 0x25, 0x26, 0x22, 3, 0, 0x22, 15, 0,
         ],
@@ -205,6 +217,12 @@ fn known_pattern(random: &mut Random) -> Vec<u8> {
         &[0x24, 0x25, 0x20, 0x20, 0x21, 2],
         &[0x26, 0x27, 1, 0, 0x25, 0x26, 0x21, 2, 0x22, 3, 0],
         &[0x27, 1, 0, 0x26, 0x23, 1, 0],
+        &[0x27, 1, 0, 0x28, 2, 0],
+        &[0x27, 1, 0, 0x29, 2, 0],
+        &[0x27, 1, 0, 0x25, 0x26, 0x29, 1, 0, 0x28, 2, 0],
+        &[
+            0x27, 1, 0, 0x25, 0x28, 2, 0, 0x25, 0x26, 0x24, 0x28, 3, 0, 0x29, 3, 0, 0x22, 1, 0,
+        ],
         &[
             0x25, 0x26, 0x21, 1, 0x25, 0x27, 1, 0, 0x25, 0x26, 0x21, 1, 0x22, 1, 0, 0x26, 0x21, 1,
         ],
@@ -217,8 +235,9 @@ fn known_pattern(random: &mut Random) -> Vec<u8> {
 
 // ---- words and days
 
-/// A word of the pattern's language; but where a slot holds an unread number, there is no line
-/// that passes its tests, and the word has one that looks as if it did.
+/// A word of the pattern's language, or one that a boat keeps out of it; where a slot holds an
+/// unread number, there is no line that passes its tests, and the word has one that looks as if it
+/// did.
 fn sampled(
     random: &mut Random,
     pool: &Pool,
@@ -232,19 +251,9 @@ fn sampled(
             kind: *kind,
             boat: any_boat(random, pool),
         }],
-        Node::Same { kind, slot } => vec![Letter {
-            kind: *kind,
-            boat: v[*slot as usize].expect("kept"),
-        }],
-        Node::Other { kind, slot } => {
+        Node::Test { rule, kind, slot } => {
             let kept = v[*slot as usize].expect("kept");
-            let others: Vec<Boat> = pool.boats.iter().copied().filter(|b| *b != kept).collect();
-            let boat = if others.is_empty() {
-                // The same number in another class.
-                boat(kept.class ^ 4, kept.sail)
-            } else {
-                random.pick(&others)
-            };
+            let boat = taken(random, pool, *rule, kept);
             vec![Letter { kind: *kind, boat }]
         }
         Node::Either(one, two) => {
@@ -271,6 +280,26 @@ fn sampled(
             word.extend(sampled(random, pool, inner, inside, rounds));
             word
         }
+    }
+}
+
+/// A boat that the rule takes, this one being kept, of the pool if it has any; but one in eight is
+/// any boat of the pool, or one with the kept boat's class.
+fn taken(random: &mut Random, pool: &Pool, rule: Rule, kept: Boat) -> Boat {
+    if random.once_in(8) {
+        let any = random.pick(&pool.boats);
+        return random.pick(&[any, boat(kept.class, any.sail)]);
+    }
+    let boats = pool.boats.iter().copied();
+    let taken: Vec<Boat> = boats
+        .filter(|&boat| takes(rule, compared(kept, boat)))
+        .collect();
+    match rule {
+        _ if !taken.is_empty() => random.pick(&taken),
+        Rule::Same => kept,
+        Rule::Sister => boat(kept.class, kept.sail ^ 2),
+        // The same number in another class.
+        Rule::Other | Rule::Foreign => boat(kept.class ^ 4, kept.sail),
     }
 }
 
@@ -332,11 +361,11 @@ fn laid_out(random: &mut Random, pool: &Pool, word: &[Letter], places: u16) -> D
         place = lines[number].to;
     }
     let planted = lines.len();
-    for _ in 0..random.pick(&[0, 1, 3, 6, 12]) {
+    for _ in 0..random.pick(&[0, 2, 4, 8, 12]) {
         let mut line = any_line(random, pool, places);
         if planted > 0 && !random.once_in(3) {
             let like = lines[random.below(planted)];
-            line = match random.below(6) {
+            line = match random.below(9) {
                 0 => like,
                 1 => Line {
                     kind: line.kind,
@@ -350,8 +379,14 @@ fn laid_out(random: &mut Random, pool: &Pool, word: &[Letter], places: u16) -> D
                     to: line.to,
                     ..like
                 },
-                _ => Line {
+                4..=6 => Line {
                     class: line.class,
+                    sail: line.sail,
+                    ..like
+                },
+                // In the class of a boat that may be kept.
+                _ => Line {
+                    class: lines[random.below(planted)].class,
                     sail: line.sail,
                     ..like
                 },
@@ -527,9 +562,15 @@ pub fn damage_pattern(random: &mut Random, bytes: &mut Vec<u8>) {
         0 => bytes.truncate(at),
         1 => bytes.push(random.pick(&[0x20, 0x21, 0x26, 0xFF, 0])),
         2 => set(bytes, at, &[random.byte()]),
-        3 => set(bytes, at, &[random.pick(&[0x1F, 0x20, 0x27, 0x28, 0xFF])]),
+        3 => {
+            let byte = random.between(0x27, 0x30) as u8;
+            set(bytes, at, &[random.pick(&[0x1F, 0x20, byte, byte, 0xFF])])
+        }
         4 => set(bytes, at, &[random.pick(&[0, 1, 3, 4, 15, 16, 255])]),
-        5 => bytes.insert(at, random.pick(&[0x20, 0x21, 0x22, 0x25, 0x26, 0x27])),
+        5 => {
+            let test = any_test(random);
+            bytes.insert(at, random.pick(&[0x20, 0x21, test, 0x25, 0x26, 0x27]))
+        }
         6 => {
             if at < bytes.len() {
                 bytes.remove(at);
@@ -577,7 +618,8 @@ pub fn any_bytes(random: &mut Random) -> (Vec<u8>, Vec<u8>) {
             pat.clear();
             for _ in 0..random.below(12) {
                 let byte = random.byte();
-                pat.push(random.pick(&[0x20 + (byte & 7), byte & 15, byte & 3, byte]));
+                let (command, near) = (0x20 + byte % 10, 0x20 + (byte & 15));
+                pat.push(random.pick(&[command, command, near, byte & 15, byte & 3, byte]));
             }
         }
         1 => {

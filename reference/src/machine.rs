@@ -4,11 +4,24 @@
 //! slot. Going into a keep pushes a boat, coming out of it pops one: an outer keep's
 //! boat of the same slot is then on top again.
 
-use crate::pattern::{Node, DEEPEST};
+use crate::pattern::{Node, Rule, DEEPEST};
 use crate::record::{Line, Record};
 
-/// The number of an unread boat; no record has so many others.
-pub const NOT_READ: u16 = u16::MAX;
+/// A boat as one word: the class is its high byte, the sail number the three others.
+pub type Word = u32;
+
+/// The word of an unread number.
+pub const NOT_READ: Word = 0;
+
+/// The sail number of a boat's word.
+pub(crate) fn sail(boat: Word) -> Word {
+    boat & 0x00FF_FFFF
+}
+
+/// Are two boats of one class?
+pub(crate) fn of_one_class(one: Word, two: Word) -> bool {
+    one >> 24 == two >> 24
+}
 
 /// What a spot does.
 #[derive(Clone, Copy, Debug)]
@@ -26,36 +39,44 @@ pub(crate) enum Spot {
 #[derive(Clone, Copy, Debug)]
 pub(crate) enum Test {
     Kind(u8),
-    Same(u8, u8),
-    Other(u8, u8),
+    Boat(Rule, u8, u8),
     /// Passes on the kind, and pushes the line's boat under this slot.
     Keep(u8, u8),
 }
 
 impl Test {
     /// The stack after a line that passes.
-    pub(crate) fn passed(self, stack: Stack, line: &Line, boat: u16) -> Option<Stack> {
+    pub(crate) fn passed(self, stack: Stack, line: &Line, boat: Word) -> Option<Stack> {
         match self {
             Test::Kind(kind) => (line.kind == kind).then_some(stack),
-            // An unread number, the line's or the kept one, passes neither.
-            Test::Same(kind, _) | Test::Other(kind, _) if line.kind != kind => None,
-            Test::Same(..) | Test::Other(..) if boat == NOT_READ => None,
-            Test::Same(_, slot) => (stack.boat_of(slot)? == boat).then_some(stack),
-            Test::Other(_, slot) => match stack.boat_of(slot)? {
-                NOT_READ => None,
-                kept => (kept != boat).then_some(stack),
-            },
+            Test::Boat(rule, kind, slot) => {
+                (line.kind == kind && meets(rule, stack.boat_of(slot)?, boat)).then_some(stack)
+            }
             Test::Keep(kind, slot) => (line.kind == kind).then(|| stack.pushed(slot, boat)),
         }
     }
 }
 
-/// One boat on the stack, with its slot. Boats are numbered in the order in which the
-/// record first names them; an unread one is `NOT_READ`.
+/// Does a line's boat pass the rule, that boat being kept? With an unread number it passes none.
+pub(crate) fn meets(rule: Rule, kept: Word, boat: Word) -> bool {
+    kept != NOT_READ && boat != NOT_READ && agrees(rule, kept, boat)
+}
+
+/// The same of boats that were read.
+pub(crate) fn agrees(rule: Rule, kept: Word, boat: Word) -> bool {
+    match rule {
+        Rule::Same => kept == boat,
+        Rule::Other => kept != boat,
+        Rule::Sister => of_one_class(kept, boat) && kept != boat,
+        Rule::Foreign => !of_one_class(kept, boat),
+    }
+}
+
+/// One boat on the stack, with its slot.
 #[derive(Clone, Copy, PartialEq, Eq, PartialOrd, Ord, Hash, Debug, Default)]
 struct Kept {
     slot: u8,
-    boat: u16,
+    boat: Word,
 }
 
 /// The boats kept, the outermost keep's first.
@@ -66,7 +87,7 @@ pub struct Stack {
 }
 
 impl Stack {
-    fn pushed(mut self, slot: u8, boat: u16) -> Stack {
+    fn pushed(mut self, slot: u8, boat: Word) -> Stack {
         self.kept[self.depth as usize] = Kept { slot, boat };
         self.depth += 1;
         self
@@ -79,7 +100,7 @@ impl Stack {
     }
 
     /// The boat of the innermost keep of this slot.
-    pub(crate) fn boat_of(&self, slot: u8) -> Option<u16> {
+    pub(crate) fn boat_of(&self, slot: u8) -> Option<Word> {
         self.kept[..self.depth as usize]
             .iter()
             .rev()
@@ -120,7 +141,7 @@ impl Machine {
     }
 
     /// Adds the states after a line of this kind and boat, taken in a state.
-    pub fn take(&self, state: State, line: &Line, boat: u16, after: &mut Vec<State>) {
+    pub fn take(&self, state: State, line: &Line, boat: Word, after: &mut Vec<State>) {
         let Spot::Take { test, next } = self.spots[state.spot as usize] else {
             return;
         };
@@ -158,8 +179,8 @@ impl Machine {
         }
     }
 
-    /// Is the word of these lines accepted? Lines are given with their boats' numbers.
-    pub fn accepts<'a>(&self, word: impl Iterator<Item = (&'a Line, u16)>) -> bool {
+    /// Is the word of these lines accepted? Lines are given with their boats.
+    pub fn accepts<'a>(&self, word: impl Iterator<Item = (&'a Line, Word)>) -> bool {
         let mut states = self.begin();
         let mut after = Vec::new();
         for (line, boat) in word {
@@ -186,12 +207,8 @@ fn build(spots: &mut Vec<Spot>, node: &Node, next: usize) -> usize {
             test: Test::Kind(*kind),
             next,
         },
-        Node::Same { kind, slot } => Spot::Take {
-            test: Test::Same(*kind, *slot),
-            next,
-        },
-        Node::Other { kind, slot } => Spot::Take {
-            test: Test::Other(*kind, *slot),
+        Node::Test { rule, kind, slot } => Spot::Take {
+            test: Test::Boat(*rule, *kind, *slot),
             next,
         },
         Node::Either(one, two) => Spot::Fork {
@@ -229,19 +246,10 @@ fn build(spots: &mut Vec<Spot>, node: &Node, next: usize) -> usize {
     spots.len() - 1
 }
 
-/// The number of each line's boat, boats being numbered as the record first names them;
-/// `NOT_READ` for class 0 with number 0.
-pub fn boat_numbers(record: &Record) -> Vec<u16> {
-    let mut numbers = std::collections::HashMap::new();
-    record
-        .lines
-        .iter()
-        .map(|line| {
-            if line.class == 0 && line.sail == 0 {
-                return NOT_READ;
-            }
-            let fresh = numbers.len() as u16;
-            *numbers.entry(line.boat()).or_insert(fresh)
-        })
+/// Each line's boat.
+pub fn boat_words(record: &Record) -> Vec<Word> {
+    let lines = record.lines.iter();
+    lines
+        .map(|line| (line.class as Word) << 24 | line.sail)
         .collect()
 }

@@ -1,8 +1,8 @@
 //! Is a word in a pattern's language? Straight from the clauses of source 001, section 3, with
-//! request One's rule put over those of same and other:
+//! what requests One and Two say about comparing boats in those of the tests:
 //! `accepts(r, v, from, to)` says whether the letters `from..to` are a word of L(r, v).
 
-use crate::pattern::Node;
+use crate::pattern::{Node, Rule};
 use crate::record::{Boat, UNREAD};
 use std::collections::HashMap;
 
@@ -25,10 +25,37 @@ pub fn is_member(root: &Node, word: &[Letter]) -> bool {
     asked.accepts(root, [None; 4], 0, word.len())
 }
 
-/// The kept boat, where neither it nor the line's is an unread number, which says nothing about
-/// any boat.
-fn both_read(kept: Option<Boat>, boat: Boat) -> Option<Boat> {
-    kept.filter(|&kept| kept != UNREAD && boat != UNREAD)
+/// What comparing a slot's boat with a line's tells.
+#[derive(Clone, Copy, PartialEq, Eq, PartialOrd, Ord, Debug)]
+pub enum Outcome {
+    /// One of the two numbers was not read, or both: nothing is known.
+    Unread,
+    SameBoat,
+    /// The same class, and another number.
+    SameClass,
+    OtherClass,
+}
+
+pub fn compared(kept: Boat, boat: Boat) -> Outcome {
+    if kept == UNREAD || boat == UNREAD {
+        Outcome::Unread
+    } else if kept == boat {
+        Outcome::SameBoat
+    } else if kept.class == boat.class {
+        Outcome::SameClass
+    } else {
+        Outcome::OtherClass
+    }
+}
+
+/// Does the rule take a line whose boat compares so?
+pub fn takes(rule: Rule, outcome: Outcome) -> bool {
+    match rule {
+        Rule::Same => outcome == Outcome::SameBoat,
+        Rule::Other => outcome == Outcome::SameClass || outcome == Outcome::OtherClass,
+        Rule::Sister => outcome == Outcome::SameClass,
+        Rule::Foreign => outcome == Outcome::OtherClass,
+    }
 }
 
 struct Membership<'a> {
@@ -43,13 +70,9 @@ impl Membership<'_> {
         match r {
             Node::Nothing => from == to,
             Node::Line { kind } => self.one(from, to).is_some_and(|l| l.kind == *kind),
-            Node::Same { kind, slot } => self.one(from, to).is_some_and(|l| {
+            Node::Test { rule, kind, slot } => self.one(from, to).is_some_and(|l| {
                 l.kind == *kind
-                    && both_read(v[*slot as usize], l.boat).is_some_and(|kept| kept == l.boat)
-            }),
-            Node::Other { kind, slot } => self.one(from, to).is_some_and(|l| {
-                l.kind == *kind
-                    && both_read(v[*slot as usize], l.boat).is_some_and(|kept| kept != l.boat)
+                    && v[*slot as usize].is_some_and(|kept| takes(*rule, compared(kept, l.boat)))
             }),
             Node::Either(one, two) => {
                 self.accepts(one, v, from, to) || self.accepts(two, v, from, to)

@@ -5,17 +5,39 @@ pub const MOST_COMMANDS: usize = 63;
 /// Keeps nest at most this deep.
 pub const DEEPEST: usize = 3;
 
+/// The commands that compare a line's boat with a slot's.
+#[derive(Clone, Copy, PartialEq, Eq, Debug)]
+pub enum Rule {
+    /// 22: the slot's boat.
+    Same,
+    /// 23: another boat.
+    Other,
+    /// 28: another boat of the slot's class.
+    Sister,
+    /// 29: a boat of another class.
+    Foreign,
+}
+
+impl Rule {
+    pub fn of(command: u8) -> Option<Rule> {
+        match command {
+            0x22 => Some(Rule::Same),
+            0x23 => Some(Rule::Other),
+            0x28 => Some(Rule::Sister),
+            0x29 => Some(Rule::Foreign),
+            _ => None,
+        }
+    }
+}
+
 #[derive(Clone, PartialEq, Eq, Debug)]
 pub enum Node {
     Nothing,
     Line {
         kind: u8,
     },
-    Same {
-        kind: u8,
-        slot: u8,
-    },
-    Other {
+    Test {
+        rule: Rule,
         kind: u8,
         slot: u8,
     },
@@ -70,7 +92,7 @@ impl Reader<'_> {
         let Some(&command) = self.bytes.get(self.at) else {
             return Err(8);
         };
-        if !(0x20..=0x27).contains(&command) {
+        if !(0x20..=0x29).contains(&command) {
             return Err(8);
         }
         self.commands += 1;
@@ -79,7 +101,7 @@ impl Reader<'_> {
         }
         let width = match command {
             0x21 => 1,
-            0x22 | 0x23 | 0x27 => 2,
+            0x22 | 0x23 | 0x27 | 0x28 | 0x29 => 2,
             _ => 0,
         };
         let first = self.at + 1;
@@ -93,20 +115,16 @@ impl Reader<'_> {
             return Err(11);
         }
         self.at = first + width;
+        if let Some(rule) = Rule::of(command) {
+            let (kind, slot) = (operands[0], operands[1]);
+            if !around.contains(&slot) {
+                return Err(12);
+            }
+            return Ok(Node::Test { rule, kind, slot });
+        }
         match command {
             0x20 => Ok(Node::Nothing),
             0x21 => Ok(Node::Line { kind: operands[0] }),
-            0x22 | 0x23 => {
-                let (kind, slot) = (operands[0], operands[1]);
-                if !around.contains(&slot) {
-                    return Err(12);
-                }
-                if command == 0x22 {
-                    Ok(Node::Same { kind, slot })
-                } else {
-                    Ok(Node::Other { kind, slot })
-                }
-            }
             0x24 => {
                 let one = self.node(around)?;
                 let two = self.node(around)?;

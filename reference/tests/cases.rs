@@ -5,9 +5,10 @@ use reference::cases::{Bench, ALL};
 use reference::library::Own;
 
 /// Long searches are left to the release build.
-const LONG: [&str; 2] = [
+const LONG: [&str; 3] = [
     "V11: a chain of 92,400 lines",
     "the largest size, found and none",
+    "Two: the largest size, found and none",
 ];
 
 fn run(wanted: impl Fn(&str) -> bool) {

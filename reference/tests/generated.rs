@@ -1,10 +1,13 @@
 //! The random requests meet every question and every reply, and are what they are meant to be.
 
+use reference::chains::search;
 use reference::generator::{request, Room};
 use reference::library::Own;
+use reference::membership::compared;
+use reference::pattern::{Node, Rule};
 use reference::random::Random;
 use reference::record::{read_record, written, UNREAD};
-use reference::request::{shortest, NO_CHAIN};
+use reference::request::{ask, shortest, NO_CHAIN};
 use reference::rounds::{self, Round};
 use std::collections::BTreeMap;
 
@@ -85,7 +88,7 @@ fn unread_numbers_are_met() {
     let mut random = Random::new(8);
     let (mut with, mut without, mut lines, mut unread) = (0, 0, 0, 0);
     let (mut class_0, mut number_0, mut changed) = (0, 0, 0);
-    for _ in 0..6_000 {
+    for _ in 0..10_000 {
         let r = request(&mut random);
         let Ok(mut record) = read_record(&r.rec) else {
             continue;
@@ -109,9 +112,76 @@ fn unread_numbers_are_met() {
         changed += (first(&r.rec) != first(&renamed)) as usize;
     }
     println!("{with} days with {unread} unread of {lines} lines, {without} without; {class_0} with class 0, {number_0} with number 0; {changed} replies changed");
-    assert!(with > 1_500 && without > 2_000);
+    assert!(with > 2_500 && without > 3_300);
     assert!(4 * unread > lines && 2 * unread < lines);
     assert!(class_0 > 1_000 && number_0 > 1_000 && changed > 150);
+}
+
+/// The pattern with one of its tests in place of another.
+fn retested(node: &Node, from: Rule, to: Rule) -> Node {
+    let inside = |node: &Node| Box::new(retested(node, from, to));
+    match node {
+        Node::Test { rule, kind, slot } if *rule == from => Node::Test {
+            rule: to,
+            kind: *kind,
+            slot: *slot,
+        },
+        Node::Either(one, two) => Node::Either(inside(one), inside(two)),
+        Node::Then(first, second) => Node::Then(inside(first), inside(second)),
+        Node::Repeat(body) => Node::Repeat(inside(body)),
+        Node::Keep { kind, slot, inner } => Node::Keep {
+            kind: *kind,
+            slot: *slot,
+            inner: inside(inner),
+        },
+        leaf => leaf.clone(),
+    }
+}
+
+/// Lines that follow each other compare in all four ways, and each test decides many replies: they
+/// change with any other in its place.
+#[test]
+fn outcomes_are_met() {
+    use Rule::*;
+    let mut random = Random::new(9);
+    let mut outcomes = BTreeMap::new();
+    let mut tests = BTreeMap::new();
+    let mut changed = BTreeMap::new();
+    for _ in 0..20_000 {
+        let r = request(&mut random);
+        let Ok(mut asked) = ask(&r.rec, &r.pat, r.from, r.to, r.work_len) else {
+            continue;
+        };
+        // Full days have more such lines than all others together.
+        let lines = &asked.record.lines[..asked.record.lines.len().min(60)];
+        for line in lines {
+            for next in lines.iter().filter(|next| next.from == line.to) {
+                *outcomes
+                    .entry(compared(line.boat(), next.boat()))
+                    .or_insert(0) += 1;
+            }
+        }
+        let root = asked.pattern.root.clone();
+        let first = search(&asked);
+        for test in [Same, Other, Sister, Foreign] {
+            let others = [Same, Other, Sister, Foreign].into_iter();
+            for other in others.filter(|other| *other != test) {
+                asked.pattern.root = retested(&root, test, other);
+                if asked.pattern.root == root {
+                    continue;
+                }
+                *tests.entry(format!("{test:?}")).or_insert(0) += 1;
+                if search(&asked) != first {
+                    *changed.entry(format!("{test:?} as {other:?}")).or_insert(0) += 1;
+                }
+            }
+        }
+    }
+    println!("{outcomes:?}, {tests:?}, {changed:?}");
+    let pairs: usize = outcomes.values().sum();
+    assert!(outcomes.len() == 4 && outcomes.values().all(|&count| 8 * count > pairs));
+    assert!(tests.len() == 4 && tests.values().all(|&count| count > 3 * 1_500));
+    assert!(changed.len() == 12 && changed.values().all(|&count| count > 60));
 }
 
 #[test]

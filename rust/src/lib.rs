@@ -5,9 +5,12 @@
 //! gives the shortest accepted chain between two places: the grounds for a place in the
 //! results. The repository's README explains the bytes of records and patterns.
 //!
+//! A pattern compares a line's boat with one that it has kept: the same (22) or another (23), and of
+//! others those of its class (sister, 28) and those of another class (foreign, 29).
+//!
 //! Class 0 with sail number 0 says that the number was not read, so that nothing is known of the
-//! boat. A pattern's same and other both fail on such a line, and both fail where the slot holds
-//! such a number; line takes it, keep keeps it, and together they count as one boat.
+//! boat. All four fail on such a line, and all four fail where the slot holds such a number; line
+//! takes it, keep keeps it, and together they count as one boat.
 //!
 //! - [`Record`] grows with its lines and can be asked directly; [`RecordIn`] stands in a buffer
 //!   that is given.

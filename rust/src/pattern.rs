@@ -21,6 +21,9 @@ pub struct Counts {
 /// // A boat entered, and then that boat finished.
 /// let counts = read_pattern(&[0x27, 1, 0, 0x22, 4, 0])?;
 /// assert_eq!((counts.commands, counts.keeps), (2, 1));
+/// // A boat entered, and then another of its class finished: a lent sail?
+/// let counts = read_pattern(&[0x27, 1, 0, 0x28, 4, 0])?;
+/// assert_eq!((counts.commands, counts.keeps), (2, 1));
 /// // That boat: which one?
 /// assert_eq!(read_pattern(&[0x22, 4, 0]), Err(Refusal::SlotNotKept));
 /// # Ok::<(), Refusal>(())

@@ -42,7 +42,7 @@ pub enum Refusal {
     OperandsMissing,
     /// 11: a command's kind is not 1 to 15, or its slot is not 0 to 3.
     OperandOutOfRange,
-    /// 12: same or other names a slot that no keep around it keeps.
+    /// 12: same, other, sister or foreign names a slot that no keep around it keeps.
     SlotNotKept,
     /// 13: keeps are nested more than three deep.
     KeepsTooDeep,

@@ -33,12 +33,14 @@ fn refused_records() -> Vec<(u32, Vec<u8>)> {
 fn refused_patterns() -> Vec<(u32, Vec<u8>)> {
     vec![
         (8, vec![]),
-        (8, vec![0x28]),
+        (8, vec![0x2A]),
         (9, repeats(63, &[0x20])),
         (10, vec![0x21]),
         (11, vec![0x21, 0]),
         (11, vec![0x27, 1, 4, 0x20]),
         (12, vec![0x22, 1, 0]),
+        (12, vec![0x28, 1, 0]),
+        (12, vec![0x29, 1, 0]),
         (
             13,
             vec![0x27, 1, 0, 0x27, 1, 1, 0x27, 1, 2, 0x27, 1, 3, 0x20],

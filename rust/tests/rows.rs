@@ -87,6 +87,46 @@ fn unread_numbers() -> Result<(), Refusal> {
     Ok(())
 }
 
+/// Sister takes another boat of the kept one's class, foreign one of another class; neither takes an
+/// unread number, nor any line where the slot holds one.
+#[test]
+fn classes() -> Result<(), Refusal> {
+    let mut finder = Finder::new();
+    let then = |test| [0x27, 1, 0, test, 2, 0];
+    let after = |kept: (u8, u32), boats: &[(u8, u32)]| {
+        let mut lines = vec![line(0, 1, kept.0, kept.1, 1)];
+        lines.extend(boats.iter().map(|boat| line(1, 2, boat.0, boat.1, 2)));
+        record(3, &lines)
+    };
+    let day = after((2, 1), &[(1, 7), (1, 8), (2, 1), (2, 9), (3, 1)]);
+    for (test, second, passed) in [
+        (0x22, 3, [false, false, true, false, false]),
+        (0x23, 1, [true, true, false, true, true]),
+        (0x28, 4, [false, false, false, true, false]),
+        (0x29, 1, [true, true, false, false, true]),
+    ] {
+        let pattern = then(test);
+        let ask = ask(&day, &pattern, 0, 2);
+        assert_eq!(finder.find(&ask)?, Some(&[0, second][..]));
+        for (number, passed) in (1..).zip(passed) {
+            assert_eq!(finder.check(&ask, &[0, number])?, passed);
+        }
+    }
+    let foreign_last = after((1, 1), &[(1, 7), (1, 8), (2, 1)]);
+    assert_eq!(foreign_last.find(&then(0x29), 0, 2)?, Some(vec![0, 3]));
+    for test in [0x28, 0x29] {
+        assert_eq!(
+            after((0, 0), &[(0, 5), (1, 1)]).find(&then(test), 0, 2)?,
+            None
+        );
+        assert_eq!(
+            after((0, 5), &[(0, 0), (0, 5)]).find(&then(test), 0, 2)?,
+            None
+        );
+    }
+    Ok(())
+}
+
 #[test]
 fn rows_of_questions() {
     let mut finder = Finder::new();
@@ -106,6 +146,15 @@ fn rows_of_questions() {
     assert_eq!(refused(&[0x21]), Err(10));
     assert_eq!(refused(&[0x21, 0]), Err(11));
     assert_eq!(refused(&[0x22, 1, 0]), Err(12));
+    for test in [0x28, 0x29] {
+        assert_eq!(refused(&[test, 1]), Err(10));
+        assert_eq!(refused(&[test, 1, 4]), Err(11));
+        assert_eq!(refused(&[test, 1, 0]), Err(12));
+        assert_eq!(refused(&[0x27, 1, 0, test, 1, 0]), Ok(None));
+    }
+    for byte in 0x2A..=0x2F {
+        assert_eq!(refused(&[byte]), Err(8));
+    }
     assert_eq!(refused(&[0x20, 0x20]), Err(14));
     assert_eq!(refused(&repeats(62, &[0x20])), Ok(Some(0)));
     assert_eq!(refused(&repeats(63, &[0x20])), Err(9));

@@ -512,6 +512,71 @@ static void test_unread(void)
     expect_words("one boat, two unread numbers", day.at, day.len, keep, 4, 0, 4 * 3 * 3 + 8192);
 }
 
+/* ---- classes */
+
+/* A boat entered, and after it lines of so many boats between two places. */
+static void write_classes(struct record *rec, const struct line *boats, size_t count)
+{
+    begin(rec, 3);
+    add(rec, (struct line){0, 1, boats[0].class_, boats[0].sail, 1});
+    for (size_t i = 1; i < count; i++) {
+        add(rec, (struct line){1, 2, boats[i].class_, boats[i].sail, 2});
+    }
+}
+
+/* The first of the lines that the test passes, or 0 where it passes none; and the checker's word on each of them. */
+static void classes(const char *what, const struct record *day, uint8_t test, size_t lines, uint16_t first, const uint8_t *passed)
+{
+    const uint8_t pattern[6] = {0x27, 1, 0, test, 2, 0};
+    const struct ask asked = {day, pattern, 6, 0, 2};
+    uint16_t chain[2] = {0, first};
+    if (first == 0) {
+        no_chain(what, asked);
+    } else {
+        found(what, asked, chain, 2);
+    }
+    for (chain[1] = 1; chain[1] < lines; chain[1]++) {
+        check(what, asked, chain, 2, passed[chain[1] - 1]);
+    }
+}
+
+/* Sister takes another boat of the kept one's class, foreign one of another class, neither an unread number on either side. */
+static void test_classes(void)
+{
+    static const struct line lent[6] = {{0, 0, 2, 1, 0}, {0, 0, 1, 7, 0}, {0, 0, 1, 8, 0},
+                                        {0, 0, 2, 1, 0}, {0, 0, 2, 9, 0}, {0, 0, 3, 1, 0}};
+    static const struct line late[4] = {{0, 0, 1, 1, 0}, {0, 0, 1, 7, 0}, {0, 0, 1, 8, 0}, {0, 0, 2, 1, 0}};
+    static const struct line slot[4] = {{0, 0, 0, 0, 0}, {0, 0, 0, 5, 0}, {0, 0, 1, 1, 0}, {0, 0, 0, 0, 0}};
+    static const struct line unread[4] = {{0, 0, 0, 5, 0}, {0, 0, 0, 0, 0}, {0, 0, 0, 6, 0}, {0, 0, 1, 5, 0}};
+    static const uint8_t none[3] = {0, 0, 0};
+    static struct record day;
+    write_classes(&day, lent, 6);
+    classes("2-1 kept, same", &day, 0x22, 6, 3, (const uint8_t[]){0, 0, 1, 0, 0});
+    classes("2-1 kept, other", &day, 0x23, 6, 1, (const uint8_t[]){1, 1, 0, 1, 1});
+    classes("2-1 kept, sister", &day, 0x28, 6, 4, (const uint8_t[]){0, 0, 0, 1, 0});
+    classes("2-1 kept, foreign", &day, 0x29, 6, 1, (const uint8_t[]){1, 1, 0, 0, 1});
+    write_classes(&day, late, 4);
+    classes("1-1 kept, sister", &day, 0x28, 4, 1, (const uint8_t[]){1, 1, 0});
+    classes("1-1 kept, foreign", &day, 0x29, 4, 3, (const uint8_t[]){0, 0, 1});
+    write_classes(&day, slot, 4);
+    classes("an unread number kept, sister", &day, 0x28, 4, 0, none);
+    classes("an unread number kept, foreign", &day, 0x29, 4, 0, none);
+    write_classes(&day, unread, 4);
+    classes("0-5 kept, sister", &day, 0x28, 4, 2, (const uint8_t[]){0, 1, 0});
+    classes("0-5 kept, foreign", &day, 0x29, 4, 3, (const uint8_t[]){0, 0, 1});
+
+    for (uint8_t test = 0x28; test <= 0x29; test++) {
+        const uint8_t kept[6] = {0x27, 1, 0, test, 15, 0}, slot_4[3] = {test, 1, 4}, unkept[3] = {test, 1, 0};
+        pattern_counts("a test of a kept slot", kept, 6, 2, 1);
+        pattern_refused("a test without its slot", unkept, 2, CHAINS_OPERANDS_MISSING);
+        pattern_refused("a test of slot 4", slot_4, 3, CHAINS_OPERAND_OUT_OF_RANGE);
+        pattern_refused("a test of a slot that is not kept", unkept, 3, CHAINS_SLOT_NOT_KEPT);
+    }
+    for (uint8_t byte = 0x2A; byte <= 0x2F; byte++) {
+        pattern_refused("no command", &byte, 1, CHAINS_COMMAND_NOT_KNOWN);
+    }
+}
+
 /* ---- replies taken apart, and the version */
 
 static uint64_t reply_of(uint64_t number, uint64_t value)
@@ -613,6 +678,7 @@ int main(int argc, char **argv)
     test_check();
     test_find();
     test_unread();
+    test_classes();
     test_refused_replies();
     test_replies();
     test_messages(argc > 1 ? argv[1] : "include/refusals.txt");

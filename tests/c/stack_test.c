@@ -16,7 +16,7 @@
 #include <sys/mman.h>
 #include <unistd.h>
 
-enum { PATTERNS = 12, DAYS = 5, LONGEST_PATTERN = 200, MOST_WORDS = 4202496, MOST_ENTRIES = 100000, LINES = 4096 };
+enum { PATTERNS = 15, DAYS = 5, LONGEST_PATTERN = 200, MOST_WORDS = 4202496, MOST_ENTRIES = 100000, LINES = 4096 };
 
 static const unsigned char PAINT = 0xC5;
 
@@ -57,6 +57,7 @@ static void write_patterns(void)
 {
     const uint8_t nothing[1] = {0x20}, line[2] = {0x21, 1}, either[1] = {0x24}, then[1] = {0x25}, repeat[1] = {0x26};
     const uint8_t keep[9] = {0x27, 1, 0, 0x27, 1, 1, 0x27, 1, 2}, same[3] = {0x22, 1, 0}, other[3] = {0x23, 1, 2};
+    const uint8_t sister[3] = {0x28, 1, 0}, foreign[3] = {0x29, 1, 2}, then_foreign[4] = {0x25, 0x29, 1, 1};
     const uint8_t either_line[3] = {0x24, 0x21, 1}, then_line[3] = {0x25, 0x21, 1}, then_same[4] = {0x25, 0x22, 1, 1};
     const uint8_t mixed[6] = {0x25, 0x26, 0x24, 0x21, 2, 0x26};
     struct bytes *p = patterns;
@@ -68,12 +69,15 @@ static void write_patterns(void)
     put(p, 1, keep, 9), put(p, 59, repeat, 1), put(p++, 1, same, 3);
     /* Repeats, and three keeps in them. */
     put(p, 58, repeat, 1), put(p, 1, keep, 9), put(p, 1, repeat, 1), put(p++, 1, other, 3);
+    put(p, 1, keep, 9), put(p, 59, repeat, 1), put(p++, 1, sister, 3);
+    put(p, 58, repeat, 1), put(p, 1, keep, 9), put(p, 1, repeat, 1), put(p++, 1, foreign, 3);
     /* Either and then, nested in their first pattern, and in their second. */
     put(p, 31, either, 1), put(p++, 32, line, 2);
     put(p, 31, then, 1), put(p++, 32, line, 2);
     put(p, 31, either_line, 3), put(p++, 1, line, 2);
     put(p, 31, then_line, 3), put(p++, 1, line, 2);
     put(p, 1, keep, 9), put(p, 29, then_same, 4), put(p++, 1, same, 3);
+    put(p, 1, keep, 9), put(p, 29, then_foreign, 4), put(p++, 1, sister, 3);
     /* Then, repeat, either and repeat, nested four times, with repeats in them. */
     put(p, 4, mixed, 6), put(p, 36, repeat, 1), put(p, 1, line, 2), put(p++, 4, line, 2);
     /* One repeat too many: refused, at the deepest place that is read. */

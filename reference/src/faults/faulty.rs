@@ -122,7 +122,7 @@ impl Faulty {
                 searching::marked_by(asked, self.0, |(place, state)| (*place, state.spot))
             }
             MarksPlaces => searching::marked_by(asked, self.0, |(place, _)| *place),
-            fault if fault == TwoOfARun || searching::of_tests(fault) => {
+            fault if searching::thinned_for(fault).is_some() || searching::of_tests(fault) => {
                 searching::marked_by(asked, fault, |standing| *standing)
             }
             CutAtPlaces => no_longer(asked.record.places as usize),

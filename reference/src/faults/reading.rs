@@ -1,7 +1,7 @@
 //! Records and patterns read as this program reads them, but for the planted fault.
 
 use super::Fault::{self, *};
-use crate::pattern::{Node, Pattern, DEEPEST, MOST_COMMANDS};
+use crate::pattern::{Node, Pattern, Rule, DEEPEST, MOST_COMMANDS};
 use crate::record::{Line, Record, LONGEST, MOST_PLACES};
 use std::collections::BTreeSet;
 
@@ -136,7 +136,8 @@ impl Reader<'_> {
             return Err(9);
         }
         let command = match self.bytes.get(self.at) {
-            Some(&command @ 0x20..=0x27) => command,
+            Some(&command @ 0x20..=0x29) => command,
+            Some(&command @ 0x2A..=0x2F) if self.fault == SixteenCommands => command,
             _ => return Err(8),
         };
         self.commands += 1;
@@ -145,29 +146,24 @@ impl Reader<'_> {
         }
         let width = match command {
             0x21 => 1,
-            0x22 | 0x23 | 0x27 => 2,
+            0x22 | 0x23 | 0x27 | 0x28 | 0x29 => 2,
             _ => 0,
         };
         let (kind, slot) = self.operands(width)?;
         self.at += 1 + width;
         let boxed = |node: Node| Box::new(node);
-        Ok(match command {
-            0x20 => Node::Nothing,
-            0x21 => Node::Line { kind },
-            0x22 | 0x23 => {
-                let earlier = self.fault == KeptEarlier && self.kept.contains(&slot);
-                if !around.contains(&slot) && !earlier {
-                    return Err(12);
-                }
-                match command {
-                    0x22 => Node::Same { kind, slot },
-                    _ => Node::Other { kind, slot },
-                }
+        if let Some(rule) = Rule::of(command) {
+            if !self.kept_passes(rule, slot, around) {
+                return Err(12);
             }
+            return Ok(Node::Test { rule, kind, slot });
+        }
+        Ok(match command {
+            0x21 => Node::Line { kind },
             0x24 => Node::Either(boxed(self.node(around)?), boxed(self.node(around)?)),
             0x25 => Node::Then(boxed(self.node(around)?), boxed(self.node(around)?)),
             0x26 => Node::Repeat(boxed(self.node(around)?)),
-            _ => {
+            0x27 => {
                 self.kept.push(slot);
                 let inside = [around, &[slot]].concat();
                 let deep = match self.fault {
@@ -182,7 +178,17 @@ impl Reader<'_> {
                 let inner = boxed(self.node(&inside)?);
                 Node::Keep { kind, slot, inner }
             }
+            _ => Node::Nothing,
         })
+    }
+
+    /// Question 12.
+    fn kept_passes(&self, rule: Rule, slot: u8, around: &[u8]) -> bool {
+        match (self.fault, rule) {
+            (Never12OfSister, Rule::Sister) | (Never12OfForeign, Rule::Foreign) => true,
+            (KeptEarlier, _) => self.kept.contains(&slot),
+            _ => around.contains(&slot),
+        }
     }
 
     /// Questions 10 and 11: kind and slot, 0 where the command has none.
@@ -230,10 +236,21 @@ fn rewritten(fault: Fault, node: Node) -> Node {
             let body = inside(body);
             Node::Then(body.clone(), Box::new(Node::Repeat(body)))
         }
-        Node::Other { slot, .. } if fault == OtherAnyKind => (2..=15)
-            .fold(Node::Other { kind: 1, slot }, |any, kind| {
-                Node::Either(Box::new(any), Box::new(Node::Other { kind, slot }))
-            }),
+        Node::Test {
+            rule: Rule::Other,
+            slot,
+            ..
+        } if fault == OtherAnyKind => {
+            let rule = Rule::Other;
+            (2..=15).fold(
+                Node::Test {
+                    rule,
+                    kind: 1,
+                    slot,
+                },
+                |any, kind| Node::Either(Box::new(any), Box::new(Node::Test { rule, kind, slot })),
+            )
+        }
         // What follows a keep is read as if it stood inside.
         Node::Then(first, second) => match (inside(first), inside(second)) {
             (first, second) if fault == InnerBoatStays => match *first {

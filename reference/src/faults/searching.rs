@@ -2,7 +2,11 @@
 
 use super::Fault::{self, *};
 use crate::chains::Asked;
-use crate::machine::{boat_numbers, Machine, Spot, Stack, State, Test, NOT_READ};
+use crate::machine::{
+    agrees, boat_words, meets, of_one_class, sail, Machine, Spot, Stack, State, Test, Word,
+    NOT_READ,
+};
+use crate::pattern::Rule;
 use std::collections::hash_map::Entry;
 use std::collections::{HashMap, HashSet, VecDeque};
 use std::hash::Hash;
@@ -15,9 +19,9 @@ struct Course<'a> {
     asked: &'a Asked,
     fault: Fault,
     machine: Machine,
-    boats: Vec<u16>,
+    boats: Vec<Word>,
     lines_from: Vec<Vec<u16>>,
-    /// Which lines are one of the two of their run; all, for every fault but `TwoOfARun`.
+    /// Which lines the rule sees that the fault thins the lines for.
     seen: Vec<bool>,
 }
 
@@ -27,18 +31,14 @@ impl Course<'_> {
     }
 
     fn with(asked: &Asked, fault: Fault) -> Course<'_> {
-        let boats = boat_numbers(&asked.record);
-        let seen = match fault {
-            TwoOfARun => two_of_each_run(asked, &boats),
-            _ => vec![true; boats.len()],
-        };
+        let boats = boat_words(&asked.record);
         Course {
             asked,
             fault,
             machine: Machine::new(&asked.pattern.root),
+            seen: seen_of_runs(asked, fault, &boats),
             boats,
             lines_from: asked.lines_from(),
-            seen,
         }
     }
 
@@ -71,27 +71,47 @@ impl Course<'_> {
         let line = &self.asked.record.lines[number as usize];
         let boat = self.boats[number as usize];
         let right = test.passed(stack, line, boat);
-        let (kind, slot) = match test {
-            Test::Same(kind, slot) | Test::Other(kind, slot) => (kind, slot),
+        let (rule, kind, slot) = match test {
+            Test::Boat(rule, kind, slot) => (rule, kind, slot),
             Test::Keep(..) if self.fault == KeepRefusesUnread && boat == NOT_READ => return None,
             Test::Kind(_) if self.fault == LineRefusesUnread && boat == NOT_READ => return None,
             _ => return right,
         };
         let kept = stack.boat_of(slot)?;
-        let passes = match (self.fault, test) {
-            (UnreadCompared, Test::Same(..)) => kept == boat,
-            (UnreadCompared, Test::Other(..)) => kept != boat,
-            (OtherIsNotSame, Test::Other(..)) => kept == NOT_READ || kept != boat,
-            (LineAlone, Test::Other(..)) => boat != NOT_READ && kept != boat,
-            (SlotAlone, Test::Other(..)) => kept != NOT_READ && kept != boat,
-            (TwoOfARun, Test::Other(..)) => right.is_some() && self.seen[number as usize],
-            _ => return right,
+        let passes = if thinned_for(self.fault) == Some(rule) {
+            right.is_some() && self.seen[number as usize]
+        } else {
+            passes(self.fault, rule, kept, boat)
         };
         (line.kind == kind && passes).then_some(stack)
     }
 
     fn accepting(&self, standing: &Standing) -> bool {
         standing.0 == self.asked.to && self.machine.is_done(standing.1)
+    }
+}
+
+/// Does a line's boat pass what the fault takes the rule for, that boat being kept?
+fn passes(fault: Fault, rule: Rule, kept: Word, boat: Word) -> bool {
+    let (kept_read, boat_read) = (kept != NOT_READ, boat != NOT_READ);
+    let another_number = sail(kept) != sail(boat);
+    let meets = |rule| meets(rule, kept, boat);
+    match (fault, rule) {
+        (UnreadCompared, _) => agrees(rule, kept, boat),
+        (OtherIsNotSame, Rule::Other) => !kept_read || kept != boat,
+        (LineAlone, _)
+        | (SisterOfUnreadSlot, Rule::Sister)
+        | (ForeignOfUnreadSlot, Rule::Foreign) => boat_read && agrees(rule, kept, boat),
+        (SlotAlone, _)
+        | (SisterOfUnreadLine, Rule::Sister)
+        | (ForeignOfUnreadLine, Rule::Foreign) => kept_read && agrees(rule, kept, boat),
+        (SisterTakesSame, Rule::Sister) => meets(Rule::Sister) || meets(Rule::Same),
+        (SisterOfAnyClass, Rule::Sister) => kept_read && boat_read && another_number,
+        (ForeignAsOther, Rule::Foreign) => meets(Rule::Other),
+        (ForeignOtherNumber, Rule::Foreign) => meets(Rule::Foreign) && another_number,
+        (SisterAndForeign, Rule::Sister) => meets(Rule::Foreign),
+        (SisterAndForeign, Rule::Foreign) => meets(Rule::Sister),
+        _ => meets(rule),
     }
 }
 
@@ -107,24 +127,60 @@ pub fn of_tests(fault: Fault) -> bool {
             | SlotAlone
             | KeepRefusesUnread
             | LineRefusesUnread
+            | SisterTakesSame
+            | SisterOfAnyClass
+            | SisterOfUnreadLine
+            | SisterOfUnreadSlot
+            | ForeignAsOther
+            | ForeignOtherNumber
+            | ForeignOfUnreadLine
+            | ForeignOfUnreadSlot
+            | SisterAndForeign
     )
 }
 
-/// Of the lines of one kind between two places, the first, and the first with another boat's
-/// number: enough for other as long as every number was read.
-fn two_of_each_run(asked: &Asked, boats: &[u16]) -> Vec<bool> {
-    let mut runs: HashMap<(u16, u8, u16), Vec<u16>> = HashMap::new();
+/// The rule for which the fault looks at some lines only of those of one kind between two places.
+pub fn thinned_for(fault: Fault) -> Option<Rule> {
+    match fault {
+        TwoOfARun => Some(Rule::Other),
+        SisterOfThinRuns | SisterOfFirstBoat => Some(Rule::Sister),
+        ForeignOfThinRuns | ForeignOfFirstLine => Some(Rule::Foreign),
+        _ => None,
+    }
+}
+
+/// The lines that are seen of each run: of the lines of one kind between two places.
+fn seen_of_runs(asked: &Asked, fault: Fault, boats: &[Word]) -> Vec<bool> {
+    let mut runs: HashMap<(u16, u8, u16), Vec<Word>> = HashMap::new();
     let lines = asked.record.lines.iter().zip(boats);
     lines
         .map(|(line, &boat)| {
             let run = runs.entry((line.from, line.kind, line.to)).or_default();
-            let fresh = run.len() < 2 && !run.contains(&boat);
-            if fresh {
+            let seen = is_seen(fault, run, boat);
+            if !run.contains(&boat) {
                 run.push(boat);
             }
-            fresh
+            seen
         })
         .collect()
+}
+
+/// Is a line with this boat seen, the run having these boats before it, in order?
+fn is_seen(fault: Fault, before: &[Word], boat: Word) -> bool {
+    let fresh = !before.contains(&boat);
+    let mut read = before.iter().filter(|&&boat| boat != NOT_READ);
+    match fault {
+        // The first, and the first with another boat's number: enough for other as long as every
+        // number was read.
+        TwoOfARun => fresh && before.len() < 2,
+        // The first, and those of the first two different boats that were read: enough for other.
+        SisterOfThinRuns | ForeignOfThinRuns => {
+            before.is_empty() || (boat != NOT_READ && fresh && read.count() < 2)
+        }
+        ForeignOfFirstLine => boat != NOT_READ && read.next().is_none(),
+        SisterOfFirstBoat => boat != NOT_READ && !read.any(|&other| of_one_class(other, boat)),
+        _ => true,
+    }
 }
 
 /// Chains, each as the chain without its last line, and that line; the empty one first.
