@@ -1,5 +1,5 @@
 -- Case by case: what undoing a stack, a line and a position does; and that what the loops go by stays.
-use mathlib.Core.Path.{_≡_}
+use mathlib.Core.Path.{_≡_, _∙_}
 use mathlib.Core.Bool.{true, false}
 use mathlib.Core.List.{List}
 use Prim.Native.Nat.{ℕ, _+_, _-_, _^_, _≤_}
@@ -14,7 +14,13 @@ use Rattle.area.specs.Area.{Under}
 use Rattle.sorted.specs.Runs.{sorted-same}
 use Rattle.sorted.specs.declared.Order.{Order}
 use Rattle.sorted.specs.declared.Order.the-variants as Order
-use Rattle.thinned.specs.Runs.{thin-same}
+use Rattle.thinned.specs.Runs.{stamps-are, thin-same}
+use Rattle.thinned.specs.Thinning.{thinAt, Thinned}
+use Rattle.thinned.proofs.Sieves.{at-past}
+use Rattle.states.specs.declared.Sieve.{Sieve}
+use Rattle.states.specs.declared.Sieve.the-variants as Sieve
+use Rattle.ways.specs.Filed.{Said}
+use Rattle.ways.proofs.Lanes.{under-word}
 use Rattle.search.specs.Loaded.{boatAt}
 use Rattle.ways.specs.Ways.{laneTurn, runTurn, Told, Runs}
 use Rattle.ways.specs.declared.Lane.{Lane}
@@ -77,10 +83,22 @@ backing-under {plan} {w₀ = w₀} {w = w} u b =
       fit = fit-same (u .long) f (b .fit);
       tables = λ e.
           let t = b .tables e in
+          let o = t .basic in
+          let under : plan .bykind ≤ plan .thin = omega (arith, l .boats-at, l .thin-at) in
+          -- the thin table of a sieve, and its first word
+          let thin : (sieve : Sieve) → Thinned sieve plan (plan .bykind) (thinAt sieve plan) w₀ → Thinned sieve plan (plan .bykind) (thinAt sieve plan) w =
+          λ sieve made. thin-same sieve plan (plan .bykind) (thinAt sieve plan) w₀ w (o .kinds) made (behind (plan .bykind) (omega arith)) f (omega (arith, under, at-past plan (stamps-are l) sieve)) in
+          let said : (sieve : Sieve) → Said sieve plan w → Said sieve plan w₀ =
+          λ sieve h. record { room = omega (arith, h .room, u .long); some = λ z. h .some (under-word u (thinAt sieve plan) (omega (arith, u .ready .fits, l .kinds-at, under, at-past plan (stamps-are l) sieve)) ∙ z) } in
           record {
-            room = omega (arith, t .room, u .long);
-            kinds = sorted-same Order.Kind plan (plan .bykind) w₀ w (t .kinds) f (behind (plan .bykind) (omega arith));
-            boats = λ kept. sorted-same Order.Boat plan (plan .byboat) w₀ w (t .boats kept) f (behind (plan .byboat) (omega (arith, l .boats-at)));
-            thin = thin-same plan (plan .bykind) (plan .thin) w₀ w (t .kinds) (t .thin) (behind (plan .bykind) (omega arith)) f (omega (arith, l .boats-at, l .thin-at));
+            basic =
+                record {
+                  room = omega (arith, o .room, u .long);
+                  kinds = sorted-same Order.Kind plan (plan .bykind) w₀ w (o .kinds) f (behind (plan .bykind) (omega arith));
+                  boats = λ kept. sorted-same Order.Boat plan (plan .byboat) w₀ w (o .boats kept) f (behind (plan .byboat) (omega (arith, l .boats-at)));
+                  thin = thin Sieve.Boats (o .thin);
+                };
+            classes = λ h. thin Sieve.Classes (t .classes (said Sieve.Classes h));
+            sisters = λ h. thin Sieve.Sisters (t .sisters (said Sieve.Sisters h));
           };
     }

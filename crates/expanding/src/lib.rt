@@ -23,6 +23,7 @@ ghost use Rattle.states.specs.Spots.{front, boatsIn, Sane, stackAt, Aimed, Star
 use request::Plan;
 use sorted::Order;
 use sorted::PACK;
+use states::Sifting;
 use states::Spot;
 use states::Target;
 use ways::Lane;
@@ -390,8 +391,10 @@ fn over_kind(work: &mut [u32], plan: Plan, k: usize, lane: Lane, d: u32, tail: u
     requires { ⌜ (0 < d) × (d ≤ suc tail) ⌝ }
     ensures { λ r. ⌜ StepBack plan (runLines Orders.Kind plan (now (work .entry)) k d lane) tail (now (work .entry)) r (now (work .exit)) ⌝ }
 {
-    if ways::thin_lane(lane) {
-        return ways::over_thin(work, plan, k, lane, d, tail);
+    if let Sifting::Thin(sieve) = ways::lane_sifting(lane) {
+        if ways::has_thin(work, plan, sieve) {
+            return ways::over_thin(work, plan, sieve, k, lane, d, tail);
+        }
     }
     ways::over_run(work, plan, Order::Kind, k, lane, d, tail)
 }

@@ -37,7 +37,7 @@ fn both_phases(
     requires { ⌜ (from < plan .places) × (to < plan .places) ⌝ }
     ensures { λ r. ⌜ SearchedIn (settingAt (now (program .entry)) plan (now (work .entry))) plan (firstStates plan begin from) to r (now (out .entry)) (now (out .exit)) ⌝ }
 {
-    ways::file_lines(work, plan);
+    ways::file_lines(work, plan, program);
     backward::distances(work, plan, program, begin, from, to);
     let nearest = forward::nearest(work, plan, begin, from);
     if nearest == 0 {

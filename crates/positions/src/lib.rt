@@ -28,7 +28,8 @@ pub struct Row {
 
 // ---- a row in one word
 
-fn code_of(rule: Rule) -> u8
+// A rule as a number.
+pub fn code_of(rule: Rule) -> u8
     ensures { λ r. ⌜ r ≡ ruleCode rule ⌝ }
 {
     match rule {

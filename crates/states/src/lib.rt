@@ -27,6 +27,14 @@ pub fn boat_of(work: &[u32], plan: Plan, x: usize) -> u32
     0
 }
 
+// The class of a boat by its number.
+pub fn class_of(work: &[u32], plan: Plan, x: usize) -> u32
+    requires { ⌜ Laid plan (length (now work)) × (x < 4294967296) ⌝ }
+    ensures { λ r. ⌜ r ≡ classIn (boatsIn plan (now (work .entry)) x) ⌝ }
+{
+    class_in(boat_of(work, plan, x))
+}
+
 // The key of a boat by its number, and that of its class: 0 where it is unread.
 pub fn boat_key(work: &[u32], plan: Plan, x: usize) -> usize
     requires { ⌜ Laid plan (length (now work)) × (x < 4294967295) ⌝ }

@@ -1,5 +1,5 @@
--- For those who use a thin table: it stays thin while other words change (`thin-same`), and a sorted one stays sorted while words after it
--- change (`sorted-kept`). What is written of lines says places where lines start at places (`from-places`).
+-- For those who use a thin table: it stays thin while other words change (`thin-same`, `thin-kept`), and a sorted one stays sorted while words
+-- after it change (`sorted-kept`). What is written of lines says places where lines start at places (`from-places`).
 use mathlib.Core.Path.{_≡_, sym, ap, _∙_, subst}
 use mathlib.Core.List.{List, map}
 use Prim.Native.Nat.{ℕ, suc, _+_, _*_, _-_, _≤_, _<_}
@@ -116,3 +116,17 @@ module _ (o : Order) (plan : Plan) (at from to : ℕ) (w v : List ℕ) (s : Sort
             cut-as _ _ _ _ v w lo hi (kept-stretch c (getD w (at + k) 0) (getD w (at + suc k) 0 - getD w (at + k) 0) (omega (arith, r .rising, r .high, end)) room)
             ∙ (r .has ∙ ap (λ g. map (packIn o plan g) (having o plan g k)) (sym (kept-take c (plan .base) past)));
       }
+
+-- ---- a thin table before the words that change
+
+module _ (sieve : Sieve) (plan : Plan) (of at from to : ℕ) (w v : List ℕ) (s : Sorted Order.Kind plan of w) (t : Thinned sieve plan of at w) (c : Kept from to w v)
+    (past : plan .base ≤ from) (of-end : sortedEnd Order.Kind plan of ≤ from) (end : sortedEnd Order.Kind plan at ≤ from) (room : from ≤ length w) where
+  pub thin-kept : Thinned sieve plan of at v
+  thin-kept k h =
+      let run = s k h in
+      let r = subst (λ g. ThinRun sieve (boatAt plan g) plan of at w k) (sym (kept-take c (plan .base) past)) (t k h) in
+      thin-run-as sieve (boatsIn plan v) plan of at w v k
+      (kept-get c (of + k) (omega (arith, h, of-end))) (kept-get c (of + suc k) (omega (arith, h, of-end))) (kept-get c (at + k) (omega (arith, h, end))) (kept-get c (at + suc k) (omega (arith, h, end)))
+      (kept-stretch c (getD w (of + k) 0) (getD w (of + suc k) 0 - getD w (of + k) 0) (omega (arith, run .rising, run .high, of-end)) room)
+      (kept-stretch c (getD w (at + k) 0) (getD w (at + suc k) 0 - getD w (at + k) 0) (omega (arith, r .rising, r .high, end)) room)
+      r

@@ -10,7 +10,7 @@ use borrow.Author.Tests.{ne-eqb}
 use Rattle.request.specs.Layout.{largest}
 use Rattle.request.specs.declared.Plan.{Plan}
 use Rattle.graph.specs.Table.{push}
-use Rattle.states.specs.Spots.{okay, readBy, readBut, OnlyKept}
+use Rattle.states.specs.Spots.{okay, readBy, readBut, sisterOf, foreignTo, OnlyKept}
 use Rattle.states.specs.declared.Spot.{Spot}
 use Rattle.states.specs.declared.Target.{Target}
 use Rattle.states.proofs.Bounds.{power-fits, power-small}
@@ -72,6 +72,12 @@ module _ (B : ℕ → ℕ) (plan : Plan) (s : Spot) (t : Target) (c leaves : ℕ
 
   pub but-single : s .push ≡ false → (y : ℕ) → ((x : ℕ) → okay B R s x (t .stack) ≡ readBut B y x) → Single B plan s t 1 (λ x. takenBy B Taking.ReadBut x y) (λ x. t .stack + x * 0)
   but-single e y is = flat (plain e (λ x. readBut B y x) (λ x low. is x))
+
+  pub sister-single : s .push ≡ false → (y : ℕ) → ((x : ℕ) → okay B R s x (t .stack) ≡ sisterOf B y x) → Single B plan s t 1 (λ x. takenBy B Taking.Sister x y) (λ x. t .stack + x * 0)
+  sister-single e y is = flat (plain e (λ x. sisterOf B y x) (λ x low. is x))
+
+  pub foreign-single : s .push ≡ false → (y : ℕ) → ((x : ℕ) → okay B R s x (t .stack) ≡ foreignTo B y x) → Single B plan s t 1 (λ x. takenBy B Taking.Foreign x y) (λ x. t .stack + x * 0)
+  foreign-single e y is = flat (plain e (λ x. foreignTo B y x) (λ x low. is x))
 
   pub push-single : s .push ≡ true → ((x : ℕ) → okay B R s x (t .stack % s .weight) ≡ true) → Single B plan s t 1 (λ x. eqb x (t .stack / s .weight)) (λ x. t .stack % s .weight)
   push-single e any =

@@ -211,11 +211,11 @@ module _ (plan : Plan) (g : List ℕ) (told : Told plan g) (few : plan .radix �
 -- ---- a lane's bounds
 
 module _ (plan : Plan) (area : ℕ) (laid : Laid plan area) (c u weight number : ℕ) (taking : Taking) (lane : Lane) (is : LaneTo plan c u weight number taking lane) (c-low : c ≤ plan .done) (u-low : u < plan .stacks) where
-  lane-narrow : weight ≤ largest → Narrow lane
-  lane-narrow low =
+  lane-narrow : weight ≤ largest → number ≤ largest → Narrow lane
+  lane-narrow low few =
       let c< : c < plan .done + 1 = omega arith in
       let in-block : c * plan .stacks + u < (plan .done + 1) * plan .stacks = digits-lt c< u-low in
-      record { block-low = omega (arith, is .block-is, block-small laid); home-low = omega (arith, is .home-is, in-block, block-small laid); weight-low = omega (arith, is .weight-is, low) }
+      record { block-low = omega (arith, is .block-is, block-small laid); home-low = omega (arith, is .home-is, in-block, block-small laid); weight-low = omega (arith, is .weight-is, low); number-low = omega (arith, is .number-is, few) }
 
   lane-low : (g : List ℕ) (told : Told plan g) (i : ℕ) (h : i < plan .lines) (y : ℕ) → y < packBy → u + y * weight < plan .stacks → laneState lane (fromIn (wordAt plan g i) * packBy + y) < plan .size
   lane-low g told i h y small fits =
@@ -233,13 +233,13 @@ module _ (plan : Plan) (s : Spot) (t : Target) (c leaves : ℕ) (b : Before plan
     abbrev B : ℕ → ℕ
     B = boatAt plan g
 
-    pub kind-runs : (weight number : ℕ) (taking : Taking) → LaneTo plan c (t .stack) weight number taking lane → k ≡ t .place * 16 + s .kind → weight ≤ largest
+    pub kind-runs : (weight number : ℕ) (taking : Taking) → LaneTo plan c (t .stack) weight number taking lane → k ≡ t .place * 16 + s .kind → weight ≤ largest → number ≤ largest
         → Single B plan s t count (λ x. takenBy B taking x number) (λ x. t .stack + x * weight) → Runs Order.Kind plan g s t c count k lane
     unfolding keys packIn
-    kind-runs weight number taking is key low single =
+    kind-runs weight number taking is key low few-number single =
         record {
           key-low = let q< = b .aimed .place-low in let k< : t .place * 16 + s .kind < plan .places * 16 = digits-lt q< (omega (arith, b .kind-low)) in omega (arith, key, k<);
-          narrow = lane-narrow plan (b .area) (b .laid) c (t .stack) weight number taking lane is (b .position-low) stack-fits low;
+          narrow = lane-narrow plan (b .area) (b .laid) c (t .stack) weight number taking lane is (b .position-low) stack-fits low few-number;
           gives = λ i h. lane-low plan (b .area) (b .laid) c (t .stack) weight number taking lane is (b .position-low) stack-fits g told i h (codeAt plan g i) (omega (arith, told .codes-low i h, b .laid .few-boats)) (single .fits (codeAt plan g i) (told .codes-low i h));
           same = λ d i h st.
               let few = b .laid .few-boats in
@@ -256,7 +256,7 @@ module _ (plan : Plan) (s : Spot) (t : Target) (c leaves : ℕ) (b : Before plan
     boat-runs u x₀ is key low fits single =
         record {
           key-low = let k< : t .place * plan .radix + x₀ < plan .places * plan .radix = digits-lt (b .aimed .place-low) low in omega (arith, key, k<);
-          narrow = lane-narrow plan (b .area) (b .laid) c u 0 (s .kind) Taking.Only lane is (b .position-low) fits (omega arith);
+          narrow = lane-narrow plan (b .area) (b .laid) c u 0 (s .kind) Taking.Only lane is (b .position-low) fits (omega arith) (omega (arith, b .kind-low));
           gives = λ i h. lane-low plan (b .area) (b .laid) c u 0 (s .kind) Taking.Only lane is (b .position-low) fits g told i h (kindIn (wordAt plan g i)) (kind-small plan g told (b .laid .few-boats) i h) (omega (arith, mul-zero (kindIn (wordAt plan g i)), fits));
           same = λ d i h st.
               let few = b .laid .few-boats in

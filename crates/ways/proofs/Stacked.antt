@@ -20,12 +20,14 @@ use Rattle.states.specs.Spots.{front, boatsIn, lineTurn}
 use Rattle.states.specs.declared.Spot.{Spot}
 use Rattle.states.specs.declared.Target.{Target}
 use Rattle.states.proofs.Bounds.{state-low}
-use Rattle.thinned.specs.Runs.{from-places}
-use Rattle.thinned.specs.Thinning.{ThinRun}
-use Rattle.ways.specs.Filed.{Filed}
+use Rattle.states.specs.declared.Sieve.{Sieve}
+use Rattle.thinned.specs.Runs.{stamps-are, from-places}
+use Rattle.thinned.specs.Thinning.{thinAt}
+use Rattle.thinned.proofs.Sieves.{at-past}
+use Rattle.ways.specs.Filed.{Filed, Sieved}
 use Rattle.ways.specs.Stacked.{stackedTurn, Enough}
 use Rattle.ways.specs.Ways.{runTurn, Told}
-use Rattle.ways.proofs.Filing.{kinds-fit, thin-behind, thin-fit}
+use Rattle.ways.proofs.Filing.{kinds-fit, thin-behind}
 use Rattle.ways.proofs.Lanes.{run-in, run-word, run-turn}
 use Rattle.ways.proofs.Right.{turns-alike, stacked-line}
 use Rattle.ways.proofs.Thin.{stack-pushing, thin-word, thin-turns}
@@ -41,14 +43,11 @@ module _ (plan : Plan) (w : List ℕ) (laid : Laid plan (length w)) (told : Told
   key = t .place * 16 + s .kind
 
   run : Run Order.Kind plan (plan .bykind) w key
-  run = filed .kinds key (key-low plan (t .place) (s .kind) place-low kind-low)
-
-  thin : ThinRun (boatsIn plan w) plan (plan .bykind) (plan .thin) w key
-  thin = filed .thin key (key-low plan (t .place) (s .kind) place-low kind-low)
+  run = filed .basic .kinds key (key-low plan (t .place) (s .kind) place-low kind-low)
 
   -- a line's word says a place
   pack-low : (i : ℕ) → i < plan .lines → packIn Order.Kind plan (front plan w) i / packBy < plan .places
-  pack-low = from-places plan w (told .starts) (λ i h. omega (arith, told .codes-low i h, laid .few-boats))
+  pack-low i h = from-places plan w (told .starts) (λ i h. omega (arith, told .codes-low i h, laid .few-boats)) i h .0
 
   -- going over all lines is going over those of the key
   by-key : (d c count : ℕ) (st : Search) → turns (lineTurn plan (front plan w) s t d c count) 0 (plan .lines) st ≡ turns (runTurn Order.Kind plan (front plan w) key (stackedTurn plan s t (boatsIn plan w) d c count)) 0 (plan .lines) st
@@ -66,29 +65,31 @@ module _ (plan : Plan) (w : List ℕ) (laid : Laid plan (length w)) (told : Told
                 rising = rising;
                 inside = inside;
                 starts = λ p from less.
-                    let (i, li, is) = run-word Order.Kind plan (plan .bykind) w key run (kinds-fit laid filed) p (omega (arith, el, from)) (omega (arith, eh, less)) in
+                    let (i, li, is) = run-word Order.Kind plan (plan .bykind) w key run (kinds-fit laid (filed .basic)) p (omega (arith, el, from)) (omega (arith, eh, less)) in
                     subst (λ e. e / packBy < plan .places) is (pack-low i li);
               };
           same = λ d c count some low fits st long.
               by-key d c count st
-              ∙ (turns-run Order.Kind plan (plan .bykind) w key run (kinds-fit laid filed) _ (stackedTurn plan s t (boatsIn plan w) d c count) (λ i less b. run-turn _ _ _ _ _ i b) st
+              ∙ (turns-run Order.Kind plan (plan .bykind) w key run (kinds-fit laid (filed .basic)) _ (stackedTurn plan s t (boatsIn plan w) d c count) (λ i less b. run-turn _ _ _ _ _ i b) st
               ∙ (λ n. turns (λ p. stackedTurn plan s t (boatsIn plan w) d c count (getD w p 0)) (sym el n) (sym eh n - sym el n) st));
         }
 
-    pub thin-enough : Thinnable s → lo ≡ getD w (plan .thin + key) 0 → hi ≡ getD w (plan .thin + suc key) 0 → Enough plan s t w lo hi
-    thin-enough few el eh =
+    pub thin-enough : (sieve : Sieve) → Sieved sieve plan w → Thinnable sieve s → lo ≡ getD w (thinAt sieve plan + key) 0 → hi ≡ getD w (thinAt sieve plan + suc key) 0 → Enough plan s t w lo hi
+    thin-enough sieve made few el eh =
+        let at = thinAt sieve plan in
+        let thin = made .thin key (key-low plan (t .place) (s .kind) place-low kind-low) in
         record {
           words =
               record {
-                behind = omega (arith, el, thin .low, thin-behind laid);
+                behind = omega (arith, el, thin .low, thin-behind laid, at-past plan (stamps-are laid) sieve);
                 rising = rising;
                 inside = inside;
                 starts = λ p from less.
-                    place-of (getD w p 0) (thin-word (boatsIn plan w) plan (plan .bykind) (plan .thin) w key run thin (thin-fit laid filed) p (omega (arith, el, from)) (omega (arith, eh, less)));
+                    place-of (getD w p 0) (thin-word sieve (boatsIn plan w) plan (plan .bykind) at w key run thin (made .room) p (omega (arith, el, from)) (omega (arith, eh, less)));
               };
           same = λ d c count some low fits st long.
               by-key d c count st
-              ∙ (thin-turns (boatsIn plan w) plan (plan .bykind) (plan .thin) w key run thin (thin-fit laid filed) (kinds-fit laid filed) (stack-pushing (boatsIn plan w) plan s t c count few d some) st
+              ∙ (thin-turns sieve (boatsIn plan w) plan (plan .bykind) at w key run thin (made .room) (kinds-fit laid (filed .basic)) (stack-pushing sieve (boatsIn plan w) plan s t c count few d some) st
               (λ y m u gets.
               let (n, less, goes, there) = gets in
               let small = state-low (plan .places) (plan .done + 1) (plan .stacks) (plan .size) (y / packBy) c (n * t .weight + t .stack) (laid .size-is) (place-of y m) (omega (arith, low)) (fits n less) in

@@ -22,7 +22,8 @@ use Rattle.sorted.specs.Runs.{turns-run, loop-stretch}
 use Rattle.sorted.specs.Sorting.{packBy, sortedEnd, Run}
 use Rattle.sorted.specs.declared.Order.the-variants as Order
 use Rattle.area.specs.Area.{stretch}
-use Rattle.states.specs.Served.{Served, Thinnable}
+use Rattle.states.specs.Served.{ServedBy, Thinnable}
+use Rattle.states.specs.declared.Sieve.{Sieve}
 use Rattle.states.specs.Spots.{front, okay}
 use Rattle.states.specs.declared.Spot.{Spot}
 use Rattle.states.specs.declared.Target.{Target}
@@ -122,14 +123,14 @@ module _ (d : ℕ) (some : 0 < d) where
 -- ---- words that push states
 
 -- where Does e s, the word e pushes the state s: what it does is that, and a word that is covered pushes no further state
-pub record Pushing (B : ℕ → ℕ) (f : ℕ → Search → Search) (Does : ℕ → ℕ → Type 0) : Type 0 where
+pub record Pushing (sieve : Sieve) (B : ℕ → ℕ) (f : ℕ → Search → Search) (Does : ℕ → ℕ → Type 0) : Type 0 where
   pub long : (e : ℕ) (st : Search) → length (f e st .dist) ≡ length (st .dist)
   pub keeps : (e s : ℕ) (st : Search) → 0 < wordOf s st → 0 < wordOf s (f e st)
   pub has : (e s : ℕ) (st : Search) → Does e s → s < length (st .dist) → 0 < wordOf s (f e st)
   pub idle : (e : ℕ) (st : Search) → ((s : ℕ) → Does e s → 0 < wordOf s st) → f e st ≡ st
-  pub cover : (ys : List ℕ) (x s : ℕ) → Covered B ys x → Does x s → (y : ℕ) × (y ∈ ys) × Does y s
+  pub cover : (ys : List ℕ) (x s : ℕ) → Covered sieve B ys x → Does x s → (y : ℕ) × (y ∈ ys) × Does y s
 
-module _ {B : ℕ → ℕ} {f : ℕ → Search → Search} {Does : ℕ → ℕ → Type 0} (p : Pushing B f Does) where
+module _ {sieve : Sieve} {B : ℕ → ℕ} {f : ℕ → Search → Search} {Does : ℕ → ℕ → Type 0} (p : Pushing sieve B f Does) where
   loop-keeps : (ys : List ℕ) (s : ℕ) (st : Search) → 0 < wordOf s st → 0 < wordOf s (loop f ys st)
   unfolding loop
   loop-keeps [] s st h = h
@@ -145,13 +146,13 @@ module _ {B : ℕ → ℕ} {f : ℕ → Search → Search} {Does : ℕ → ℕ �
       (List·Memᴰ·cases-cons m)
 
   -- a word that is covered does nothing more
-  covered-nothing : (ys : List ℕ) (x : ℕ) (st : Search) → Covered B ys x → ((s : ℕ) → Does x s → s < length (st .dist)) → f x (loop f ys st) ≡ loop f ys st
+  covered-nothing : (ys : List ℕ) (x : ℕ) (st : Search) → Covered sieve B ys x → ((s : ℕ) → Does x s → s < length (st .dist)) → f x (loop f ys st) ≡ loop f ys st
   covered-nothing ys x st covered low = p .idle x (loop f ys st) (λ s does. let (y, m, too) = p .cover ys x s covered does in loop-has ys y s st m too (low s does))
 
   loop-end : (us : List ℕ) (x : ℕ) (st : Search) → loop f (us ++ (x ∷ [])) st ≡ f x (loop f us st)
   loop-end us x st = loop-append f us (x ∷ []) st ∙ unfold loop in refl
 
-  pub thin-loop : (xs ys : List ℕ) → Thin B xs ys → (st : Search) → ((x : ℕ) → x ∈ xs → (s : ℕ) → Does x s → s < length (st .dist)) → loop f xs st ≡ loop f ys st
+  pub thin-loop : (xs ys : List ℕ) → Thin sieve B xs ys → (st : Search) → ((x : ℕ) → x ∈ xs → (s : ℕ) → Does x s → s < length (st .dist)) → loop f xs st ≡ loop f ys st
   thin-loop xs ys (empty e g) st low = λ t. loop f ((e ∙ sym g) t) st
   thin-loop xs ys (kept us vs x e g h) st low =
       ap (λ l. loop f l st) e
@@ -171,16 +172,16 @@ module _ (many : ℕ) (passes : ℕ → ℕ → Bool) (gives : ℕ → ℕ → �
   Gets e s = (n : ℕ) × (n < many) × (passes n (e % packBy) ≡ true) × (s ≡ gives n (e / packBy))
 
   -- one of the words that cover another pushes what it pushes, where the numbers that pass are a set that is served
-  stands-for : (B : ℕ → ℕ) → ((n : ℕ) → Served B (passes n)) → (ys : List ℕ) (x s : ℕ) → Covered B ys x → Gets x s → (y : ℕ) × (y ∈ ys) × Gets y s
-  stands-for B served ys x s covered (n, less, goes, there) =
+  stands-for : (sieve : Sieve) (B : ℕ → ℕ) → ((n : ℕ) → ServedBy sieve B (passes n)) → (ys : List ℕ) (x s : ℕ) → Covered sieve B ys x → Gets x s → (y : ℕ) × (y ∈ ys) × Gets y s
+  stands-for sieve B served ys x s covered (n, less, goes, there) =
       let (y, m, stands) = covered (passes n) (served n) goes in
       (y, m, (n, less, stands .passes, there ∙ ap (gives n) (sym (stands .from))))
 
   abbrev pushes : ℕ → ℕ → ℕ → Search → Search
   pushes d e n b = cond (passes n (e % packBy)) (push d (gives n (e / packBy)) b) b
 
-  pub pushing : (B : ℕ → ℕ) → ((n : ℕ) → Served B (passes n)) → (d : ℕ) → 0 < d → (f : ℕ → Search → Search) → ((e : ℕ) (st : Search) → f e st ≡ turns (pushes d e) 0 many st) → Pushing B f Gets
-  pushing B served d some f is =
+  pub pushing : (sieve : Sieve) (B : ℕ → ℕ) → ((n : ℕ) → ServedBy sieve B (passes n)) → (d : ℕ) → 0 < d → (f : ℕ → Search → Search) → ((e : ℕ) (st : Search) → f e st ≡ turns (pushes d e) 0 many st) → Pushing sieve B f Gets
+  pushing sieve B served d some f is =
       record {
         long = λ e st. ap (λ u. length (u .dist)) (is e st) ∙ all-long d some (takes e) (state e) 0 many st;
         keeps = λ e s st h. subst (λ u. 0 < wordOf s u) (sym (is e st)) (all-keeps d some (takes e) (state e) 0 many s st h);
@@ -190,7 +191,7 @@ module _ (many : ℕ) (passes : ℕ → ℕ → Bool) (gives : ℕ → ℕ → �
             subst (λ u. 0 < wordOf s u) (sym (is e st)) (subst (λ z. 0 < wordOf z (turns (pushes d e) 0 many st)) (sym there) word);
         idle = λ e st h.
             is e st ∙ turns-idle (pushes d e) 0 many st (λ n from less. if-nothing d some (takes e) (state e) n st (λ goes. h (state e n) (n, omega (arith, less), goes, refl)));
-        cover = stands-for B served;
+        cover = stands-for sieve B served;
       }
     where
       takes : ℕ → ℕ → Bool
@@ -201,7 +202,7 @@ module _ (many : ℕ) (passes : ℕ → ℕ → Bool) (gives : ℕ → ℕ → �
 
 -- ---- the words of a lane without weight: one state each
 
-module _ (B : ℕ → ℕ) (lane : Lane) (thin : ThinLane B lane) where
+module _ (sieve : Sieve) (B : ℕ → ℕ) (lane : Lane) (thin : ThinLane sieve B lane) where
   -- only the place matters
   pub flat-state : (e : ℕ) → laneState lane e ≡ e / packBy * lane .block + lane .home
   unfolding laneState
@@ -210,14 +211,14 @@ module _ (B : ℕ → ℕ) (lane : Lane) (thin : ThinLane B lane) where
   abbrev pub LaneGets : ℕ → ℕ → Type 0
   LaneGets = Gets 1 (λ n y. takenBy B (lane .taking) y (lane .number)) (λ n q. q * lane .block + lane .home)
 
-  pub lane-pushing : (d : ℕ) → 0 < d → Pushing B (laneTurn B d lane) LaneGets
+  pub lane-pushing : (d : ℕ) → 0 < d → Pushing sieve B (laneTurn B d lane) LaneGets
   lane-pushing d some =
-      pushing 1 (λ n y. takenBy B (lane .taking) y (lane .number)) (λ n q. q * lane .block + lane .home) B (λ n. thin .served) d some (laneTurn B d lane)
+      pushing 1 (λ n y. takenBy B (lane .taking) y (lane .number)) (λ n q. q * lane .block + lane .home) sieve B (λ n. thin .served) d some (laneTurn B d lane)
       (λ e st. unfold laneTurn turns in ap (λ z. cond (takenBy B (lane .taking) (e % packBy) (lane .number)) (push d z st) st) (flat-state e))
 
 -- ---- the words of a position that does not push: for each stack one state
 
-module _ (B : ℕ → ℕ) (plan : Plan) (s : Spot) (t : Target) (c count : ℕ) (thin : Thinnable s) where
+module _ (sieve : Sieve) (B : ℕ → ℕ) (plan : Plan) (s : Spot) (t : Target) (c count : ℕ) (thin : Thinnable sieve s) where
   abbrev stackOf : ℕ → ℕ
   stackOf n = n * t .weight + t .stack
 
@@ -234,19 +235,19 @@ module _ (B : ℕ → ℕ) (plan : Plan) (s : Spot) (t : Target) (c count : ℕ)
   unfolding stackedTurn
   stack-is d e st = turns-same _ _ (λ n b. tested-stands B (plan .radix) s d (stateIn plan (e / packBy) c 0) (e % packBy) (t .weight) (t .stack) st n b (thin .plain)) 0 count st
 
-  pub stack-pushing : (d : ℕ) → 0 < d → Pushing B (stackedTurn plan s t B d c count) StackGets
-  stack-pushing d some = pushing count passesAt stateAt B (λ n. thin .served B (plan .radix) (stackOf n)) d some (stackedTurn plan s t B d c count) (stack-is d)
+  pub stack-pushing : (d : ℕ) → 0 < d → Pushing sieve B (stackedTurn plan s t B d c count) StackGets
+  stack-pushing d some = pushing count passesAt stateAt sieve B (λ n. thin .served B (plan .radix) (stackOf n)) d some (stackedTurn plan s t B d c count) (stack-is d)
 
 -- ---- a thin run in the area
 
 -- thin words are words of the run
-pub thin-in : {B : ℕ → ℕ} (xs ys : List ℕ) → Thin B xs ys → (y : ℕ) → y ∈ ys → y ∈ xs
+pub thin-in : {sieve : Sieve} {B : ℕ → ℕ} (xs ys : List ℕ) → Thin sieve B xs ys → (y : ℕ) → y ∈ ys → y ∈ xs
 thin-in xs ys (empty e f) y m = none-in (subst (y ∈_) f m)
 thin-in xs ys (kept us vs x e f h) y m =
     subst (y ∈_) (sym e) (⊎-elim (λ j. Memᴰ·append-left (x ∷ []) (thin-in us vs h y j)) (λ j. Memᴰ·append-right us j) (List·Memᴰ·append-cases vs (subst (y ∈_) f m)))
 thin-in xs ys (left us x e h covered) y m = subst (y ∈_) (sym e) (Memᴰ·append-left (x ∷ []) (thin-in us ys h y m))
 
-module _ (B : ℕ → ℕ) (plan : Plan) (of at : ℕ) (w : List ℕ) (k : ℕ) (run : Run Order.Kind plan of w k) (thin : ThinRun B plan of at w k) (end : sortedEnd Order.Kind plan at ≤ length w) where
+module _ (sieve : Sieve) (B : ℕ → ℕ) (plan : Plan) (of at : ℕ) (w : List ℕ) (k : ℕ) (run : Run Order.Kind plan of w k) (thin : ThinRun sieve B plan of at w k) (end : sortedEnd Order.Kind plan at ≤ length w) where
   abbrev pub from : ℕ
   from = getD w (of + k) 0
 
@@ -264,7 +265,7 @@ module _ (B : ℕ → ℕ) (plan : Plan) (of at : ℕ) (w : List ℕ) (k : ℕ) 
   thin-word p low high = thin-in _ _ (thin .has) (getD w p 0) (stretch-word w first (getD w (at + suc k) 0) p (omega (arith, thin .high, end)) low high)
 
   -- and do what all lines do
-  pub thin-turns : sortedEnd Order.Kind plan of ≤ length w → {f : ℕ → Search → Search} {Does : ℕ → ℕ → Type 0} → Pushing B f Does
+  pub thin-turns : sortedEnd Order.Kind plan of ≤ length w → {f : ℕ → Search → Search} {Does : ℕ → ℕ → Type 0} → Pushing sieve B f Does
       → (st : Search) → ((y : ℕ) → y ∈ stretch from many w → (s : ℕ) → Does y s → s < length (st .dist))
       → turns (runTurn Order.Kind plan (front plan w) k f) 0 (plan .lines) st ≡ turns (λ p. f (getD w p 0)) first few st
   thin-turns room {f} p st low =

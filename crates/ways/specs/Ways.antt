@@ -15,8 +15,11 @@ use Rattle.graph.specs.Table.{Search, push}
 use Rattle.sorted.specs.Sorting.{packBy, keys, keyIn, packIn}
 use Rattle.sorted.specs.declared.Order.{Order}
 use Rattle.sorted.specs.declared.Order.the-variants as Order
-use Rattle.states.specs.Served.{Served}
-use Rattle.states.specs.Spots.{front, boatsIn, readBut, stackTurn, lineTurn, Aimed, Sane}
+use Rattle.states.specs.Served.{ServedBy}
+use Rattle.states.specs.declared.Sieve.{Sieve}
+use Rattle.states.specs.declared.Sifting.{Sifting}
+use Rattle.states.specs.declared.Sifting.the-variants as Sifting
+use Rattle.states.specs.Spots.{front, boatsIn, readBut, sisterOf, foreignTo, stackTurn, lineTurn, Aimed, Sane}
 use Rattle.states.specs.declared.Spot.{Spot}
 use Rattle.states.specs.declared.Target.{Target}
 use Rattle.ways.specs.declared.Lane.{Lane}
@@ -31,11 +34,14 @@ use Rattle.ways.specs.declared.Way.the-variants as Way
 unfoldable pub laneState : Lane → ℕ → ℕ
 laneState lane e = e / packBy * lane .block + (lane .home + e % packBy * lane .weight)
 
--- is a line with the number y taken, by the boats' table B? All, only those with the lane's number x, or the read ones of the others
+-- is a line with the number y taken, by the boats' table B? All, only those with the lane's number x, the read ones of the others, those of
+-- its class, or those of another class
 abbrev pub takenBy : (ℕ → ℕ) → Taking → ℕ → ℕ → Bool
 takenBy B Taking.All y x = true
 takenBy B Taking.Only y x = eqb y x
 takenBy B Taking.ReadBut y x = readBut B x y
+takenBy B Taking.Sister y x = sisterOf B x y
+takenBy B Taking.Foreign y x = foreignTo B x y
 
 unfoldable pub laneTurn : (ℕ → ℕ) → ℕ → Lane → ℕ → Search → Search
 laneTurn B d lane e st = cond (takenBy B (lane .taking) (e % packBy) (lane .number)) (push d (laneState lane e) st) st
@@ -53,11 +59,17 @@ pub record Narrow (lane : Lane) : Type 0 where
   pub block-low : lane .block ≤ largest
   pub home-low : lane .home ≤ largest
   pub weight-low : lane .weight ≤ largest
+  pub number-low : lane .number ≤ largest
 
--- the thin words do for it: only the place that a word says and whether its number is taken matter, and the numbers taken are a set that is served
-pub record ThinLane (B : ℕ → ℕ) (lane : Lane) : Type 0 where
+-- the thin words of a sieve do for it: only the place that a word says and whether its number is taken matter, and the numbers taken are a set
+-- that is served
+pub record ThinLane (sieve : Sieve) (B : ℕ → ℕ) (lane : Lane) : Type 0 where
   pub flat : lane .weight ≡ 0
-  pub served : Served B (λ y. takenBy B (lane .taking) y (lane .number))
+  pub served : ServedBy sieve B (λ y. takenBy B (lane .taking) y (lane .number))
+
+abbrev pub LaneSifted : Lane → Sifting → Type 0
+LaneSifted lane (Sifting.Thin sieve) = (B : ℕ → ℕ) → ThinLane sieve B lane
+LaneSifted lane Sifting.Whole = Unit {0}
 
 -- each of the words from lo up to hi gives one of so many states
 abbrev pub Within : Lane → ℕ → ℕ → ℕ → List ℕ → Type 0

@@ -5,28 +5,35 @@ ghost use lib.ListN.{length, getD};
 ghost use Rattle.request.specs.Layout.{largest, Laid, filedEnd};
 ghost use Rattle.graph.specs.Loops.{turns};
 ghost use Rattle.states.specs.Pairs.{ReadyBack, StepBack};
-ghost use Rattle.ways.specs.Ways.{laneState, takenBy, laneTurn, LaneTo, Narrow, ThinLane, Within, runLines, Told, Gives, Right, RightFor, Before};
-ghost use mathlib.Core.Bool.{true};
+ghost use Rattle.ways.specs.Ways.{laneState, takenBy, laneTurn, LaneTo, Narrow, ThinLane, LaneSifted, Within, runLines, Told, Gives, Right, RightFor, Before};
+ghost use mathlib.Core.Bool.{true, false};
 ghost use mathlib.Core.List.{List};
 ghost use lib.Dec.{eqb};
 ghost use Rattle.sorted.specs.Sorting.{keys, tableAt, tableEnd, Keyed, Sorted, Kept};
 ghost use Rattle.ways.specs.Stacked.{Enough};
-ghost use Rattle.ways.specs.Filed.{Filed};
+ghost use Rattle.ways.specs.Filed.{Basic, Filed, Said, Sieved};
+ghost use Rattle.thinned.specs.Thinning.{FromPlaces, thinAt, thinEnd, Thinned};
+ghost use Rattle.positions.specs.Program.{ruleCode, rowAt};
 ghost use Rattle.sorted.specs.declared.Order.the-variants as Orders;
-ghost use Rattle.states.specs.Spots.{front, boatsIn, readBut};
+ghost use Rattle.states.specs.Spots.{front, boatsIn, readBut, sisterOf, foreignTo};
 use request::Plan;
 use sorted::Bounds;
 use sorted::Order;
 use sorted::PACK;
+use states::Sieve;
+use states::Sifting;
 use states::Spot;
 use states::Takes;
 use states::Target;
 
-// Which words are taken: all, only those with a number, or those of read boats with another.
+// Which words are taken: all, only those with a number, those of read boats with another, and of these only those of the same class or, whatever
+// their numbers, those of another class.
 pub enum Taking {
     All,
     Only,
     ReadBut,
+    Sister,
+    Foreign,
 }
 
 // What the words written of lines give: `from` times `block`, `home`, and the word's number times `weight` is the state before. `taking` says
@@ -42,6 +49,11 @@ pub struct Lane {
 // A number that no word has.
 const NONE: usize = PACK as usize;
 
+// The codes of the rules that have thin tables of their own.
+const SISTER: u8 = 4;
+
+const FOREIGN: u8 = 5;
+
 // ---- the loop
 
 // Is `y` the number of a read boat other than `number`'s?
@@ -55,9 +67,30 @@ fn read_but(work: &[u32], plan: Plan, number: usize, y: usize) -> bool
     states::boat_of(work, plan, y) != 0
 }
 
+// Is `y` the number of another boat of `number`'s class? And is it that of a boat of another class?
+fn sister_of(work: &[u32], plan: Plan, number: usize, y: usize) -> bool
+    requires { ⌜ Laid plan (length (now work)) × (y < 4294967296) × (number < 4294967296) ⌝ }
+    ensures { λ r. ⌜ r ≡ sisterOf (boatsIn plan (now (work .entry))) number y ⌝ }
+{
+    if read_but(work, plan, number, y) {
+        return states::class_of(work, plan, y) == states::class_of(work, plan, number);
+    }
+    false
+}
+
+fn foreign_to(work: &[u32], plan: Plan, number: usize, y: usize) -> bool
+    requires { ⌜ Laid plan (length (now work)) × (y < 4294967296) × (number < 4294967296) ⌝ }
+    ensures { λ r. ⌜ r ≡ foreignTo (boatsIn plan (now (work .entry))) number y ⌝ }
+{
+    if states::boat_of(work, plan, y) == 0 {
+        return false;
+    }
+    states::class_of(work, plan, y) != states::class_of(work, plan, number)
+}
+
 // Is a word with the number `y` taken?
 fn taken(work: &[u32], plan: Plan, lane: Lane, y: usize) -> bool
-    requires { ⌜ Laid plan (length (now work)) × (y < 4294967296) ⌝ }
+    requires { ⌜ Laid plan (length (now work)) × (y < 4294967296) × Narrow lane ⌝ }
     ensures { λ r. ⌜ r ≡ takenBy (boatsIn plan (now (work .entry))) (lane .taking) y (lane .number) ⌝ }
 {
     let taking = lane.taking;
@@ -65,6 +98,8 @@ fn taken(work: &[u32], plan: Plan, lane: Lane, y: usize) -> bool
         Taking::All => true,
         Taking::Only => y == lane.number,
         Taking::ReadBut => read_but(work, plan, lane.number, y),
+        Taking::Sister => sister_of(work, plan, lane.number, y),
+        Taking::Foreign => foreign_to(work, plan, lane.number, y),
     }
 }
 
@@ -166,7 +201,7 @@ fn kind_way(
     number: usize,
     taking: Taking,
 ) -> Way
-    requires { ⌜ Before plan spot target c (target .depth) × (weight ≤ largest) ⌝ }
+    requires { ⌜ Before plan spot target c (target .depth) × (weight ≤ largest) × (number ≤ largest) ⌝ }
     ensures { λ r. ⌜ RightFor plan spot target c (λ B x. takenBy B taking x number) (λ x. target .stack + x * weight) r ⌝ }
 {
     let lane = lane_at(plan, c, target.stack, weight, number, taking);
@@ -202,6 +237,8 @@ fn exact_way(work: &[u32], plan: Plan, spot: Spot, target: Target, c: usize) -> 
         Takes::Any => kind_way(plan, spot, target, c, 0, NONE, Taking::All),
         Takes::Only(x) => boat_way(plan, spot, target, c, target.stack, x),
         Takes::ReadBut(x) => kind_way(plan, spot, target, c, 0, x, Taking::ReadBut),
+        Takes::Sister(x) => kind_way(plan, spot, target, c, 0, x, Taking::Sister),
+        Takes::Foreign(x) => kind_way(plan, spot, target, c, 0, x, Taking::Foreign),
         Takes::Nobody => Way::Nowhere,
         Takes::Ask => Way::ByStack,
     }
@@ -274,33 +311,69 @@ pub fn over_run(
     over_words(work, plan, lane, d, run.lo, run.hi, tail)
 }
 
-// Are the thin lines enough for the lane? Their numbers must have no weight, and those that it takes be a set that is served.
-pub fn thin_lane(lane: Lane) -> bool
-    ensures { λ r. ⌜ (r ≡ true → (B : ℕ → ℕ) → ThinLane B lane) ⌝ }
+// Which lines are enough for the lane? For thin ones their numbers must have no weight, and those that it takes be a set that is served.
+pub fn lane_sifting(lane: Lane) -> Sifting
+    ensures { λ r. ⌜ LaneSifted lane r ⌝ }
 {
+    if lane.weight != 0 {
+        return Sifting::Whole;
+    }
     let taking = lane.taking;
     match taking {
-        Taking::All => lane.weight == 0,
-        Taking::Only => false,
-        Taking::ReadBut => lane.weight == 0,
+        Taking::All => Sifting::Thin(Sieve::Boats),
+        Taking::Only => Sifting::Whole,
+        Taking::ReadBut => Sifting::Thin(Sieve::Boats),
+        Taking::Sister => Sifting::Thin(Sieve::Sisters),
+        Taking::Foreign => Sifting::Thin(Sieve::Classes),
+    }
+}
+
+// Is the thin table of a sieve there, which is not made for every request? It needs its room, and its first word is not 0.
+fn is_made(work: &[u32], plan: Plan, sieve: Sieve) -> bool
+    requires { ⌜ Laid plan (length (now work)) ⌝ }
+    ensures { λ r. ⌜ (r ≡ true → Said sieve plan (now (work .entry))) ⌝ }
+{
+    if work.len() < thinned::thin_end(plan, sieve) {
+        return false;
+    }
+    area::word(work, thinned::thin_at(plan, sieve)) != 0
+}
+
+// That of the boats is there.
+pub fn has_thin(work: &[u32], plan: Plan, sieve: Sieve) -> bool
+    requires { ⌜ Laid plan (length (now work)) × Filed plan (now work) ⌝ }
+    ensures { λ r. ⌜ (r ≡ true → Sieved sieve plan (now (work .entry))) ⌝ }
+{
+    match sieve {
+        Sieve::Boats => true,
+        Sieve::Classes => is_made(work, plan, Sieve::Classes),
+        Sieve::Sisters => is_made(work, plan, Sieve::Sisters),
     }
 }
 
 // The lines of the kind that the key `k` says, by the thin ones: for a lane for which they are enough.
-pub fn over_thin(work: &mut [u32], plan: Plan, k: usize, lane: Lane, d: u32, tail: usize) -> usize
+pub fn over_thin(
+    work: &mut [u32],
+    plan: Plan,
+    sieve: Sieve,
+    k: usize,
+    lane: Lane,
+    d: u32,
+    tail: usize,
+) -> usize
     requires { ⌜ ReadyBack plan tail (now work) ⌝ }
-    requires { ⌜ Laid plan (length (now work)) × Filed plan (now work) × (k < keys Orders.Kind plan) ⌝ }
-    requires { ⌜ Narrow lane × Gives Orders.Kind plan (front plan (now work)) k lane × ThinLane (boatsIn plan (now work)) lane × (0 < d) × (d ≤ suc tail) ⌝ }
+    requires { ⌜ Laid plan (length (now work)) × Filed plan (now work) × Sieved sieve plan (now work) × (k < keys Orders.Kind plan) ⌝ }
+    requires { ⌜ Narrow lane × Gives Orders.Kind plan (front plan (now work)) k lane × ThinLane sieve (boatsIn plan (now work)) lane × (0 < d) × (d ≤ suc tail) ⌝ }
     ensures { λ r. ⌜ StepBack plan (runLines Orders.Kind plan (now (work .entry)) k d lane) tail (now (work .entry)) r (now (work .exit)) ⌝ }
 {
-    let run = thinned::thin_of(work, plan, k);
+    let run = thinned::thin_of(work, plan, sieve, k);
     over_words(work, plan, lane, d, run.lo, run.hi, tail)
 }
 
 // ---- the tables
 
 // The words that are enough for a position whose stacks are gone over one by one: the lines of its kind, and of them the thin ones where
-// they do.
+// they do and are there.
 pub fn lines_for(work: &[u32], plan: Plan, spot: Spot, target: Target) -> Bounds
     requires { ⌜ Laid plan (length (now work)) × Told plan (front plan (now work)) ⌝ }
     requires { ⌜ Filed plan (now work) ⌝ }
@@ -308,8 +381,10 @@ pub fn lines_for(work: &[u32], plan: Plan, spot: Spot, target: Target) -> Bounds
     ensures { λ r. ⌜ Enough plan spot target (now (work .entry)) (r .lo) (r .hi) ⌝ }
 {
     let k = target.place * 16 + spot.kind;
-    if states::thinnable(spot) {
-        return thinned::thin_of(work, plan, k);
+    if let Sifting::Thin(sieve) = states::enough(spot) {
+        if has_thin(work, plan, sieve) {
+            return thinned::thin_of(work, plan, sieve, k);
+        }
     }
     sorted::run_of(work, plan, Order::Kind, k)
 }
@@ -327,17 +402,80 @@ fn sort_boats(work: &mut [u32], plan: Plan)
     sorted::sort_lines(work, plan, Order::Boat);
 }
 
+// Does a position of the program have the rule with this code? A search without such a position needs no table of its own for it.
+fn asks(program: &[u64; 128], done: usize, code: u8) -> bool
+    requires { ⌜ done ≤ 63 ⌝ }
+    ensures { λ r. ⌜ (r ≡ false → (c : ℕ) → c < done → ruleCode (rowAt (now (program .entry)) c .rule) ≡ code → ⊥) ⌝ }
+{
+    let mut c = 0;
+    while c < done {
+        let row = positions::row_at(program, c);
+        let rule = row.rule;
+        if positions::code_of(rule) == code {
+            return true;
+        }
+        c += 1;
+    }
+    false
+}
+
+// The thin table of a sieve is made, where it is asked for. Else its first word becomes 0.
+fn thin_more(work: &mut [u32], plan: Plan, sieve: Sieve, asked: bool)
+    requires { ⌜ Laid plan (length (now work)) ⌝ }
+    requires { ⌜ Sorted Orders.Kind plan (plan .bykind) (now work) × FromPlaces plan (now work) × (thinEnd sieve plan (thinAt sieve plan) ≤ length (now work)) ⌝ }
+    ensures { λ _. ⌜ (Said sieve plan (now (work .exit)) → Thinned sieve plan (plan .bykind) (thinAt sieve plan) (now (work .exit))) ⌝ }
+    ensures { λ _. ⌜ Kept (thinAt sieve plan) (thinEnd sieve plan (thinAt sieve plan)) (now (work .entry)) (now (work .exit)) ⌝ }
+{
+    if asked {
+        thinned::thin_lines(work, plan, sieve);
+        return;
+    }
+    area::write(work, thinned::thin_at(plan, sieve), 1, 0, 0);
+}
+
+// The thin tables of classes and of sisters, where there is room.
+fn thin_others(work: &mut [u32], plan: Plan, program: &[u64; 128])
+    requires { ⌜ Laid plan (length (now work)) × Told plan (front plan (now work)) × Basic plan (now work) ⌝ }
+    ensures { λ _. ⌜ Filed plan (now (work .exit)) ⌝ }
+    ensures { λ _. ⌜ Kept (filedEnd plan) (length (now (work .entry))) (now (work .entry)) (now (work .exit)) ⌝ }
+{
+    if work.len() < thinned::thin_end(plan, Sieve::Classes) {
+        return;
+    }
+    thin_more(
+        work,
+        plan,
+        Sieve::Classes,
+        asks(program, plan.done, FOREIGN),
+    );
+    if work.len() < thinned::thin_end(plan, Sieve::Sisters) {
+        return;
+    }
+    thin_more(work, plan, Sieve::Sisters, asks(program, plan.done, SISTER));
+}
+
+// The lines are sorted by kind and by boat, and thinned by boats.
+fn file_basic(work: &mut [u32], plan: Plan)
+    requires { ⌜ Laid plan (length (now work)) ⌝ }
+    requires { ⌜ Told plan (front plan (now work)) × (filedEnd plan ≤ length (now work)) ⌝ }
+    ensures { λ _. ⌜ Basic plan (now (work .exit)) ⌝ }
+    ensures { λ _. ⌜ Kept (plan .bykind) (filedEnd plan) (now (work .entry)) (now (work .exit)) ⌝ }
+{
+    sorted::sort_lines(work, plan, Order::Kind);
+    sort_boats(work, plan);
+    thinned::thin_lines(work, plan, Sieve::Boats);
+}
+
 // The lines are sorted by kind and by boat, and thinned, where there is room.
-pub fn file_lines(work: &mut [u32], plan: Plan)
+pub fn file_lines(work: &mut [u32], plan: Plan, program: &[u64; 128])
     requires { ⌜ Laid plan (length (now work)) ⌝ }
     requires { ⌜ Told plan (front plan (now work)) ⌝ }
     ensures { λ _. ⌜ (plan .filed ≡ true → Filed plan (now (work .exit))) ⌝ }
-    ensures { λ _. ⌜ Kept (plan .bykind) (filedEnd plan) (now (work .entry)) (now (work .exit)) ⌝ }
+    ensures { λ _. ⌜ Kept (plan .bykind) (length (now (work .entry))) (now (work .entry)) (now (work .exit)) ⌝ }
 {
     if !plan.filed {
         return;
     }
-    sorted::sort_lines(work, plan, Order::Kind);
-    sort_boats(work, plan);
-    thinned::thin_lines(work, plan);
+    file_basic(work, plan);
+    thin_others(work, plan, program);
 }

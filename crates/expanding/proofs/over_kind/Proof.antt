@@ -1,19 +1,29 @@
 -- `expanding::over_kind` meets its contract, by either table. Assumes nothing.
+use mathlib.Core.Path.{subst}
 use Rattle.states.specs.Spots.{boatsIn}
+use Rattle.ways.specs.Ways.{LaneSifted}
 use Rattle.ways.proofs.Filing.{kinds-fit}
 use borrow.Author.Needs.{needs}
 use Rattle.expanding.proofs.over_kind.Statement.{statement}
 use Rattle.expanding.proofs.over_kind.Tie as tie
 
-thin-lane-requires : tie.Need-thin-lane-requires
-thin-lane-requires c κs = search needs
+lane-sifting-requires : tie.Need-lane-sifting-requires
+lane-sifting-requires c κs = search needs
+
+enum-known-sieve : tie.Need-enum-known-sieve
+enum-known-sieve c = search needs
+
+has-thin-requires : tie.Need-has-thin-requires
+has-thin-requires c κs = search needs
 
 over-thin-requires : tie.Need-over-thin-requires
 over-thin-requires c κs =
-    let a = c .before .before .before .before in
+    let a = c .before .before .before .before .before .before .before .before .before in
+    let (laid, filed, low) = a .pre .1 .0 in
     let (narrow, gives) = a .pre .1 .1 .0 in
     let (some, near) = a .pre .1 .1 .1 in
-    (a .pre .0, (a .pre .1 .0, (narrow, gives, c .before .before .thin-lane .ensures (c .before .if1 .taken) (boatsIn (a .args .plan) (a .args .work .now)), some, near)))
+    let served = subst (LaneSifted (a .args .lane)) (c .before .before .before .before .before .sieve .given .1) (c .before .before .before .before .before .before .before .lane-sifting .ensures) in
+    (a .pre .0, ((laid, filed, c .before .before .has-thin .ensures (c .before .if1 .taken), low), (narrow, gives, served (boatsIn (a .args .plan) (a .args .work .now)), some, near)))
 
 same-length : tie.Need-same-length
 same-length c = search needs
@@ -21,13 +31,16 @@ same-length c = search needs
 returns : tie.Need-returns
 returns c = c .before .before .over-thin .ensures
 
+enum-told : tie.Need-enum-told
+enum-told c = search needs
+
 over-run-requires : tie.Need-over-run-requires
 over-run-requires c κs =
     let a = c .before .before .before .before in
     let (laid, filed, low) = a .pre .1 .0 in
     let (narrow, gives) = a .pre .1 .1 .0 in
     let (some, near) = a .pre .1 .1 .1 in
-    (a .pre .0, ((laid, low), ((filed .kinds, kinds-fit laid filed), (narrow, gives, some, near))))
+    (a .pre .0, ((laid, low), ((filed .basic .kinds, kinds-fit laid (filed .basic)), (narrow, gives, some, near))))
 
 same-length-2 : tie.Need-same-length-2
 same-length-2 c = search needs
@@ -39,10 +52,13 @@ pub over-kind-spec : {M : Type 1} → statement M
 over-kind-spec =
     tie.close
     (tie.spec
-    thin-lane-requires
+    lane-sifting-requires
+    enum-known-sieve
+    has-thin-requires
     over-thin-requires
     same-length
     returns
+    enum-told
     over-run-requires
     same-length-2
     returns-2)

@@ -31,7 +31,7 @@ over-run-requires c κs =
     let laid = a .pre .1 .0 .0 in
     let f = a .pre .1 .1 .1 .1 in
     let (some, near) = a .pre .1 .1 .1 .0 in
-    (a .pre .0, ((laid, r .1 .key-low), ((f .boats (r .0), boats-fit laid f), (r .1 .narrow, r .1 .gives, some, near))))
+    (a .pre .0, ((laid, r .1 .key-low), ((f .basic .boats (r .0), boats-fit laid (f .basic)), (r .1 .narrow, r .1 .gives, some, near))))
 
 enum-known-k-2 : tie.Need-enum-known-k-2
 enum-known-k-2 c = search needs

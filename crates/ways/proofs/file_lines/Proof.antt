@@ -1,8 +1,13 @@
--- `ways::file_lines` meets its contract: each table stands after the one before, which stays. Assumes nothing.
-use mathlib.Core.Path.{_≡_, refl, sym, _∙_}
+-- `ways::file_lines` meets its contract: the tables that every search has, and those that some have after them. Assumes nothing.
+use mathlib.Core.Path.{_≡_, refl, sym, _∙_, subst}
 use mathlib.Core.Bool.{Bool, true, false, not, false≢true}
-use Rattle.sorted.proofs.Turns.{kept-none}
-use Rattle.ways.proofs.Filing.{kinds-asked, boats-asked, thin-asked, filed-all, filed-kept}
+use Prim.Native.Nat.{_≤_}
+use native.Mathlib.Omega.{arith}
+use lib.ListN.{length}
+use borrow.Author.Tests.{leb-true}
+use Rattle.request.specs.Layout.{Laid, filedEnd}
+use Rattle.sorted.proofs.Turns.{kept-none, kept-take, kept-wider, kept-then}
+use Rattle.ways.specs.Ways.{Told}
 use borrow.Author.Needs.{needs}
 use Rattle.ways.proofs.file_lines.Statement.{statement}
 use Rattle.ways.proofs.file_lines.Tie as tie
@@ -19,39 +24,29 @@ returns : tie.Need-returns
 returns c = (λ e. absurd (false≢true (sym (off (c .before .before .before .args .plan .filed) (c .if1 .taken)) ∙ e)), kept-none)
 
 -- there is room
-yes : (c : tie.Else1) → c .before .before .before .args .plan .filed ≡ true
-yes c = on (c .before .before .before .args .plan .filed) (c .if1 .left)
+room : (c : tie.Else1) → filedEnd (c .before .before .before .args .plan) ≤ length (c .before .before .before .args .work .now)
+room c = let a = c .before .before .before in leb-true (filedEnd (a .args .plan)) (length (a .args .work .now)) (sym (a .pre .0 .filed-is) ∙ on (a .args .plan .filed) (c .if1 .left))
 
-sort-lines-requires : tie.Need-sort-lines-requires
-sort-lines-requires c κs = let a = c .before .before .before .before in kinds-asked (a .args .plan) (a .args .work .now) (a .pre .0) (a .pre .1) (yes (c .before))
+file-basic-requires : tie.Need-file-basic-requires
+file-basic-requires c κs = let a = c .before .before .before .before in (a .pre .0, (a .pre .1, room (c .before)))
 
-sort-boats-requires : tie.Need-sort-boats-requires
-sort-boats-requires c κs =
+thin-others-requires : tie.Need-thin-others-requires
+thin-others-requires c κs =
     let a = c .before .before .before .before .before .before .before .before in
-    let one = c .before .before .before .sort-lines in
-    boats-asked (a .args .plan) (a .args .work .now) (a .pre .0) (a .pre .1) (yes (c .before .before .before .before .before)) (one .last .0) (one .ensures .0) (one .ensures .1)
-
-thin-lines-requires : tie.Need-thin-lines-requires
-thin-lines-requires c κs =
-    let a = c .before .before .before .before .before .before .before .before .before .before .before .before in
-    let one = c .before .before .before .before .before .before .before .sort-lines in
-    let two = c .before .before .before .sort-boats in
-    thin-asked (a .args .plan) (a .args .work .now) (a .pre .0) (a .pre .1) (yes (c .before .before .before .before .before .before .before .before .before)) (one .last .0) (one .ensures .0) (one .ensures .1) (two .last .0) (two .ensures .0) (two .ensures .1)
+    let plan = a .args .plan in
+    let one = c .before .before .before .file-basic .ensures in
+    (subst (Laid plan) (sym (one .1 .long)) (a .pre .0), subst (Told plan) (sym (kept-take (one .1) (plan .base) (omega (arith, a .pre .0 .kinds-at)))) (a .pre .1), one .0)
 
 same-length : tie.Need-same-length
 same-length c = search needs
 
 returns-2 : tie.Need-returns-2
 returns-2 c =
-    let a = c .before .before .before .before .before .before .before .before .before .before .before .before .before .before .before in
-    let room = yes (c .before .before .before .before .before .before .before .before .before .before .before .before) in
-    let plan = a .args .plan in
-    let w = a .args .work .now in
-    let one = c .before .before .before .before .before .before .before .before .before .before .sort-lines in
-    let two = c .before .before .before .before .before .before .sort-boats in
-    let three = c .before .before .thin-lines in (
-      λ _. filed-all plan w (a .pre .0) (a .pre .1) room (one .last .0) (one .ensures .0) (one .ensures .1) (two .last .0) (two .ensures .0) (two .ensures .1) (three .last .0) (three .ensures .0) (three .ensures .1),
-      filed-kept plan w (a .pre .0) (a .pre .1) room (one .last .0) (one .ensures .0) (one .ensures .1) (two .last .0) (two .ensures .0) (two .ensures .1) (three .last .0) (three .ensures .0) (three .ensures .1),
+    let l = c .before .before .before .before .before .before .before .before .before .before .before .pre .0 in
+    let one = c .before .before .before .before .before .before .file-basic .ensures in
+    let two = c .before .before .thin-others .ensures in (
+      λ _. two .0,
+      kept-then (kept-wider _ _ (omega arith) (room (c .before .before .before .before .before .before .before .before)) (one .1)) (kept-wider _ _ (omega (arith, l .boats-at, l .thin-at, l .stamps-at)) (omega (arith, one .1 .long)) (two .1)),
     )
 
 pub file-lines-spec : {M : Type 1} → statement M
@@ -59,8 +54,7 @@ file-lines-spec =
     tie.close
     (tie.spec
     returns
-    sort-lines-requires
-    sort-boats-requires
-    thin-lines-requires
+    file-basic-requires
+    thin-others-requires
     same-length
     returns-2)

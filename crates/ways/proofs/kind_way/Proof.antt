@@ -20,7 +20,7 @@ add-t10 : tie.Need-add-t10
 add-t10 c = search needs
 
 returns : tie.Need-returns
-returns c = let a = c .before .before .before in λ g count told single. kind-runs _ _ _ _ _ (a .pre .0) g told count _ _ (a .args .weight) (a .args .number) (a .args .taking) (c .before .before .lane-at .ensures) refl (a .pre .1) single
+returns c = let a = c .before .before .before in λ g count told single. kind-runs _ _ _ _ _ (a .pre .0) g told count _ _ (a .args .weight) (a .args .number) (a .args .taking) (c .before .before .lane-at .ensures) refl (a .pre .1) (a .pre .2) single
 
 pub kind-way-spec : {M : Type 1} → statement M
 kind-way-spec = tie.close (tie.spec lane-at-requires mul-t9 add-t10 returns)
