@@ -23,6 +23,7 @@ ghost use Rattle.states.specs.Spots.{front, boatsIn, Sane, stackAt, Aimed, Star
 use request::Plan;
 use sorted::Order;
 use sorted::PACK;
+use states::Sieve;
 use states::Sifting;
 use states::Spot;
 use states::Target;
@@ -383,6 +384,22 @@ fn by_sorted(
     over_stacked(work, plan, undo, c, run.lo, run.hi, tail)
 }
 
+// The lines of the kind that the key `k` says, for a lane that asks for classes: by the thin ones where they are enough and there.
+fn over_class(work: &mut [u32], plan: Plan, k: usize, lane: Lane, d: u32, tail: usize) -> usize
+    requires { ⌜ ReadyBack plan tail (now work) ⌝ }
+    requires { ⌜ Laid plan (length (now work)) × Filed plan (now work) × (k < keys Orders.Kind plan) ⌝ }
+    requires { ⌜ Narrow lane × Gives Orders.Kind plan (front plan (now work)) k lane ⌝ }
+    requires { ⌜ (0 < d) × (d ≤ suc tail) ⌝ }
+    ensures { λ r. ⌜ StepBack plan (runLines Orders.Kind plan (now (work .entry)) k d lane) tail (now (work .entry)) r (now (work .exit)) ⌝ }
+{
+    if let Sifting::Thin(sieve) = ways::class_lane(lane) {
+        if ways::has_thin(work, plan, sieve) {
+            return ways::over_thin(work, plan, sieve, true, k, lane, d, tail);
+        }
+    }
+    ways::over_run(work, plan, Order::Kind, true, k, lane, d, tail)
+}
+
 // The lines of the kind that the key `k` says, by the thin ones where they are enough for the lane.
 fn over_kind(work: &mut [u32], plan: Plan, k: usize, lane: Lane, d: u32, tail: usize) -> usize
     requires { ⌜ ReadyBack plan tail (now work) ⌝ }
@@ -391,12 +408,13 @@ fn over_kind(work: &mut [u32], plan: Plan, k: usize, lane: Lane, d: u32, tail: u
     requires { ⌜ (0 < d) × (d ≤ suc tail) ⌝ }
     ensures { λ r. ⌜ StepBack plan (runLines Orders.Kind plan (now (work .entry)) k d lane) tail (now (work .entry)) r (now (work .exit)) ⌝ }
 {
-    if let Sifting::Thin(sieve) = ways::lane_sifting(lane) {
-        if ways::has_thin(work, plan, sieve) {
-            return ways::over_thin(work, plan, sieve, k, lane, d, tail);
-        }
+    if ways::by_class(lane) {
+        return over_class(work, plan, k, lane, d, tail);
     }
-    ways::over_run(work, plan, Order::Kind, k, lane, d, tail)
+    if ways::thin_lane(lane) {
+        return ways::over_thin(work, plan, Sieve::Boats, false, k, lane, d, tail);
+    }
+    ways::over_run(work, plan, Order::Kind, false, k, lane, d, tail)
 }
 
 // The lines that lead back to position `c`, from the run of the sorted lines that has them where there is one.
@@ -418,7 +436,7 @@ fn over_way(
     ensures { λ r. ⌜ StepBack plan (linesBack plan (front plan (now (work .entry))) spot target d c leaves) tail (now (work .entry)) r (now (work .exit)) ⌝ }
 {
     match ways::way_of(work, plan, spot, target, leaves, c) {
-        Way::ByBoat(k, lane) => ways::over_run(work, plan, Order::Boat, k, lane, d, tail),
+        Way::ByBoat(k, lane) => ways::over_run(work, plan, Order::Boat, false, k, lane, d, tail),
         Way::ByKind(k, lane) => over_kind(work, plan, k, lane, d, tail),
         Way::ByStack => by_sorted(work, plan, spot, target, d, c, leaves, tail),
         Way::Nowhere => tail,

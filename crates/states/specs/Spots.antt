@@ -22,6 +22,8 @@ use Rattle.states.specs.declared.Spot.{Spot}
 use Rattle.states.specs.declared.Target.{Target}
 use Rattle.states.specs.declared.Takes.{Takes}
 use Rattle.states.specs.declared.Takes.the-variants as Takes
+use Rattle.states.specs.declared.Kin.{Kin}
+use Rattle.states.specs.declared.Kin.the-variants as Kin
 use Rattle.states.specs.declared.Told.{Told}
 use Rattle.states.specs.declared.Told.the-variants as Told
 
@@ -134,10 +136,13 @@ abbrev pub TakenBy : (ℕ → ℕ) → ℕ → Spot → ℕ → Takes → Type 0
 TakenBy B R s v Takes.Any = (x : ℕ) → okay B R s x v ≡ true
 TakenBy B R s v (Takes.Only y) = (y < R) × ((x : ℕ) → okay B R s x v ≡ eqb x y)
 TakenBy B R s v (Takes.ReadBut y) = (y < R) × ((x : ℕ) → okay B R s x v ≡ readBut B y x)
-TakenBy B R s v (Takes.Sister y) = (y < R) × ((x : ℕ) → okay B R s x v ≡ sisterOf B y x)
-TakenBy B R s v (Takes.Foreign y) = (y < R) × ((x : ℕ) → okay B R s x v ≡ foreignTo B y x)
 TakenBy B R s v Takes.Nobody = (x : ℕ) → okay B R s x v ≡ false
 TakenBy B R s v Takes.Ask = Unit {0}
+
+abbrev pub KinTaken : (ℕ → ℕ) → ℕ → Spot → ℕ → Kin → Type 0
+KinTaken B R s v (Kin.Sister y) = (y < R) × ((x : ℕ) → okay B R s x v ≡ sisterOf B y x)
+KinTaken B R s v (Kin.Foreign y) = (y < R) × ((x : ℕ) → okay B R s x v ≡ foreignTo B y x)
+KinTaken B R s v Kin.Neither = Unit {0}
 
 -- only the boat at the rule's level does, where it is read
 pub record OnlyKept (s : Spot) : Type 0 where

@@ -8,7 +8,7 @@ ghost use lib.ListN.{length};
 ghost use Rattle.boats.specs.Table.{classIn, toldBy};
 ghost use Rattle.request.specs.Layout.{largest, scale, Laid};
 ghost use Rattle.states.specs.Served.{boatKey, classKey, Sifted};
-ghost use Rattle.states.specs.Spots.{boatsIn, toldShown, outcomeBit, metBy, outcomes, spotIn, off, on, okay, TakenBy, OnlyKept, TakesAll, Lowest, From, Entries, targetIn};
+ghost use Rattle.states.specs.Spots.{boatsIn, toldShown, outcomeBit, metBy, outcomes, spotIn, off, on, okay, TakenBy, KinTaken, OnlyKept, TakesAll, Lowest, From, Entries, targetIn};
 use positions::Rule;
 use request::Plan;
 use request::SCALE;
@@ -315,10 +315,15 @@ pub enum Takes {
     Any,
     Only(usize),
     ReadBut(usize),
-    Sister(usize),
-    Foreign(usize),
     Nobody,
     Ask,
+}
+
+// The same of the rules that compare classes.
+pub enum Kin {
+    Sister(usize),
+    Foreign(usize),
+    Neither,
 }
 
 // Whatever the stack, does only the boat pass that stands at the rule's level, if it is read?
@@ -525,11 +530,25 @@ pub fn taken_by(work: &[u32], plan: Plan, spot: Spot, target: Target) -> Takes
     if let Rule::Other = rule {
         return Takes::ReadBut(kept);
     }
+    Takes::Ask
+}
+
+// Those that pass by their classes, where the rule compares these and the kept boat is read. Apart from the others, which are asked for at
+// nearly every step: a question more there is compiled to a jump.
+pub fn kin_taken(work: &[u32], plan: Plan, spot: Spot, target: Target) -> Kin
+    requires { ⌜ Laid plan (length (now work)) × (0 < spot .level) × Entries (plan .radix) target ⌝ }
+    ensures { λ r. ⌜ KinTaken (boatsIn plan (now (work .entry))) (plan .radix) spot (target .stack) r ⌝ }
+{
+    let kept = kept_at(plan.radix, target, spot.level);
+    if boat_of(work, plan, kept) == 0 {
+        return Kin::Neither;
+    }
+    let rule = spot.rule;
     if let Rule::Sister = rule {
-        return Takes::Sister(kept);
+        return Kin::Sister(kept);
     }
     if let Rule::Foreign = rule {
-        return Takes::Foreign(kept);
+        return Kin::Foreign(kept);
     }
-    Takes::Ask
+    Kin::Neither
 }

@@ -15,13 +15,29 @@ use Rattle.states.specs.declared.Spot.{Spot}
 use Rattle.states.specs.declared.Target.{Target}
 use Rattle.states.proofs.Bounds.{power-fits, power-small}
 use Rattle.sorted.specs.Sorting.{packBy}
-use Rattle.ways.specs.Ways.{takenBy, Single, Before}
+use Rattle.ways.specs.Ways.{takenBy, Plain, Single, Before}
+use Rattle.ways.specs.declared.Lane.{Lane}
+use Rattle.ways.specs.declared.Taking.{Taking}
 use Rattle.ways.specs.declared.Taking.the-variants as Taking
 use Rattle.ways.proofs.Right.{stack-plain, stack-pushed, stack-forgotten, stack-left, stack-fits}
 
 -- keys of places and boats are small
 pub by-boat : (p R x : ℕ) → p < 1024 → R ≤ 4097 → x < R → (p * R ≤ 4195328) × (p * R + x < 4200000)
 by-boat p R x a b l = let m : p * R ≤ 1024 * 4097 = mul-le-mul {n₂ = 1024} {m₂ = 4097} (omega arith) b in (omega (arith, m), omega (arith, m))
+
+-- a lane that takes one number does not ask for classes
+abbrev pub taking-tag : Taking → ℕ
+taking-tag Taking.All = 0
+taking-tag Taking.Only = 1
+taking-tag Taking.ReadBut = 2
+taking-tag Taking.Sister = 3
+taking-tag Taking.Foreign = 4
+
+pub plain-tag : (lane : Lane) → taking-tag (lane .taking) ≤ 2 → Plain lane
+plain-tag lane low = record { no-sister = λ e. omega (arith, low, ap taking-tag e); no-foreign = λ e. omega (arith, low, ap taking-tag e) }
+
+pub only-plain : {lane : Lane} → lane .taking ≡ Taking.Only → Plain lane
+only-plain {lane} e = plain-tag lane (omega (arith, ap taking-tag e))
 
 -- a state's own stack is no deeper than the keeps
 pub shallow : {plan : Plan} {s : Spot} {t : Target} {c leaves : ℕ} → Before plan s t c leaves → Before plan s t c (t .depth)

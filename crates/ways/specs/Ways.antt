@@ -61,6 +61,11 @@ pub record Narrow (lane : Lane) : Type 0 where
   pub weight-low : lane .weight ≤ largest
   pub number-low : lane .number ≤ largest
 
+-- it does not ask for classes
+pub record Plain (lane : Lane) : Type 0 where
+  pub no-sister : lane .taking ≡ Taking.Sister → ⊥
+  pub no-foreign : lane .taking ≡ Taking.Foreign → ⊥
+
 -- the thin words of a sieve do for it: only the place that a word says and whether its number is taken matter, and the numbers taken are a set
 -- that is served
 pub record ThinLane (sieve : Sieve) (B : ℕ → ℕ) (lane : Lane) : Type 0 where
@@ -106,7 +111,7 @@ pub record Runs (o : Order) (plan : Plan) (g : List ℕ) (s : Spot) (t : Target)
 
 -- a way is right for so many stacks
 abbrev pub Right : Plan → List ℕ → Spot → Target → ℕ → ℕ → Way → Type 0
-Right plan g s t c count (Way.ByBoat k lane) = (0 < plan .keeps) × Runs Order.Boat plan g s t c count k lane
+Right plan g s t c count (Way.ByBoat k lane) = (0 < plan .keeps) × Plain lane × Runs Order.Boat plan g s t c count k lane
 Right plan g s t c count (Way.ByKind k lane) = Runs Order.Kind plan g s t c count k lane
 Right plan g s t c count Way.ByStack = Unit {0}
 Right plan g s t c count Way.Nowhere = (d i : ℕ) → i < plan .lines → (st : Search) → lineTurn plan g s t d c count i st ≡ st

@@ -5,7 +5,7 @@ ghost use lib.ListN.{length, getD};
 ghost use Rattle.request.specs.Layout.{largest, Laid, filedEnd};
 ghost use Rattle.graph.specs.Loops.{turns};
 ghost use Rattle.states.specs.Pairs.{ReadyBack, StepBack};
-ghost use Rattle.ways.specs.Ways.{laneState, takenBy, laneTurn, LaneTo, Narrow, ThinLane, LaneSifted, Within, runLines, Told, Gives, Right, RightFor, Before};
+ghost use Rattle.ways.specs.Ways.{laneState, takenBy, laneTurn, LaneTo, Narrow, Plain, ThinLane, LaneSifted, Within, runLines, Told, Gives, Right, RightFor, Before};
 ghost use mathlib.Core.Bool.{true, false};
 ghost use mathlib.Core.List.{List};
 ghost use lib.Dec.{eqb};
@@ -15,11 +15,13 @@ ghost use Rattle.ways.specs.Filed.{Basic, Filed, Said, Sieved};
 ghost use Rattle.thinned.specs.Thinning.{FromPlaces, thinAt, thinEnd, Thinned};
 ghost use Rattle.positions.specs.Program.{ruleCode, rowAt};
 ghost use Rattle.sorted.specs.declared.Order.the-variants as Orders;
+ghost use Rattle.states.specs.declared.Sieve.the-variants as Sieves;
 ghost use Rattle.states.specs.Spots.{front, boatsIn, readBut, sisterOf, foreignTo};
 use request::Plan;
 use sorted::Bounds;
 use sorted::Order;
 use sorted::PACK;
+use states::Kin;
 use states::Sieve;
 use states::Sifting;
 use states::Spot;
@@ -88,8 +90,8 @@ fn foreign_to(work: &[u32], plan: Plan, number: usize, y: usize) -> bool
     states::class_of(work, plan, y) != states::class_of(work, plan, number)
 }
 
-// Is a word with the number `y` taken?
-fn taken(work: &[u32], plan: Plan, lane: Lane, y: usize) -> bool
+// Is a word with the number `y` taken, by a lane that asks for classes?
+fn class_taken(work: &[u32], plan: Plan, lane: Lane, y: usize) -> bool
     requires { ⌜ Laid plan (length (now work)) × (y < 4294967296) × Narrow lane ⌝ }
     ensures { λ r. ⌜ r ≡ takenBy (boatsIn plan (now (work .entry))) (lane .taking) y (lane .number) ⌝ }
 {
@@ -100,6 +102,25 @@ fn taken(work: &[u32], plan: Plan, lane: Lane, y: usize) -> bool
         Taking::ReadBut => read_but(work, plan, lane.number, y),
         Taking::Sister => sister_of(work, plan, lane.number, y),
         Taking::Foreign => foreign_to(work, plan, lane.number, y),
+    }
+}
+
+// Is a word with the number `y` taken? `classes` is a constant wherever the loop below is called, so that the loop of a lane that does not
+// ask for classes is compiled without that question.
+fn taken(work: &[u32], plan: Plan, classes: bool, lane: Lane, y: usize) -> bool
+    requires { ⌜ Laid plan (length (now work)) × (y < 4294967296) × Narrow lane × (classes ≡ false → Plain lane) ⌝ }
+    ensures { λ r. ⌜ r ≡ takenBy (boatsIn plan (now (work .entry))) (lane .taking) y (lane .number) ⌝ }
+{
+    if classes {
+        return class_taken(work, plan, lane, y);
+    }
+    let taking = lane.taking;
+    match taking {
+        Taking::All => true,
+        Taking::Only => y == lane.number,
+        Taking::ReadBut => read_but(work, plan, lane.number, y),
+        Taking::Sister => false,
+        Taking::Foreign => false,
     }
 }
 
@@ -114,9 +135,17 @@ fn lane_state(lane: Lane, e: u32) -> usize
 }
 
 // Word `p`: the state that it gives is pushed, if it is taken. Most states have been met before, so that is asked first.
-fn one_word(work: &mut [u32], plan: Plan, lane: Lane, d: u32, p: usize, tail: usize) -> usize
+fn one_word(
+    work: &mut [u32],
+    plan: Plan,
+    classes: bool,
+    lane: Lane,
+    d: u32,
+    p: usize,
+    tail: usize,
+) -> usize
     requires { ⌜ ReadyBack plan tail (now work) ⌝ }
-    requires { ⌜ Laid plan (length (now work)) × Narrow lane ⌝ }
+    requires { ⌜ Laid plan (length (now work)) × Narrow lane × (classes ≡ false → Plain lane) ⌝ }
     requires { ⌜ (0 < d) × (d ≤ suc tail) × (p < length (now work)) × (laneState lane (getD (now work) p 0) < plan .size) ⌝ }
     ensures { λ r. ⌜ StepBack plan (laneTurn (boatsIn plan (now (work .entry))) d lane (getD (now (work .entry)) p 0)) tail (now (work .entry)) r (now (work .exit)) ⌝ }
 {
@@ -125,7 +154,7 @@ fn one_word(work: &mut [u32], plan: Plan, lane: Lane, d: u32, p: usize, tail: us
     if area::dist_at(work, plan.base, plan.size, tail, s) != 0 {
         return tail;
     }
-    if taken(work, plan, lane, (e % PACK) as usize) {
+    if taken(work, plan, classes, lane, (e % PACK) as usize) {
         return area::push_if_new(work, plan.base, plan.size, d, s, tail);
     }
     tail
@@ -135,6 +164,7 @@ fn one_word(work: &mut [u32], plan: Plan, lane: Lane, d: u32, p: usize, tail: us
 pub fn over_words(
     work: &mut [u32],
     plan: Plan,
+    classes: bool,
     lane: Lane,
     d: u32,
     lo: usize,
@@ -142,14 +172,14 @@ pub fn over_words(
     tail: usize,
 ) -> usize
     requires { ⌜ ReadyBack plan tail (now work) ⌝ }
-    requires { ⌜ Laid plan (length (now work)) × Narrow lane ⌝ }
+    requires { ⌜ Laid plan (length (now work)) × Narrow lane × (classes ≡ false → Plain lane) ⌝ }
     requires { ⌜ (0 < d) × (d ≤ suc tail) × (plan .base + plan .size + plan .size ≤ lo) × (lo ≤ hi) × (hi ≤ length (now work)) ⌝ }
     requires { ⌜ Within lane (plan .size) lo hi (now work) ⌝ }
     ensures { λ r. ⌜ StepBack plan (turns (λ p. laneTurn (boatsIn plan (now (work .entry))) d lane (getD (now (work .entry)) p 0)) lo (hi - lo)) tail (now (work .entry)) r (now (work .exit)) ⌝ }
 {
     let mut t = tail;
     for p in lo..hi {
-        t = one_word(work, plan, lane, d, p, t);
+        t = one_word(work, plan, classes, lane, d, p, t);
     }
     t
 }
@@ -224,6 +254,19 @@ fn pushing_way(plan: Plan, spot: Spot, target: Target, c: usize) -> Way
     Way::ByStack
 }
 
+// The stack after the position is the state's, and it does not push: the lines of the kept boat's class, or of others.
+fn class_way(work: &[u32], plan: Plan, spot: Spot, target: Target, c: usize) -> Way
+    requires { ⌜ Before plan spot target c (target .depth) × (spot .push ≡ false) ⌝ }
+    requires { ⌜ Laid plan (length (now work)) × Told plan (front plan (now work)) ⌝ }
+    ensures { λ r. ⌜ Right plan (front plan (now (work .entry))) spot target c 1 r ⌝ }
+{
+    match states::kin_taken(work, plan, spot, target) {
+        Kin::Sister(x) => kind_way(plan, spot, target, c, 0, x, Taking::Sister),
+        Kin::Foreign(x) => kind_way(plan, spot, target, c, 0, x, Taking::Foreign),
+        Kin::Neither => Way::ByStack,
+    }
+}
+
 // The stack after the position is the state's.
 fn exact_way(work: &[u32], plan: Plan, spot: Spot, target: Target, c: usize) -> Way
     requires { ⌜ Before plan spot target c (target .depth) ⌝ }
@@ -237,10 +280,8 @@ fn exact_way(work: &[u32], plan: Plan, spot: Spot, target: Target, c: usize) -> 
         Takes::Any => kind_way(plan, spot, target, c, 0, NONE, Taking::All),
         Takes::Only(x) => boat_way(plan, spot, target, c, target.stack, x),
         Takes::ReadBut(x) => kind_way(plan, spot, target, c, 0, x, Taking::ReadBut),
-        Takes::Sister(x) => kind_way(plan, spot, target, c, 0, x, Taking::Sister),
-        Takes::Foreign(x) => kind_way(plan, spot, target, c, 0, x, Taking::Foreign),
         Takes::Nobody => Way::Nowhere,
-        Takes::Ask => Way::ByStack,
+        Takes::Ask => class_way(work, plan, spot, target, c),
     }
 }
 
@@ -296,6 +337,7 @@ pub fn over_run(
     work: &mut [u32],
     plan: Plan,
     order: Order,
+    classes: bool,
     k: usize,
     lane: Lane,
     d: u32,
@@ -304,15 +346,43 @@ pub fn over_run(
     requires { ⌜ ReadyBack plan tail (now work) ⌝ }
     requires { ⌜ Laid plan (length (now work)) × (k < keys order plan) ⌝ }
     requires { ⌜ Sorted order plan (tableAt order plan) (now work) × (tableEnd order plan ≤ length (now work)) ⌝ }
-    requires { ⌜ Narrow lane × Gives order plan (front plan (now work)) k lane × (0 < d) × (d ≤ suc tail) ⌝ }
+    requires { ⌜ Narrow lane × Gives order plan (front plan (now work)) k lane × (classes ≡ false → Plain lane) × (0 < d) × (d ≤ suc tail) ⌝ }
     ensures { λ r. ⌜ StepBack plan (runLines order plan (now (work .entry)) k d lane) tail (now (work .entry)) r (now (work .exit)) ⌝ }
 {
     let run = sorted::run_of(work, plan, order, k);
-    over_words(work, plan, lane, d, run.lo, run.hi, tail)
+    over_words(work, plan, classes, lane, d, run.lo, run.hi, tail)
 }
 
-// Which lines are enough for the lane? For thin ones their numbers must have no weight, and those that it takes be a set that is served.
-pub fn lane_sifting(lane: Lane) -> Sifting
+// Does the lane ask for classes?
+pub fn by_class(lane: Lane) -> bool
+    ensures { λ r. ⌜ (r ≡ false → Plain lane) ⌝ }
+{
+    let taking = lane.taking;
+    match taking {
+        Taking::All => false,
+        Taking::Only => false,
+        Taking::ReadBut => false,
+        Taking::Sister => true,
+        Taking::Foreign => true,
+    }
+}
+
+// Are the thin lines of boats enough for the lane? Their numbers must have no weight, and those that it takes be a set that is served.
+pub fn thin_lane(lane: Lane) -> bool
+    ensures { λ r. ⌜ (r ≡ true → (B : ℕ → ℕ) → ThinLane Sieves.Boats B lane) ⌝ }
+{
+    let taking = lane.taking;
+    match taking {
+        Taking::All => lane.weight == 0,
+        Taking::Only => false,
+        Taking::ReadBut => lane.weight == 0,
+        Taking::Sister => false,
+        Taking::Foreign => false,
+    }
+}
+
+// Which lines are enough for a lane that asks for classes?
+pub fn class_lane(lane: Lane) -> Sifting
     ensures { λ r. ⌜ LaneSifted lane r ⌝ }
 {
     if lane.weight != 0 {
@@ -320,9 +390,9 @@ pub fn lane_sifting(lane: Lane) -> Sifting
     }
     let taking = lane.taking;
     match taking {
-        Taking::All => Sifting::Thin(Sieve::Boats),
+        Taking::All => Sifting::Whole,
         Taking::Only => Sifting::Whole,
-        Taking::ReadBut => Sifting::Thin(Sieve::Boats),
+        Taking::ReadBut => Sifting::Whole,
         Taking::Sister => Sifting::Thin(Sieve::Sisters),
         Taking::Foreign => Sifting::Thin(Sieve::Classes),
     }
@@ -356,6 +426,7 @@ pub fn over_thin(
     work: &mut [u32],
     plan: Plan,
     sieve: Sieve,
+    classes: bool,
     k: usize,
     lane: Lane,
     d: u32,
@@ -363,11 +434,11 @@ pub fn over_thin(
 ) -> usize
     requires { ⌜ ReadyBack plan tail (now work) ⌝ }
     requires { ⌜ Laid plan (length (now work)) × Filed plan (now work) × Sieved sieve plan (now work) × (k < keys Orders.Kind plan) ⌝ }
-    requires { ⌜ Narrow lane × Gives Orders.Kind plan (front plan (now work)) k lane × ThinLane sieve (boatsIn plan (now work)) lane × (0 < d) × (d ≤ suc tail) ⌝ }
+    requires { ⌜ Narrow lane × Gives Orders.Kind plan (front plan (now work)) k lane × ThinLane sieve (boatsIn plan (now work)) lane × (classes ≡ false → Plain lane) × (0 < d) × (d ≤ suc tail) ⌝ }
     ensures { λ r. ⌜ StepBack plan (runLines Orders.Kind plan (now (work .entry)) k d lane) tail (now (work .entry)) r (now (work .exit)) ⌝ }
 {
     let run = thinned::thin_of(work, plan, sieve, k);
-    over_words(work, plan, lane, d, run.lo, run.hi, tail)
+    over_words(work, plan, classes, lane, d, run.lo, run.hi, tail)
 }
 
 // ---- the tables

@@ -1,64 +1,71 @@
--- `expanding::over_kind` meets its contract, by either table. Assumes nothing.
-use mathlib.Core.Path.{subst}
+-- `expanding::over_kind` meets its contract, by one table or another. Assumes nothing.
+use native.Mathlib.Omega.{arith}
 use Rattle.states.specs.Spots.{boatsIn}
-use Rattle.ways.specs.Ways.{LaneSifted}
+use Rattle.states.specs.declared.Sieve.the-variants as Sieve
+use Rattle.thinned.specs.Runs.{stamps-are}
+use Rattle.ways.specs.Filed.{Sieved}
 use Rattle.ways.proofs.Filing.{kinds-fit}
 use borrow.Author.Needs.{needs}
 use Rattle.expanding.proofs.over_kind.Statement.{statement}
 use Rattle.expanding.proofs.over_kind.Tie as tie
 
-lane-sifting-requires : tie.Need-lane-sifting-requires
-lane-sifting-requires c κs = search needs
+by-class-requires : tie.Need-by-class-requires
+by-class-requires c κs = search needs
 
-enum-known-sieve : tie.Need-enum-known-sieve
-enum-known-sieve c = search needs
-
-has-thin-requires : tie.Need-has-thin-requires
-has-thin-requires c κs = search needs
-
-over-thin-requires : tie.Need-over-thin-requires
-over-thin-requires c κs =
-    let a = c .before .before .before .before .before .before .before .before .before in
-    let (laid, filed, low) = a .pre .1 .0 in
-    let (narrow, gives) = a .pre .1 .1 .0 in
-    let (some, near) = a .pre .1 .1 .1 in
-    let served = subst (LaneSifted (a .args .lane)) (c .before .before .before .before .before .sieve .given .1) (c .before .before .before .before .before .before .before .lane-sifting .ensures) in
-    (a .pre .0, ((laid, filed, c .before .before .has-thin .ensures (c .before .if1 .taken), low), (narrow, gives, served (boatsIn (a .args .plan) (a .args .work .now)), some, near)))
+over-class-requires : tie.Need-over-class-requires
+over-class-requires c κs = search needs
 
 same-length : tie.Need-same-length
 same-length c = search needs
 
 returns : tie.Need-returns
-returns c = c .before .before .over-thin .ensures
+returns c = c .before .before .over-class .ensures
 
-enum-told : tie.Need-enum-told
-enum-told c = search needs
+thin-lane-requires : tie.Need-thin-lane-requires
+thin-lane-requires c κs = search needs
 
-over-run-requires : tie.Need-over-run-requires
-over-run-requires c κs =
-    let a = c .before .before .before .before in
+over-thin-requires : tie.Need-over-thin-requires
+over-thin-requires c κs =
+    let a = c .before .before .before .before .before .before in
     let (laid, filed, low) = a .pre .1 .0 in
     let (narrow, gives) = a .pre .1 .1 .0 in
     let (some, near) = a .pre .1 .1 .1 in
-    (a .pre .0, ((laid, low), ((filed .basic .kinds, kinds-fit laid (filed .basic)), (narrow, gives, some, near))))
+    let made : Sieved Sieve.Boats (a .args .plan) (a .args .work .now) = record { room = omega (arith, stamps-are laid, filed .basic .room); thin = filed .basic .thin } in
+    let served = c .before .before .thin-lane .ensures (c .before .if2 .taken) (boatsIn (a .args .plan) (a .args .work .now)) in
+    (a .pre .0, ((laid, filed, made, low), (narrow, gives, served, λ _. c .before .before .before .before .by-class .ensures (c .before .before .before .if1 .left), some, near)))
 
 same-length-2 : tie.Need-same-length-2
 same-length-2 c = search needs
 
 returns-2 : tie.Need-returns-2
-returns-2 c = c .before .before .over-run .ensures
+returns-2 c = c .before .before .over-thin .ensures
+
+over-run-requires : tie.Need-over-run-requires
+over-run-requires c κs =
+    let a = c .before .before .before .before .before .before in
+    let (laid, filed, low) = a .pre .1 .0 in
+    let (narrow, gives) = a .pre .1 .1 .0 in
+    let (some, near) = a .pre .1 .1 .1 in
+    (a .pre .0, ((laid, low), ((filed .basic .kinds, kinds-fit laid (filed .basic)), (narrow, gives, λ _. c .before .before .before .before .by-class .ensures (c .before .before .before .if1 .left), some, near))))
+
+same-length-3 : tie.Need-same-length-3
+same-length-3 c = search needs
+
+returns-3 : tie.Need-returns-3
+returns-3 c = c .before .before .over-run .ensures
 
 pub over-kind-spec : {M : Type 1} → statement M
 over-kind-spec =
     tie.close
     (tie.spec
-    lane-sifting-requires
-    enum-known-sieve
-    has-thin-requires
-    over-thin-requires
+    by-class-requires
+    over-class-requires
     same-length
     returns
-    enum-told
-    over-run-requires
+    thin-lane-requires
+    over-thin-requires
     same-length-2
-    returns-2)
+    returns-2
+    over-run-requires
+    same-length-3
+    returns-3)

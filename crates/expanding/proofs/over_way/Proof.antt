@@ -31,7 +31,7 @@ over-run-requires c κs =
     let laid = a .pre .1 .0 .0 in
     let f = a .pre .1 .1 .1 .1 in
     let (some, near) = a .pre .1 .1 .1 .0 in
-    (a .pre .0, ((laid, r .1 .key-low), ((f .basic .boats (r .0), boats-fit laid (f .basic)), (r .1 .narrow, r .1 .gives, some, near))))
+    (a .pre .0, ((laid, r .2 .key-low), ((f .basic .boats (r .0), boats-fit laid (f .basic)), (r .2 .narrow, r .2 .gives, λ _. r .1, some, near))))
 
 enum-known-k-2 : tie.Need-enum-known-k-2
 enum-known-k-2 c = search needs
@@ -58,7 +58,7 @@ same-length c = search needs
 returns : tie.Need-returns
 returns c =
     let r = subst (Right _ _ _ _ _ _) (c .before .before .before .before .before .k .given .1) (right (c .before .before .before .before .before .before .before)) in
-    step-as _ (c .before .before .over-run .ensures) (run-lines (r .1) _ _)
+    step-as _ (c .before .before .over-run .ensures) (run-lines (r .2) _ _)
 
 same-length-2 : tie.Need-same-length-2
 same-length-2 c = search needs

@@ -3,8 +3,8 @@ use mathlib.Core.Path.{_≡_, sym, ap, _∙_}
 use Prim.Native.Nat.{ℕ, _/_, _%_}
 use lib.Dec.{eqb}
 use Rattle.search.specs.Loaded.{boatAt}
-use Rattle.states.specs.Spots.{front, readBut, sisterOf, foreignTo}
-use Rattle.states.proofs.Comparing.{okay-any, okay-never, okay-unkept, okay-same-read, okay-other-read, okay-sister-read, okay-foreign-read}
+use Rattle.states.specs.Spots.{front, readBut}
+use Rattle.states.proofs.Comparing.{okay-any, okay-never, okay-unkept, okay-same-read, okay-other-read}
 use borrow.Author.Needs.{needs}
 use Rattle.states.proofs.taken_by.Statement.{statement}
 use Rattle.states.proofs.taken_by.Tie as tie
@@ -56,26 +56,8 @@ returns-5 c =
     let e = k .before .before .kept-at .ensures in
     (e .1, λ x. okay-other-read _ _ _ x _ (c .enum-told4 .given .1) (λ z. k .if1 .left (word-is (k .before) ∙ z)) ∙ ap (λ y. readBut (table (k .before)) y x) (sym (e .0)))
 
-enum-told-5 : tie.Need-enum-told-5
-enum-told-5 c = search needs
-
 returns-6 : tie.Need-returns-6
-returns-6 c =
-    let k = c .before .before .before .before in
-    let e = k .before .before .kept-at .ensures in
-    (e .1, λ x. okay-sister-read _ _ _ x _ (c .enum-told5 .given .1) (λ z. k .if1 .left (word-is (k .before) ∙ z)) ∙ ap (λ y. sisterOf (table (k .before)) y x) (sym (e .0)))
-
-enum-told-6 : tie.Need-enum-told-6
-enum-told-6 c = search needs
-
-returns-7 : tie.Need-returns-7
-returns-7 c =
-    let k = c .before .before .before .before .before in
-    let e = k .before .before .kept-at .ensures in
-    (e .1, λ x. okay-foreign-read _ _ _ x _ (c .enum-told6 .given .1) (λ z. k .if1 .left (word-is (k .before) ∙ z)) ∙ ap (λ y. foreignTo (table (k .before)) y x) (sym (e .0)))
-
-returns-8 : tie.Need-returns-8
-returns-8 c = tt
+returns-6 c = tt
 
 pub taken-by-spec : {M : Type 1} → statement M
 taken-by-spec =
@@ -92,8 +74,4 @@ taken-by-spec =
     returns-4
     enum-told-4
     returns-5
-    enum-told-5
-    returns-6
-    enum-told-6
-    returns-7
-    returns-8)
+    returns-6)

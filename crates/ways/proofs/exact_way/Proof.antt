@@ -5,7 +5,7 @@ use Prim.Native.Nat.{ℕ}
 use native.Mathlib.Omega.{arith}
 use Rattle.states.specs.Spots.{front, TakenBy}
 use Rattle.ways.proofs.Right.{stack-fits, nowhere}
-use Rattle.ways.proofs.Chosen.{any-single, only-single, but-single, sister-single, foreign-single}
+use Rattle.ways.proofs.Chosen.{any-single, only-single, but-single}
 use borrow.Author.Needs.{needs}
 use Rattle.ways.proofs.exact_way.Statement.{statement}
 use Rattle.ways.proofs.exact_way.Tie as tie
@@ -43,29 +43,14 @@ kind-way-requires-2 c κs =
     let takes = subst (TakenBy _ _ _ _) (c .before .x2 .given .1) (c .before .before .before .taken-by .ensures) in
     (a .pre .0, omega arith, omega (arith, takes .0, a .pre .0 .laid .few-boats))
 
-enum-known-x-3 : tie.Need-enum-known-x-3
-enum-known-x-3 c = search needs
-
-kind-way-requires-3 : tie.Need-kind-way-requires-3
-kind-way-requires-3 c κs =
-    let a = c .before .before .before .before .before .before in
-    let takes = subst (TakenBy _ _ _ _) (c .before .x3 .given .1) (c .before .before .before .taken-by .ensures) in
-    (a .pre .0, omega arith, omega (arith, takes .0, a .pre .0 .laid .few-boats))
-
-enum-known-x-4 : tie.Need-enum-known-x-4
-enum-known-x-4 c = search needs
-
-kind-way-requires-4 : tie.Need-kind-way-requires-4
-kind-way-requires-4 c κs =
-    let a = c .before .before .before .before .before .before in
-    let takes = subst (TakenBy _ _ _ _) (c .before .x4 .given .1) (c .before .before .before .taken-by .ensures) in
-    (a .pre .0, omega arith, omega (arith, takes .0, a .pre .0 .laid .few-boats))
-
 enum-told-2 : tie.Need-enum-told-2
 enum-told-2 c = search needs
 
 enum-told-3 : tie.Need-enum-told-3
 enum-told-3 c = search needs
+
+class-way-requires : tie.Need-class-way-requires
+class-way-requires c κs = let a = c .before .before .before .before .before in ((a .pre .0, c .before .before .before .if1 .left), a .pre .1)
 
 -- the loaded words
 abbrev words : tie.Start → List ℕ
@@ -91,24 +76,12 @@ returns-4 c =
 
 returns-5 : tie.Need-returns-5
 returns-5 c =
-    let a = c .before .before .before .before .before .before .before in
-    let takes = subst (TakenBy _ _ _ _) (c .before .before .x3 .given .1) (c .before .before .before .before .taken-by .ensures) in
-    c .kind-way3 .ensures (words a) 1 (a .pre .1 .1) (sister-single _ _ _ _ _ _ (a .pre .0) (c .before .before .before .before .before .if1 .left) _ (takes .1))
-
-returns-6 : tie.Need-returns-6
-returns-6 c =
-    let a = c .before .before .before .before .before .before .before in
-    let takes = subst (TakenBy _ _ _ _) (c .before .before .x4 .given .1) (c .before .before .before .before .taken-by .ensures) in
-    c .kind-way4 .ensures (words a) 1 (a .pre .1 .1) (foreign-single _ _ _ _ _ _ (a .pre .0) (c .before .before .before .before .before .if1 .left) _ (takes .1))
-
-returns-7 : tie.Need-returns-7
-returns-7 c =
     let a = c .before .before .before .before .before in
     let none = subst (TakenBy _ _ _ _) (c .enum-told2 .given .1) (c .before .before .taken-by .ensures) in
     nowhere _ _ _ _ _ (a .pre .0) (words a) (c .before .before .before .if1 .left) none
 
-returns-8 : tie.Need-returns-8
-returns-8 c = tt
+returns-6 : tie.Need-returns-6
+returns-6 c = search needs
 
 pub exact-way-spec : {M : Type 1} → statement M
 exact-way-spec =
@@ -123,16 +96,11 @@ exact-way-spec =
     boat-way-requires
     enum-known-x-2
     kind-way-requires-2
-    enum-known-x-3
-    kind-way-requires-3
-    enum-known-x-4
-    kind-way-requires-4
     enum-told-2
     enum-told-3
+    class-way-requires
     returns-2
     returns-3
     returns-4
     returns-5
-    returns-6
-    returns-7
-    returns-8)
+    returns-6)

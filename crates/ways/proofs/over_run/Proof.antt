@@ -24,13 +24,13 @@ over-words-requires c κs =
     let a = c .before .before .before .before in
     let (laid, low) = a .pre .1 .0 in
     let (s, room) = a .pre .1 .1 .0 in
-    let (narrow, gives, some, near) = a .pre .1 .1 .1 in
+    let (narrow, gives, simple, some, near) = a .pre .1 .1 .1 in
     let (lo, hi, rising, inside) = c .before .run-of .ensures in
     let run = s (a .args .k) low in
     let begins = subst (λ x. a .args .plan .base + a .args .plan .size + a .args .plan .size ≤ x) (sym lo) (omega (arith, table-behind laid (a .args .order), run .low)) in (
       a .pre .0,
       (
-        (laid, narrow),
+        (laid, narrow, simple),
         (
           (some, near, begins, rising, inside),
           λ p from less.

@@ -30,12 +30,12 @@ over-words-requires c κs =
     let of = x .plan .bykind in
     let at = thinAt (x .sieve) (x .plan) in
     let (laid, filed, made, low) = a .pre .1 .0 in
-    let (narrow, gives, enough, some, near) = a .pre .1 .1 in
+    let (narrow, gives, enough, simple, some, near) = a .pre .1 .1 in
     let (lo, hi, rising, inside) = c .before .thin-of .ensures in
     let run = filed .basic .kinds (x .k) low in
     let t = made .thin (x .k) low in
     let begins = subst (λ n. x .plan .base + x .plan .size + x .plan .size ≤ n) (sym lo) (omega (arith, thin-behind laid, at-past (x .plan) (stamps-are laid) (x .sieve), t .low)) in
-    (a .pre .0, ((laid, narrow), ((some, near, begins, rising, inside), λ p from less. run-gives (x .plan) of w (x .k) run (x .lane) gives (getD w p 0) (thin-word (x .sieve) (boatsIn (x .plan) w) (x .plan) of at w (x .k) run t (made .room) p (omega (arith, lo, from)) (omega (arith, hi, less))))))
+    (a .pre .0, ((laid, narrow, simple), ((some, near, begins, rising, inside), λ p from less. run-gives (x .plan) of w (x .k) run (x .lane) gives (getD w p 0) (thin-word (x .sieve) (boatsIn (x .plan) w) (x .plan) of at w (x .k) run t (made .room) p (omega (arith, lo, from)) (omega (arith, hi, less))))))
 
 same-length : tie.Need-same-length
 same-length c = search needs
@@ -48,7 +48,7 @@ returns c =
     let of = x .plan .bykind in
     let at = thinAt (x .sieve) (x .plan) in
     let (laid, filed, made, low) = a .pre .1 .0 in
-    let (narrow, gives, enough, some, near) = a .pre .1 .1 in
+    let (narrow, gives, enough, simple, some, near) = a .pre .1 .1 in
     let (lo, hi, rising, inside) = c .before .before .before .before .thin-of .ensures in
     let run = filed .basic .kinds (x .k) low in
     let st = found (x .plan .base) (x .plan .size) (x .tail) w in

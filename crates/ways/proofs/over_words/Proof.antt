@@ -17,10 +17,10 @@ use Rattle.ways.proofs.over_words.Statement.{statement}
 use Rattle.ways.proofs.over_words.Tie as tie
 
 abbrev Inv-loop : tie.InvT-loop
-Inv-loop work₀ plan lane d lo hi tail t₀ p₀ work t p = let turn : ℕ → Search → Search = λ q. laneTurn (boatsIn plan work₀) d lane (getD work₀ q 0) in (lo ≤ p) × (p ≤ hi) × Under (plan .base) (plan .size) (turns turn lo (hi - lo)) tail work₀ (turns turn p (hi - p)) t work
+Inv-loop work₀ plan classes lane d lo hi tail t₀ p₀ work t p = let turn : ℕ → Search → Search = λ q. laneTurn (boatsIn plan work₀) d lane (getD work₀ q 0) in (lo ≤ p) × (p ≤ hi) × Under (plan .base) (plan .size) (turns turn lo (hi - lo)) tail work₀ (turns turn p (hi - p)) t work
 
 abbrev μ-loop : tie.MeasureT-loop
-μ-loop work₀ plan lane d lo hi tail t₀ p₀ work t p = hi - p
+μ-loop work₀ plan classes lane d lo hi tail t₀ p₀ work t p = hi - p
 
 loop-holds : tie.Need-loop-holds Inv-loop μ-loop
 loop-holds c = (omega arith, c .before .pre .1 .1 .0 .3, under-start _ (c .before .pre .0))
@@ -33,7 +33,7 @@ one-word-requires c κs =
     let (some, near, behind, ordered, inside) = a .pre .1 .1 .0 in
     let same = under-word u p (omega (arith, u .ready .fits, behind, from)) in
     let low = subst (λ e. laneState (a .args .lane) e < a .args .plan .size) (sym same) (a .pre .1 .1 .1 p from (omega arith)) in
-    (u .ready, ((subst (Laid (a .args .plan)) (sym (u .long)) (a .pre .1 .0 .0), a .pre .1 .0 .1), (some, omega (arith, near, u .grows), omega (arith, u .long, inside), low)))
+    (u .ready, ((subst (Laid (a .args .plan)) (sym (u .long)) (a .pre .1 .0 .0), a .pre .1 .0 .1, a .pre .1 .0 .2), (some, omega (arith, near, u .grows), omega (arith, u .long, inside), low)))
 
 add-p : tie.Need-add-p Inv-loop μ-loop
 add-p c = search needs

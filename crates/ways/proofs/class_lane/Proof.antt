@@ -1,13 +1,12 @@
--- `ways::lane_sifting` meets its contract: without weight, by which words are taken. Assumes nothing.
+-- `ways::class_lane` meets its contract: without weight, by which words are taken. Assumes nothing.
 use mathlib.Core.Path.{_≡_, ap}
 use native.Mathlib.Omega.{arith}
-use Rattle.states.specs.Served.{everybody}
-use Rattle.states.proofs.Comparing.{read-served, foreign-served, sister-served}
+use Rattle.states.proofs.Comparing.{foreign-served, sister-served}
 use Rattle.ways.specs.Ways.{takenBy}
 use Rattle.ways.specs.declared.Taking.{Taking}
 use borrow.Author.Needs.{needs}
-use Rattle.ways.proofs.lane_sifting.Statement.{statement}
-use Rattle.ways.proofs.lane_sifting.Tie as tie
+use Rattle.ways.proofs.class_lane.Statement.{statement}
+use Rattle.ways.proofs.class_lane.Tie as tie
 
 returns : tie.Need-returns
 returns c = search needs
@@ -32,17 +31,13 @@ flat : (c : tie.Else1) → c .before .before .args .lane .weight ≡ 0
 flat c = omega (arith, c .if1 .left)
 
 returns-2 : tie.Need-returns-2
-returns-2 c = λ B.
-    let lane = c .before .before .before .before .args .lane in
-    record { flat = flat (c .before .before); served = everybody (λ y. ap (λ (t : Taking). takenBy B t y (lane .number)) (c .enum-told .given .1)) }
+returns-2 c = search needs
 
 returns-3 : tie.Need-returns-3
 returns-3 c = search needs
 
 returns-4 : tie.Need-returns-4
-returns-4 c = λ B.
-    let lane = c .before .before .before .before .args .lane in
-    record { flat = flat (c .before .before); served = read-served B (lane .number) _ (λ y. ap (λ (t : Taking). takenBy B t y (lane .number)) (c .enum-told3 .given .1)) }
+returns-4 c = search needs
 
 returns-5 : tie.Need-returns-5
 returns-5 c = λ B.
@@ -54,8 +49,8 @@ returns-6 c = λ B.
     let lane = c .before .before .before .before .args .lane in
     record { flat = flat (c .before .before); served = foreign-served B (lane .number) _ (λ y. ap (λ (t : Taking). takenBy B t y (lane .number)) (c .enum-told5 .given .1)) }
 
-pub lane-sifting-spec : {M : Type 1} → statement M
-lane-sifting-spec =
+pub class-lane-spec : {M : Type 1} → statement M
+class-lane-spec =
     tie.close
     (tie.spec
     returns
