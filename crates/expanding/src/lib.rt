@@ -13,7 +13,7 @@ ghost use Rattle.search.specs.Loaded.{settingAt};
 ghost use Rattle.search.specs.Moves.{expand};
 ghost use Rattle.sorted.specs.Sorting.{keys, packBy};
 ghost use Rattle.sorted.specs.declared.Order.the-variants as Orders;
-ghost use Rattle.ways.specs.Ways.{runLines, Narrow, Told, Gives, Before};
+ghost use Rattle.ways.specs.Ways.{runLines, Narrow, Plain, ThinLane, Told, Gives, Before};
 ghost use Rattle.ways.specs.Filed.{Filed};
 ghost use Rattle.ways.specs.Stacked.{Words};
 ghost use Rattle.expanding.specs.Backing.{Backing};
@@ -24,7 +24,6 @@ use request::Plan;
 use sorted::Order;
 use sorted::PACK;
 use states::Sieve;
-use states::Sifting;
 use states::Spot;
 use states::Target;
 use ways::Lane;
@@ -384,18 +383,25 @@ fn by_sorted(
     over_stacked(work, plan, undo, c, run.lo, run.hi, tail)
 }
 
-// The lines of the kind that the key `k` says, for a lane that asks for classes: by the thin ones where they are enough and there.
-fn over_class(work: &mut [u32], plan: Plan, k: usize, lane: Lane, d: u32, tail: usize) -> usize
+// The lines of the kind that the key `k` says, for a lane that asks for classes: by the thin ones of its sieve where they are there. It is
+// called in two places, so that it is compiled apart from the steps that nearly every search takes.
+fn over_class(
+    work: &mut [u32],
+    plan: Plan,
+    sieve: Sieve,
+    k: usize,
+    lane: Lane,
+    d: u32,
+    tail: usize,
+) -> usize
     requires { ⌜ ReadyBack plan tail (now work) ⌝ }
     requires { ⌜ Laid plan (length (now work)) × Filed plan (now work) × (k < keys Orders.Kind plan) ⌝ }
-    requires { ⌜ Narrow lane × Gives Orders.Kind plan (front plan (now work)) k lane ⌝ }
+    requires { ⌜ Narrow lane × Gives Orders.Kind plan (front plan (now work)) k lane × ThinLane sieve (boatsIn plan (now work)) lane ⌝ }
     requires { ⌜ (0 < d) × (d ≤ suc tail) ⌝ }
     ensures { λ r. ⌜ StepBack plan (runLines Orders.Kind plan (now (work .entry)) k d lane) tail (now (work .entry)) r (now (work .exit)) ⌝ }
 {
-    if let Sifting::Thin(sieve) = ways::class_lane(lane) {
-        if ways::has_thin(work, plan, sieve) {
-            return ways::over_thin(work, plan, sieve, true, k, lane, d, tail);
-        }
+    if ways::has_thin(work, plan, sieve) {
+        return ways::over_thin(work, plan, sieve, true, k, lane, d, tail);
     }
     ways::over_run(work, plan, Order::Kind, true, k, lane, d, tail)
 }
@@ -404,13 +410,10 @@ fn over_class(work: &mut [u32], plan: Plan, k: usize, lane: Lane, d: u32, tail: 
 fn over_kind(work: &mut [u32], plan: Plan, k: usize, lane: Lane, d: u32, tail: usize) -> usize
     requires { ⌜ ReadyBack plan tail (now work) ⌝ }
     requires { ⌜ Laid plan (length (now work)) × Filed plan (now work) × (k < keys Orders.Kind plan) ⌝ }
-    requires { ⌜ Narrow lane × Gives Orders.Kind plan (front plan (now work)) k lane ⌝ }
+    requires { ⌜ Narrow lane × Gives Orders.Kind plan (front plan (now work)) k lane × Plain lane ⌝ }
     requires { ⌜ (0 < d) × (d ≤ suc tail) ⌝ }
     ensures { λ r. ⌜ StepBack plan (runLines Orders.Kind plan (now (work .entry)) k d lane) tail (now (work .entry)) r (now (work .exit)) ⌝ }
 {
-    if ways::by_class(lane) {
-        return over_class(work, plan, k, lane, d, tail);
-    }
     if ways::thin_lane(lane) {
         return ways::over_thin(work, plan, Sieve::Boats, false, k, lane, d, tail);
     }
@@ -438,6 +441,8 @@ fn over_way(
     match ways::way_of(work, plan, spot, target, leaves, c) {
         Way::ByBoat(k, lane) => ways::over_run(work, plan, Order::Boat, false, k, lane, d, tail),
         Way::ByKind(k, lane) => over_kind(work, plan, k, lane, d, tail),
+        Way::BySister(k, lane) => over_class(work, plan, Sieve::Sisters, k, lane, d, tail),
+        Way::ByForeign(k, lane) => over_class(work, plan, Sieve::Classes, k, lane, d, tail),
         Way::ByStack => by_sorted(work, plan, spot, target, d, c, leaves, tail),
         Way::Nowhere => tail,
     }

@@ -15,7 +15,7 @@ use Rattle.states.specs.declared.Spot.{Spot}
 use Rattle.states.specs.declared.Target.{Target}
 use Rattle.states.proofs.Bounds.{power-fits, power-small}
 use Rattle.sorted.specs.Sorting.{packBy}
-use Rattle.ways.specs.Ways.{takenBy, Plain, Single, Before}
+use Rattle.ways.specs.Ways.{takenBy, NoClass, Plain, Single, Before}
 use Rattle.ways.specs.declared.Lane.{Lane}
 use Rattle.ways.specs.declared.Taking.{Taking}
 use Rattle.ways.specs.declared.Taking.the-variants as Taking
@@ -33,11 +33,11 @@ taking-tag Taking.ReadBut = 2
 taking-tag Taking.Sister = 3
 taking-tag Taking.Foreign = 4
 
-pub plain-tag : (lane : Lane) → taking-tag (lane .taking) ≤ 2 → Plain lane
-plain-tag lane low = record { no-sister = λ e. omega (arith, low, ap taking-tag e); no-foreign = λ e. omega (arith, low, ap taking-tag e) }
+pub no-class : (taking : Taking) → taking-tag taking ≤ 2 → NoClass taking
+no-class taking low = record { no-sister = λ e. omega (arith, low, ap taking-tag e); no-foreign = λ e. omega (arith, low, ap taking-tag e) }
 
-pub only-plain : {lane : Lane} → lane .taking ≡ Taking.Only → Plain lane
-only-plain {lane} e = plain-tag lane (omega (arith, ap taking-tag e))
+pub only-plain : (lane : Lane) → lane .taking ≡ Taking.Only → Plain lane
+only-plain lane e = no-class (lane .taking) (omega (arith, ap taking-tag e))
 
 -- a state's own stack is no deeper than the keeps
 pub shallow : {plan : Plan} {s : Spot} {t : Target} {c leaves : ℕ} → Before plan s t c leaves → Before plan s t c (t .depth)
@@ -89,10 +89,10 @@ module _ (B : ℕ → ℕ) (plan : Plan) (s : Spot) (t : Target) (c leaves : ℕ
   pub but-single : s .push ≡ false → (y : ℕ) → ((x : ℕ) → okay B R s x (t .stack) ≡ readBut B y x) → Single B plan s t 1 (λ x. takenBy B Taking.ReadBut x y) (λ x. t .stack + x * 0)
   but-single e y is = flat (plain e (λ x. readBut B y x) (λ x low. is x))
 
-  pub sister-single : s .push ≡ false → (y : ℕ) → ((x : ℕ) → okay B R s x (t .stack) ≡ sisterOf B y x) → Single B plan s t 1 (λ x. takenBy B Taking.Sister x y) (λ x. t .stack + x * 0)
+  pub sister-single : s .push ≡ false → (y : ℕ) → ((x : ℕ) → okay B R s x (t .stack) ≡ sisterOf B y x) → Single B plan s t 1 (λ x. sisterOf B y x) (λ x. t .stack + x * 0)
   sister-single e y is = flat (plain e (λ x. sisterOf B y x) (λ x low. is x))
 
-  pub foreign-single : s .push ≡ false → (y : ℕ) → ((x : ℕ) → okay B R s x (t .stack) ≡ foreignTo B y x) → Single B plan s t 1 (λ x. takenBy B Taking.Foreign x y) (λ x. t .stack + x * 0)
+  pub foreign-single : s .push ≡ false → (y : ℕ) → ((x : ℕ) → okay B R s x (t .stack) ≡ foreignTo B y x) → Single B plan s t 1 (λ x. foreignTo B y x) (λ x. t .stack + x * 0)
   foreign-single e y is = flat (plain e (λ x. foreignTo B y x) (λ x low. is x))
 
   pub push-single : s .push ≡ true → ((x : ℕ) → okay B R s x (t .stack % s .weight) ≡ true) → Single B plan s t 1 (λ x. eqb x (t .stack / s .weight)) (λ x. t .stack % s .weight)

@@ -17,8 +17,7 @@ use Rattle.sorted.specs.declared.Order.{Order}
 use Rattle.sorted.specs.declared.Order.the-variants as Order
 use Rattle.states.specs.Served.{ServedBy}
 use Rattle.states.specs.declared.Sieve.{Sieve}
-use Rattle.states.specs.declared.Sifting.{Sifting}
-use Rattle.states.specs.declared.Sifting.the-variants as Sifting
+use Rattle.states.specs.declared.Sieve.the-variants as Sieve
 use Rattle.states.specs.Spots.{front, boatsIn, readBut, sisterOf, foreignTo, stackTurn, lineTurn, Aimed, Sane}
 use Rattle.states.specs.declared.Spot.{Spot}
 use Rattle.states.specs.declared.Target.{Target}
@@ -62,19 +61,18 @@ pub record Narrow (lane : Lane) : Type 0 where
   pub number-low : lane .number ≤ largest
 
 -- it does not ask for classes
-pub record Plain (lane : Lane) : Type 0 where
-  pub no-sister : lane .taking ≡ Taking.Sister → ⊥
-  pub no-foreign : lane .taking ≡ Taking.Foreign → ⊥
+pub record NoClass (taking : Taking) : Type 0 where
+  pub no-sister : taking ≡ Taking.Sister → ⊥
+  pub no-foreign : taking ≡ Taking.Foreign → ⊥
+
+abbrev pub Plain : Lane → Type 0
+Plain lane = NoClass (lane .taking)
 
 -- the thin words of a sieve do for it: only the place that a word says and whether its number is taken matter, and the numbers taken are a set
 -- that is served
 pub record ThinLane (sieve : Sieve) (B : ℕ → ℕ) (lane : Lane) : Type 0 where
   pub flat : lane .weight ≡ 0
   pub served : ServedBy sieve B (λ y. takenBy B (lane .taking) y (lane .number))
-
-abbrev pub LaneSifted : Lane → Sifting → Type 0
-LaneSifted lane (Sifting.Thin sieve) = (B : ℕ → ℕ) → ThinLane sieve B lane
-LaneSifted lane Sifting.Whole = Unit {0}
 
 -- each of the words from lo up to hi gives one of so many states
 abbrev pub Within : Lane → ℕ → ℕ → ℕ → List ℕ → Type 0
@@ -112,7 +110,9 @@ pub record Runs (o : Order) (plan : Plan) (g : List ℕ) (s : Spot) (t : Target)
 -- a way is right for so many stacks
 abbrev pub Right : Plan → List ℕ → Spot → Target → ℕ → ℕ → Way → Type 0
 Right plan g s t c count (Way.ByBoat k lane) = (0 < plan .keeps) × Plain lane × Runs Order.Boat plan g s t c count k lane
-Right plan g s t c count (Way.ByKind k lane) = Runs Order.Kind plan g s t c count k lane
+Right plan g s t c count (Way.ByKind k lane) = Plain lane × Runs Order.Kind plan g s t c count k lane
+Right plan g s t c count (Way.BySister k lane) = ((B : ℕ → ℕ) → ThinLane Sieve.Sisters B lane) × Runs Order.Kind plan g s t c count k lane
+Right plan g s t c count (Way.ByForeign k lane) = ((B : ℕ → ℕ) → ThinLane Sieve.Classes B lane) × Runs Order.Kind plan g s t c count k lane
 Right plan g s t c count Way.ByStack = Unit {0}
 Right plan g s t c count Way.Nowhere = (d i : ℕ) → i < plan .lines → (st : Search) → lineTurn plan g s t d c count i st ≡ st
 

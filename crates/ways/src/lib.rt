@@ -5,7 +5,7 @@ ghost use lib.ListN.{length, getD};
 ghost use Rattle.request.specs.Layout.{largest, Laid, filedEnd};
 ghost use Rattle.graph.specs.Loops.{turns};
 ghost use Rattle.states.specs.Pairs.{ReadyBack, StepBack};
-ghost use Rattle.ways.specs.Ways.{laneState, takenBy, laneTurn, LaneTo, Narrow, Plain, ThinLane, LaneSifted, Within, runLines, Told, Gives, Right, RightFor, Before};
+ghost use Rattle.ways.specs.Ways.{laneState, takenBy, laneTurn, LaneTo, Narrow, Plain, NoClass, ThinLane, Within, runLines, Told, Gives, Right, RightFor, Before};
 ghost use mathlib.Core.Bool.{true, false};
 ghost use mathlib.Core.List.{List};
 ghost use lib.Dec.{eqb};
@@ -186,11 +186,13 @@ pub fn over_words(
 
 // ---- the way
 
-// The way from a state back to a position: by the lines of one boat into its place, by those of one kind, with each stack, one by one, or
-// by no line.
+// The way from a state back to a position: by the lines of one boat into its place, by those of one kind, by these where the boats of one class
+// but one are asked for, or those of other classes, with each stack, one by one, or by no line.
 pub enum Way {
     ByBoat(usize, Lane),
     ByKind(usize, Lane),
+    BySister(usize, Lane),
+    ByForeign(usize, Lane),
     ByStack,
     Nowhere,
 }
@@ -231,7 +233,7 @@ fn kind_way(
     number: usize,
     taking: Taking,
 ) -> Way
-    requires { ⌜ Before plan spot target c (target .depth) × (weight ≤ largest) × (number ≤ largest) ⌝ }
+    requires { ⌜ Before plan spot target c (target .depth) × (weight ≤ largest) × (number ≤ largest) × NoClass taking ⌝ }
     ensures { λ r. ⌜ RightFor plan spot target c (λ B x. takenBy B taking x number) (λ x. target .stack + x * weight) r ⌝ }
 {
     let lane = lane_at(plan, c, target.stack, weight, number, taking);
@@ -254,6 +256,24 @@ fn pushing_way(plan: Plan, spot: Spot, target: Target, c: usize) -> Way
     Way::ByStack
 }
 
+// Those of another boat of the class of the boat `number`.
+fn sister_way(plan: Plan, spot: Spot, target: Target, c: usize, number: usize) -> Way
+    requires { ⌜ Before plan spot target c (target .depth) × (number ≤ largest) ⌝ }
+    ensures { λ r. ⌜ RightFor plan spot target c (λ B x. sisterOf B number x) (λ x. target .stack + x * 0) r ⌝ }
+{
+    let lane = lane_at(plan, c, target.stack, 0, number, Taking::Sister);
+    Way::BySister(target.place * 16 + spot.kind, lane)
+}
+
+// Those of a boat of another class.
+fn foreign_way(plan: Plan, spot: Spot, target: Target, c: usize, number: usize) -> Way
+    requires { ⌜ Before plan spot target c (target .depth) × (number ≤ largest) ⌝ }
+    ensures { λ r. ⌜ RightFor plan spot target c (λ B x. foreignTo B number x) (λ x. target .stack + x * 0) r ⌝ }
+{
+    let lane = lane_at(plan, c, target.stack, 0, number, Taking::Foreign);
+    Way::ByForeign(target.place * 16 + spot.kind, lane)
+}
+
 // The stack after the position is the state's, and it does not push: the lines of the kept boat's class, or of others.
 fn class_way(work: &[u32], plan: Plan, spot: Spot, target: Target, c: usize) -> Way
     requires { ⌜ Before plan spot target c (target .depth) × (spot .push ≡ false) ⌝ }
@@ -261,8 +281,8 @@ fn class_way(work: &[u32], plan: Plan, spot: Spot, target: Target, c: usize) -> 
     ensures { λ r. ⌜ Right plan (front plan (now (work .entry))) spot target c 1 r ⌝ }
 {
     match states::kin_taken(work, plan, spot, target) {
-        Kin::Sister(x) => kind_way(plan, spot, target, c, 0, x, Taking::Sister),
-        Kin::Foreign(x) => kind_way(plan, spot, target, c, 0, x, Taking::Foreign),
+        Kin::Sister(x) => sister_way(plan, spot, target, c, x),
+        Kin::Foreign(x) => foreign_way(plan, spot, target, c, x),
         Kin::Neither => Way::ByStack,
     }
 }
@@ -353,20 +373,6 @@ pub fn over_run(
     over_words(work, plan, classes, lane, d, run.lo, run.hi, tail)
 }
 
-// Does the lane ask for classes?
-pub fn by_class(lane: Lane) -> bool
-    ensures { λ r. ⌜ (r ≡ false → Plain lane) ⌝ }
-{
-    let taking = lane.taking;
-    match taking {
-        Taking::All => false,
-        Taking::Only => false,
-        Taking::ReadBut => false,
-        Taking::Sister => true,
-        Taking::Foreign => true,
-    }
-}
-
 // Are the thin lines of boats enough for the lane? Their numbers must have no weight, and those that it takes be a set that is served.
 pub fn thin_lane(lane: Lane) -> bool
     ensures { λ r. ⌜ (r ≡ true → (B : ℕ → ℕ) → ThinLane Sieves.Boats B lane) ⌝ }
@@ -378,23 +384,6 @@ pub fn thin_lane(lane: Lane) -> bool
         Taking::ReadBut => lane.weight == 0,
         Taking::Sister => false,
         Taking::Foreign => false,
-    }
-}
-
-// Which lines are enough for a lane that asks for classes?
-pub fn class_lane(lane: Lane) -> Sifting
-    ensures { λ r. ⌜ LaneSifted lane r ⌝ }
-{
-    if lane.weight != 0 {
-        return Sifting::Whole;
-    }
-    let taking = lane.taking;
-    match taking {
-        Taking::All => Sifting::Whole,
-        Taking::Only => Sifting::Whole,
-        Taking::ReadBut => Sifting::Whole,
-        Taking::Sister => Sifting::Thin(Sieve::Sisters),
-        Taking::Foreign => Sifting::Thin(Sieve::Classes),
     }
 }
 

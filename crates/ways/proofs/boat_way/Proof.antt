@@ -33,7 +33,7 @@ add-t11 c =
 returns-2 : tie.Need-returns-2
 returns-2 c =
     let a = c .before .before .before .before .before in
-    λ g count told single. (omega (arith, c .before .before .before .if1 .left), only-plain (c .before .before .lane-at .ensures .taking-is), boat-runs _ _ _ _ _ (a .pre .0) g told count _ _ (a .args .u) (a .args .boat) (c .before .before .lane-at .ensures) refl (a .pre .2) (a .pre .1) single)
+    λ g count told single. (omega (arith, c .before .before .before .if1 .left), only-plain (c .before .before .lane-at .result) (c .before .before .lane-at .ensures .taking-is), boat-runs _ _ _ _ _ (a .pre .0) g told count _ _ (a .args .u) (a .args .boat) (c .before .before .lane-at .ensures) refl (a .pre .2) (a .pre .1) single)
 
 pub boat-way-spec : {M : Type 1} → statement M
 boat-way-spec = tie.close (tie.spec returns lane-at-requires mul-t10 add-t11 returns-2)

@@ -13,20 +13,20 @@ kin-taken-requires c κs = let a = c .before in (a .pre .1 .0, a .pre .0 .0 .san
 enum-known-x : tie.Need-enum-known-x
 enum-known-x c = search needs
 
-kind-way-requires : tie.Need-kind-way-requires
-kind-way-requires c κs =
+sister-way-requires : tie.Need-sister-way-requires
+sister-way-requires c κs =
     let a = c .before .before .before .before .before in
     let takes = subst (KinTaken _ _ _ _) (c .before .x .given .1) (c .before .before .before .kin-taken .ensures) in
-    (a .pre .0 .0, omega arith, omega (arith, takes .0, a .pre .0 .0 .laid .few-boats))
+    (a .pre .0 .0, omega (arith, takes .0, a .pre .0 .0 .laid .few-boats))
 
 enum-known-x-2 : tie.Need-enum-known-x-2
 enum-known-x-2 c = search needs
 
-kind-way-requires-2 : tie.Need-kind-way-requires-2
-kind-way-requires-2 c κs =
+foreign-way-requires : tie.Need-foreign-way-requires
+foreign-way-requires c κs =
     let a = c .before .before .before .before .before in
     let takes = subst (KinTaken _ _ _ _) (c .before .x2 .given .1) (c .before .before .before .kin-taken .ensures) in
-    (a .pre .0 .0, omega arith, omega (arith, takes .0, a .pre .0 .0 .laid .few-boats))
+    (a .pre .0 .0, omega (arith, takes .0, a .pre .0 .0 .laid .few-boats))
 
 enum-told : tie.Need-enum-told
 enum-told c = search needs
@@ -35,13 +35,13 @@ returns : tie.Need-returns
 returns c =
     let a = c .before .before .before .before .before .before in
     let takes = subst (KinTaken _ _ _ _) (c .before .before .x .given .1) (c .before .before .before .before .kin-taken .ensures) in
-    c .kind-way .ensures (front (a .args .plan) (a .args .work .now)) 1 (a .pre .1 .1) (sister-single _ _ _ _ _ _ (a .pre .0 .0) (a .pre .0 .1) _ (takes .1))
+    c .sister-way .ensures (front (a .args .plan) (a .args .work .now)) 1 (a .pre .1 .1) (sister-single _ _ _ _ _ _ (a .pre .0 .0) (a .pre .0 .1) _ (takes .1))
 
 returns-2 : tie.Need-returns-2
 returns-2 c =
     let a = c .before .before .before .before .before .before in
     let takes = subst (KinTaken _ _ _ _) (c .before .before .x2 .given .1) (c .before .before .before .before .kin-taken .ensures) in
-    c .kind-way2 .ensures (front (a .args .plan) (a .args .work .now)) 1 (a .pre .1 .1) (foreign-single _ _ _ _ _ _ (a .pre .0 .0) (a .pre .0 .1) _ (takes .1))
+    c .foreign-way .ensures (front (a .args .plan) (a .args .work .now)) 1 (a .pre .1 .1) (foreign-single _ _ _ _ _ _ (a .pre .0 .0) (a .pre .0 .1) _ (takes .1))
 
 returns-3 : tie.Need-returns-3
 returns-3 c = search needs
@@ -52,9 +52,9 @@ class-way-spec =
     (tie.spec
     kin-taken-requires
     enum-known-x
-    kind-way-requires
+    sister-way-requires
     enum-known-x-2
-    kind-way-requires-2
+    foreign-way-requires
     enum-told
     returns
     returns-2

@@ -1,7 +1,7 @@
 -- `ways::dropping_way` meets its contract: the boat that is forgotten is the line's, where every boat passes. Assumes nothing.
 use native.Mathlib.Omega.{arith}
 use Rattle.search.specs.Loaded.{boatAt}
-use Rattle.ways.proofs.Chosen.{drop-single}
+use Rattle.ways.proofs.Chosen.{no-class, shallow, drop-single}
 use borrow.Author.Needs.{needs}
 use Rattle.ways.proofs.dropping_way.Statement.{statement}
 use Rattle.ways.proofs.dropping_way.Tie as tie
@@ -13,7 +13,7 @@ takes-all-requires : tie.Need-takes-all-requires
 takes-all-requires c κs = search needs
 
 kind-way-requires : tie.Need-kind-way-requires
-kind-way-requires c κs = search needs
+kind-way-requires c κs = let b = c .before .before .before .before .before .pre .0 in (shallow b, omega arith, omega arith, no-class _ (omega arith))
 
 returns-2 : tie.Need-returns-2
 returns-2 c =

@@ -5,7 +5,7 @@ use Prim.Native.Nat.{ℕ}
 use native.Mathlib.Omega.{arith}
 use Rattle.states.specs.Spots.{front, TakenBy}
 use Rattle.ways.proofs.Right.{stack-fits, nowhere}
-use Rattle.ways.proofs.Chosen.{any-single, only-single, but-single}
+use Rattle.ways.proofs.Chosen.{no-class, any-single, only-single, but-single}
 use borrow.Author.Needs.{needs}
 use Rattle.ways.proofs.exact_way.Statement.{statement}
 use Rattle.ways.proofs.exact_way.Tie as tie
@@ -23,7 +23,7 @@ enum-told : tie.Need-enum-told
 enum-told c = search needs
 
 kind-way-requires : tie.Need-kind-way-requires
-kind-way-requires c κs = (c .before .before .before .before .before .pre .0, omega arith, omega arith)
+kind-way-requires c κs = (c .before .before .before .before .before .pre .0, omega arith, omega arith, no-class _ (omega arith))
 
 enum-known-x : tie.Need-enum-known-x
 enum-known-x c = search needs
@@ -41,7 +41,7 @@ kind-way-requires-2 : tie.Need-kind-way-requires-2
 kind-way-requires-2 c κs =
     let a = c .before .before .before .before .before .before in
     let takes = subst (TakenBy _ _ _ _) (c .before .x2 .given .1) (c .before .before .before .taken-by .ensures) in
-    (a .pre .0, omega arith, omega (arith, takes .0, a .pre .0 .laid .few-boats))
+    (a .pre .0, omega arith, omega (arith, takes .0, a .pre .0 .laid .few-boats), no-class _ (omega arith))
 
 enum-told-2 : tie.Need-enum-told-2
 enum-told-2 c = search needs

@@ -2,7 +2,7 @@
 use mathlib.Core.Path.{refl}
 use native.Mathlib.Omega.{arith}
 use Rattle.search.specs.Loaded.{boatAt}
-use Rattle.ways.proofs.Chosen.{shallow, weight-small, left-single}
+use Rattle.ways.proofs.Chosen.{no-class, shallow, weight-small, left-single}
 use borrow.Author.Needs.{needs}
 use Rattle.ways.proofs.forgetting_way.Statement.{statement}
 use Rattle.ways.proofs.forgetting_way.Tie as tie
@@ -17,7 +17,7 @@ wants-kept-requires : tie.Need-wants-kept-requires
 wants-kept-requires c κs = search needs
 
 kind-way-requires : tie.Need-kind-way-requires
-kind-way-requires c κs = let b = c .before .before .before .before .before .before .pre in (shallow b, weight-small _ _ _ _ _ b, omega arith)
+kind-way-requires c κs = let b = c .before .before .before .before .before .before .pre in (shallow b, weight-small _ _ _ _ _ b, omega arith, no-class _ (omega arith))
 
 returns-2 : tie.Need-returns-2
 returns-2 c =
