@@ -1,8 +1,9 @@
 -- Case by case: what is undone by a line and by a word of the sorted lines; that it is what all lines do, for a target and a position; and
 -- that what it goes by stays.
-use mathlib.Core.Path.{_≡_, refl, sym, subst}
+use mathlib.Core.Path.{_≡_, refl, sym, ap, _∙_, subst}
 use mathlib.Core.List.{List}
 use Prim.Native.Nat.{ℕ, suc, _+_, _*_, _-_, _^_, _/_, _%_, _<_, _≤_}
+use native.Mathlib.Nat.{pow-zero}
 use native.Mathlib.Omega.{arith}
 use lib.ListN.{length, getD}
 use borrow.Author.Tests.{eq-eqb, ne-eqb}
@@ -89,3 +90,9 @@ module _ {plan : Plan} {s : Spot} {t : Target} {c leaves : ℕ} (b : Before plan
 
     pub undo-goes : {tail : ℕ} {w : List ℕ} → ReadyBack plan tail w → Laid plan (length w) → 0 < d → d ≤ suc tail → Undoing plan u tail w
     undo-goes {tail} {w} ready laid some near = subst (λ z. Undoing plan z tail w) (sym is) (record { ready = ready; laid = laid; sane = b .sane; some = some; near = near })
+
+-- where the stack after the position is the state's there is one
+pub one-stack-back : (plan : Plan) (g : List ℕ) (s : Spot) (t : Target) (d c : ℕ) (st : Search) → linesBack plan g s t d c (t .depth) st ≡ turns (lineTurn plan g s t d c 1) 0 (plan .lines) st
+one-stack-back plan g s t d c st =
+    let none : t .depth - t .depth ≡ 0 = omega arith in
+    ap (λ n. turns (lineTurn plan g s t d c n) 0 (plan .lines) st) (ap (plan .radix ^_) none ∙ pow-zero (plan .radix))

@@ -26,6 +26,7 @@ use sorted::PACK;
 use states::Sieve;
 use states::Spot;
 use states::Target;
+use ways::ClassWay;
 use ways::Lane;
 use ways::Way;
 
@@ -420,6 +421,54 @@ fn over_kind(work: &mut [u32], plan: Plan, k: usize, lane: Lane, d: u32, tail: u
     ways::over_run(work, plan, Order::Kind, false, k, lane, d, tail)
 }
 
+// Where the stack after the position is the state's: by classes, where the rule compares these, and else with the one stack.
+fn by_exact(
+    work: &mut [u32],
+    plan: Plan,
+    spot: Spot,
+    target: Target,
+    d: u32,
+    c: usize,
+    tail: usize,
+) -> usize
+    requires { ⌜ ReadyBack plan tail (now work) ⌝ }
+    requires { ⌜ Laid plan (length (now work)) × Told plan (front plan (now work)) ⌝ }
+    requires { ⌜ Before plan spot target c (target .depth) ⌝ }
+    requires { ⌜ (0 < d) × (d ≤ suc tail) ⌝ }
+    requires { ⌜ Filed plan (now work) ⌝ }
+    ensures { λ r. ⌜ StepBack plan (linesBack plan (front plan (now (work .entry))) spot target d c (target .depth)) tail (now (work .entry)) r (now (work .exit)) ⌝ }
+{
+    match ways::class_way(work, plan, spot, target, c) {
+        ClassWay::Sister(k, lane) => { over_class(work, plan, Sieve::Sisters, k, lane, d, tail) }
+        ClassWay::Foreign(k, lane) => { over_class(work, plan, Sieve::Classes, k, lane, d, tail) }
+        ClassWay::Neither => by_sorted(work, plan, spot, target, d, c, target.depth, tail),
+    }
+}
+
+// The ways that few searches take.
+fn by_rest(
+    work: &mut [u32],
+    plan: Plan,
+    spot: Spot,
+    target: Target,
+    d: u32,
+    c: usize,
+    leaves: usize,
+    tail: usize,
+) -> usize
+    requires { ⌜ ReadyBack plan tail (now work) ⌝ }
+    requires { ⌜ Laid plan (length (now work)) × Told plan (front plan (now work)) ⌝ }
+    requires { ⌜ Before plan spot target c leaves ⌝ }
+    requires { ⌜ (0 < d) × (d ≤ suc tail) ⌝ }
+    requires { ⌜ Filed plan (now work) ⌝ }
+    ensures { λ r. ⌜ StepBack plan (linesBack plan (front plan (now (work .entry))) spot target d c leaves) tail (now (work .entry)) r (now (work .exit)) ⌝ }
+{
+    if leaves == target.depth {
+        return by_exact(work, plan, spot, target, d, c, tail);
+    }
+    by_sorted(work, plan, spot, target, d, c, leaves, tail)
+}
+
 // The lines that lead back to position `c`, from the run of the sorted lines that has them where there is one.
 fn over_way(
     work: &mut [u32],
@@ -441,9 +490,7 @@ fn over_way(
     match ways::way_of(work, plan, spot, target, leaves, c) {
         Way::ByBoat(k, lane) => ways::over_run(work, plan, Order::Boat, false, k, lane, d, tail),
         Way::ByKind(k, lane) => over_kind(work, plan, k, lane, d, tail),
-        Way::BySister(k, lane) => over_class(work, plan, Sieve::Sisters, k, lane, d, tail),
-        Way::ByForeign(k, lane) => over_class(work, plan, Sieve::Classes, k, lane, d, tail),
-        Way::ByStack => by_sorted(work, plan, spot, target, d, c, leaves, tail),
+        Way::ByStack => by_rest(work, plan, spot, target, d, c, leaves, tail),
         Way::Nowhere => tail,
     }
 }

@@ -24,6 +24,8 @@ use Rattle.states.specs.declared.Target.{Target}
 use Rattle.ways.specs.declared.Lane.{Lane}
 use Rattle.ways.specs.declared.Taking.{Taking}
 use Rattle.ways.specs.declared.Taking.the-variants as Taking
+use Rattle.ways.specs.declared.ClassWay.{ClassWay}
+use Rattle.ways.specs.declared.ClassWay.the-variants as ClassWay
 use Rattle.ways.specs.declared.Way.{Way}
 use Rattle.ways.specs.declared.Way.the-variants as Way
 
@@ -111,10 +113,14 @@ pub record Runs (o : Order) (plan : Plan) (g : List ℕ) (s : Spot) (t : Target)
 abbrev pub Right : Plan → List ℕ → Spot → Target → ℕ → ℕ → Way → Type 0
 Right plan g s t c count (Way.ByBoat k lane) = (0 < plan .keeps) × Plain lane × Runs Order.Boat plan g s t c count k lane
 Right plan g s t c count (Way.ByKind k lane) = Plain lane × Runs Order.Kind plan g s t c count k lane
-Right plan g s t c count (Way.BySister k lane) = ((B : ℕ → ℕ) → ThinLane Sieve.Sisters B lane) × Runs Order.Kind plan g s t c count k lane
-Right plan g s t c count (Way.ByForeign k lane) = ((B : ℕ → ℕ) → ThinLane Sieve.Classes B lane) × Runs Order.Kind plan g s t c count k lane
 Right plan g s t c count Way.ByStack = Unit {0}
 Right plan g s t c count Way.Nowhere = (d i : ℕ) → i < plan .lines → (st : Search) → lineTurn plan g s t d c count i st ≡ st
+
+-- a way by classes is right where the stack after the position is the state's
+abbrev pub ClassRight : Plan → List ℕ → Spot → Target → ℕ → ClassWay → Type 0
+ClassRight plan g s t c (ClassWay.Sister k lane) = ((B : ℕ → ℕ) → ThinLane Sieve.Sisters B lane) × Runs Order.Kind plan g s t c 1 k lane
+ClassRight plan g s t c (ClassWay.Foreign k lane) = ((B : ℕ → ℕ) → ThinLane Sieve.Classes B lane) × Runs Order.Kind plan g s t c 1 k lane
+ClassRight plan g s t c ClassWay.Neither = Unit {0}
 
 -- by the boats' table B, what `count` stacks of a line do, whatever line: if p has its boat's number x, the state with the stack u x is pushed,
 -- else nothing is done
@@ -126,6 +132,10 @@ pub record Single (B : ℕ → ℕ) (plan : Plan) (s : Spot) (t : Target) (count
 abbrev pub RightFor : Plan → Spot → Target → ℕ → ((ℕ → ℕ) → ℕ → Bool) → (ℕ → ℕ) → Way → Type 0
 RightFor plan s t c p u way =
     (g : List ℕ) (count : ℕ) → Told plan g → Single (boatAt plan g) plan s t count (p (boatAt plan g)) u → Right plan g s t c count way
+
+abbrev pub ClassRightFor : Plan → Spot → Target → ℕ → ((ℕ → ℕ) → ℕ → Bool) → ClassWay → Type 0
+ClassRightFor plan s t c p way =
+    (g : List ℕ) → Told plan g → Single (boatAt plan g) plan s t 1 (p (boatAt plan g)) (λ x. t .stack + x * 0) → ClassRight plan g s t c way
 
 -- what a way is chosen from: a state and a position before it, by their numbers
 pub record Before (plan : Plan) (s : Spot) (t : Target) (c leaves : ℕ) : Type 0 where

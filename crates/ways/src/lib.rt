@@ -5,7 +5,7 @@ ghost use lib.ListN.{length, getD};
 ghost use Rattle.request.specs.Layout.{largest, Laid, filedEnd};
 ghost use Rattle.graph.specs.Loops.{turns};
 ghost use Rattle.states.specs.Pairs.{ReadyBack, StepBack};
-ghost use Rattle.ways.specs.Ways.{laneState, takenBy, laneTurn, LaneTo, Narrow, Plain, NoClass, ThinLane, Within, runLines, Told, Gives, Right, RightFor, Before};
+ghost use Rattle.ways.specs.Ways.{laneState, takenBy, laneTurn, LaneTo, Narrow, Plain, NoClass, ThinLane, Within, runLines, Told, Gives, Right, RightFor, ClassRight, ClassRightFor, Before};
 ghost use mathlib.Core.Bool.{true, false};
 ghost use mathlib.Core.List.{List};
 ghost use lib.Dec.{eqb};
@@ -186,13 +186,11 @@ pub fn over_words(
 
 // ---- the way
 
-// The way from a state back to a position: by the lines of one boat into its place, by those of one kind, by these where the boats of one class
-// but one are asked for, or those of other classes, with each stack, one by one, or by no line.
+// The way from a state back to a position: by the lines of one boat into its place, by those of one kind, with each stack, one by one, or
+// by no line.
 pub enum Way {
     ByBoat(usize, Lane),
     ByKind(usize, Lane),
-    BySister(usize, Lane),
-    ByForeign(usize, Lane),
     ByStack,
     Nowhere,
 }
@@ -256,37 +254,6 @@ fn pushing_way(plan: Plan, spot: Spot, target: Target, c: usize) -> Way
     Way::ByStack
 }
 
-// Those of another boat of the class of the boat `number`.
-fn sister_way(plan: Plan, spot: Spot, target: Target, c: usize, number: usize) -> Way
-    requires { ⌜ Before plan spot target c (target .depth) × (number ≤ largest) ⌝ }
-    ensures { λ r. ⌜ RightFor plan spot target c (λ B x. sisterOf B number x) (λ x. target .stack + x * 0) r ⌝ }
-{
-    let lane = lane_at(plan, c, target.stack, 0, number, Taking::Sister);
-    Way::BySister(target.place * 16 + spot.kind, lane)
-}
-
-// Those of a boat of another class.
-fn foreign_way(plan: Plan, spot: Spot, target: Target, c: usize, number: usize) -> Way
-    requires { ⌜ Before plan spot target c (target .depth) × (number ≤ largest) ⌝ }
-    ensures { λ r. ⌜ RightFor plan spot target c (λ B x. foreignTo B number x) (λ x. target .stack + x * 0) r ⌝ }
-{
-    let lane = lane_at(plan, c, target.stack, 0, number, Taking::Foreign);
-    Way::ByForeign(target.place * 16 + spot.kind, lane)
-}
-
-// The stack after the position is the state's, and it does not push: the lines of the kept boat's class, or of others.
-fn class_way(work: &[u32], plan: Plan, spot: Spot, target: Target, c: usize) -> Way
-    requires { ⌜ Before plan spot target c (target .depth) × (spot .push ≡ false) ⌝ }
-    requires { ⌜ Laid plan (length (now work)) × Told plan (front plan (now work)) ⌝ }
-    ensures { λ r. ⌜ Right plan (front plan (now (work .entry))) spot target c 1 r ⌝ }
-{
-    match states::kin_taken(work, plan, spot, target) {
-        Kin::Sister(x) => sister_way(plan, spot, target, c, x),
-        Kin::Foreign(x) => foreign_way(plan, spot, target, c, x),
-        Kin::Neither => Way::ByStack,
-    }
-}
-
 // The stack after the position is the state's.
 fn exact_way(work: &[u32], plan: Plan, spot: Spot, target: Target, c: usize) -> Way
     requires { ⌜ Before plan spot target c (target .depth) ⌝ }
@@ -301,7 +268,7 @@ fn exact_way(work: &[u32], plan: Plan, spot: Spot, target: Target, c: usize) -> 
         Takes::Only(x) => boat_way(plan, spot, target, c, target.stack, x),
         Takes::ReadBut(x) => kind_way(plan, spot, target, c, 0, x, Taking::ReadBut),
         Takes::Nobody => Way::Nowhere,
-        Takes::Ask => class_way(work, plan, spot, target, c),
+        Takes::Ask => Way::ByStack,
     }
 }
 
@@ -348,6 +315,50 @@ pub fn way_of(work: &[u32], plan: Plan, spot: Spot, target: Target, leaves: usiz
         return forgetting_way(plan, spot, target, c);
     }
     Way::ByStack
+}
+
+// ---- the way by classes
+
+// The lines of one kind, where other boats of one class are asked for, or boats of other classes. Apart from the ways above, which nearly every
+// search takes: with two more of them these are compiled to slower code.
+pub enum ClassWay {
+    Sister(usize, Lane),
+    Foreign(usize, Lane),
+    Neither,
+}
+
+// Those of another boat of the class of the boat `number`.
+fn sister_way(plan: Plan, spot: Spot, target: Target, c: usize, number: usize) -> ClassWay
+    requires { ⌜ Before plan spot target c (target .depth) × (number ≤ largest) ⌝ }
+    ensures { λ r. ⌜ ClassRightFor plan spot target c (λ B x. sisterOf B number x) r ⌝ }
+{
+    let lane = lane_at(plan, c, target.stack, 0, number, Taking::Sister);
+    ClassWay::Sister(target.place * 16 + spot.kind, lane)
+}
+
+// Those of a boat of another class.
+fn foreign_way(plan: Plan, spot: Spot, target: Target, c: usize, number: usize) -> ClassWay
+    requires { ⌜ Before plan spot target c (target .depth) × (number ≤ largest) ⌝ }
+    ensures { λ r. ⌜ ClassRightFor plan spot target c (λ B x. foreignTo B number x) r ⌝ }
+{
+    let lane = lane_at(plan, c, target.stack, 0, number, Taking::Foreign);
+    ClassWay::Foreign(target.place * 16 + spot.kind, lane)
+}
+
+// The way by classes, where the stack after the position is the state's and it does not push.
+pub fn class_way(work: &[u32], plan: Plan, spot: Spot, target: Target, c: usize) -> ClassWay
+    requires { ⌜ Before plan spot target c (target .depth) ⌝ }
+    requires { ⌜ Laid plan (length (now work)) × Told plan (front plan (now work)) ⌝ }
+    ensures { λ r. ⌜ ClassRight plan (front plan (now (work .entry))) spot target c r ⌝ }
+{
+    if spot.push {
+        return ClassWay::Neither;
+    }
+    match states::kin_taken(work, plan, spot, target) {
+        Kin::Sister(x) => sister_way(plan, spot, target, c, x),
+        Kin::Foreign(x) => foreign_way(plan, spot, target, c, x),
+        Kin::Neither => ClassWay::Neither,
+    }
 }
 
 // ---- a run

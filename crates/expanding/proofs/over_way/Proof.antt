@@ -43,31 +43,11 @@ over-kind-requires c κs =
     let (near, filed) = a .pre .1 .1 .1 in
     (a .pre .0, ((a .pre .1 .0 .0, filed, r .1 .key-low), ((r .1 .narrow, r .1 .gives, r .0), near)))
 
-enum-known-k-3 : tie.Need-enum-known-k-3
-enum-known-k-3 c = search needs
-
-over-class-requires : tie.Need-over-class-requires
-over-class-requires c κs =
-    let a = c .before .before .before .before .before .before .before in
-    let r = subst (Right _ _ _ _ _ _) (c .before .before .k3 .given .1) (right (c .before .before .before .before)) in
-    let (near, filed) = a .pre .1 .1 .1 in
-    (a .pre .0, ((a .pre .1 .0 .0, filed, r .1 .key-low), ((r .1 .narrow, r .1 .gives, r .0 _), near)))
-
-enum-known-k-4 : tie.Need-enum-known-k-4
-enum-known-k-4 c = search needs
-
-over-class-requires-2 : tie.Need-over-class-requires-2
-over-class-requires-2 c κs =
-    let a = c .before .before .before .before .before .before .before in
-    let r = subst (Right _ _ _ _ _ _) (c .before .before .k4 .given .1) (right (c .before .before .before .before)) in
-    let (near, filed) = a .pre .1 .1 .1 in
-    (a .pre .0, ((a .pre .1 .0 .0, filed, r .1 .key-low), ((r .1 .narrow, r .1 .gives, r .0 _), near)))
-
 enum-told : tie.Need-enum-told
 enum-told c = search needs
 
-by-sorted-requires : tie.Need-by-sorted-requires
-by-sorted-requires c κs = search needs
+by-rest-requires : tie.Need-by-rest-requires
+by-rest-requires c κs = search needs
 
 enum-told-2 : tie.Need-enum-told-2
 enum-told-2 c = search needs
@@ -92,29 +72,13 @@ same-length-3 : tie.Need-same-length-3
 same-length-3 c = search needs
 
 returns-3 : tie.Need-returns-3
-returns-3 c =
-    let r = subst (Right _ _ _ _ _ _) (c .before .before .before .before .before .k3 .given .1) (right (c .before .before .before .before .before .before .before)) in
-    step-as _ (c .before .before .over-class .ensures) (run-lines (r .1) _ _)
+returns-3 c = search needs
 
 same-length-4 : tie.Need-same-length-4
 same-length-4 c = search needs
 
 returns-4 : tie.Need-returns-4
 returns-4 c =
-    let r = subst (Right _ _ _ _ _ _) (c .before .before .before .before .before .k4 .given .1) (right (c .before .before .before .before .before .before .before)) in
-    step-as _ (c .before .before .over-class2 .ensures) (run-lines (r .1) _ _)
-
-same-length-5 : tie.Need-same-length-5
-same-length-5 c = search needs
-
-returns-5 : tie.Need-returns-5
-returns-5 c = search needs
-
-same-length-6 : tie.Need-same-length-6
-same-length-6 c = search needs
-
-returns-6 : tie.Need-returns-6
-returns-6 c =
     let a = c .before .before .before .before .before in
     let r = subst (Right _ _ _ _ _ _) (c .enum-told2 .given .1) (right (c .before .before)) in
     step-none _ (a .pre .0) (turns-idle _ 0 (a .args .plan .lines) _ (λ i from less. r (a .args .d) i (omega (arith, less)) _))
@@ -128,12 +92,8 @@ over-way-spec =
     over-run-requires
     enum-known-k-2
     over-kind-requires
-    enum-known-k-3
-    over-class-requires
-    enum-known-k-4
-    over-class-requires-2
     enum-told
-    by-sorted-requires
+    by-rest-requires
     enum-told-2
     same-length
     returns
@@ -142,8 +102,4 @@ over-way-spec =
     same-length-3
     returns-3
     same-length-4
-    returns-4
-    same-length-5
-    returns-5
-    same-length-6
-    returns-6)
+    returns-4)

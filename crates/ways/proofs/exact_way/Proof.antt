@@ -49,9 +49,6 @@ enum-told-2 c = search needs
 enum-told-3 : tie.Need-enum-told-3
 enum-told-3 c = search needs
 
-class-way-requires : tie.Need-class-way-requires
-class-way-requires c κs = let a = c .before .before .before .before .before in ((a .pre .0, c .before .before .before .if1 .left), a .pre .1)
-
 -- the loaded words
 abbrev words : tie.Start → List ℕ
 words a = front (a .args .plan) (a .args .work .now)
@@ -81,7 +78,7 @@ returns-5 c =
     nowhere _ _ _ _ _ (a .pre .0) (words a) (c .before .before .before .if1 .left) none
 
 returns-6 : tie.Need-returns-6
-returns-6 c = search needs
+returns-6 c = tt
 
 pub exact-way-spec : {M : Type 1} → statement M
 exact-way-spec =
@@ -98,7 +95,6 @@ exact-way-spec =
     kind-way-requires-2
     enum-told-2
     enum-told-3
-    class-way-requires
     returns-2
     returns-3
     returns-4
