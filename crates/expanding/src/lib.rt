@@ -439,8 +439,8 @@ fn by_exact(
     ensures { λ r. ⌜ StepBack plan (linesBack plan (front plan (now (work .entry))) spot target d c (target .depth)) tail (now (work .entry)) r (now (work .exit)) ⌝ }
 {
     match ways::class_way(work, plan, spot, target, c) {
-        ClassWay::Sister(k, lane) => { over_class(work, plan, Sieve::Sisters, k, lane, d, tail) }
-        ClassWay::Foreign(k, lane) => { over_class(work, plan, Sieve::Classes, k, lane, d, tail) }
+        ClassWay::Sister(k, lane) => over_class(work, plan, Sieve::Sisters, k, lane, d, tail),
+        ClassWay::Foreign(k, lane) => over_class(work, plan, Sieve::Classes, k, lane, d, tail),
         ClassWay::Neither => by_sorted(work, plan, spot, target, d, c, target.depth, tail),
     }
 }
