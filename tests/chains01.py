@@ -123,8 +123,8 @@ B = record(2, (0, 1, 0, 0, 1), (1, 2, 0, 0, 1), (1, 2, 1, 1, 1))
 # A boat kept at kind 1, then a line of kind 2: any, its own, another's, another's of its class, one's of another class.
 THEN_ANY = [0x27, 1, 0, 0x21, 2]
 THEN_SAME, THEN_OTHER, THEN_SISTER, THEN_FOREIGN = ([0x27, 1, 0, test, 2, 0] for test in TAKES)
-# Request Two. C: after boat 2-1, lines of two classes before its own, and after it those of its class and of another. D: after boat 1-1,
-# two others of its class and one of another.
+# Request Two. C: after boat 2-1, lines of two boats of another class, its own, one of its class and one of a third class. D: after boat
+# 1-1, two others of its class and one of another.
 C = record(3, (0, 1, 2, 1, 1), (1, 2, 1, 7, 2), (1, 2, 1, 8, 2), (1, 2, 2, 1, 2), (1, 2, 2, 9, 2), (1, 2, 3, 1, 2))
 D = record(3, (0, 1, 1, 1, 1), (1, 2, 1, 7, 2), (1, 2, 1, 8, 2), (1, 2, 2, 1, 2))
 

@@ -86,7 +86,7 @@ fn class_in(word: u32) -> u32
     word / 16777216
 }
 
-// Two boats compared, given by their numbers. Whoever compares boats does it here.
+// Two boats compared, given by their numbers. Which boats pass, all at once, is told by `taken_by` and `kin_taken`, and agrees with it.
 pub fn compared(work: &[u32], plan: Plan, a: usize, b: usize) -> Told
     requires { ⌜ Laid plan (length (now work)) × (a < 4294967296) × (b < 4294967296) ⌝ }
     ensures { λ r. ⌜ toldShown r ≡ toldBy (boatsIn plan (now (work .entry))) a b ⌝ }
