@@ -4,7 +4,7 @@
    makes as many as last at least BATCH together.
 
    bench [ROW...]                    the table, or these rows, numbered from 0; after it, where both were measured, the full days with
-                                     a third of their lines unread by the same days read
+                                     a third of their lines unread by the same days read, and rounds counted by the same written out
    bench --slowest                   the slowest requests, one call each
    bench --call ROW PROGRAM TIMES    calls alone, for a profiler; programs are 0 library, 1 C, 2 C grouped, 3 second
 
@@ -17,7 +17,7 @@
    It stops at a row where the replies of the two differ; with --differ it says what the reply was and goes on. A row whose pattern the
    earlier build refuses with 8, as one with a command that it does not have, is left out; with --differ it is timed.
 
-   Rows have their numbers for good, so the slowest requests stand among them: 30 and 31, and those from 40 on. */
+   Rows have their numbers for good, so the slowest requests stand among them: 30 and 31, and 40 to 45. */
 #include "hand.h"
 
 #include <math.h>
@@ -339,7 +339,7 @@ static void shuffle(struct request *r)
     }
 }
 
-enum { NOTHING = 0x20, LINE, SAME, OTHER, EITHER, THEN, REPEAT, KEEP, SISTER, FOREIGN };
+enum { NOTHING = 0x20, LINE, SAME, OTHER, EITHER, THEN, REPEAT, KEEP, SISTER, FOREIGN, COUNTED };
 
 static void byte(struct request *r, unsigned b) { r->pat[r->pat_len++] = b; }
 
@@ -361,6 +361,23 @@ static void tests(struct request *r, unsigned test, unsigned count, unsigned kin
     }
 }
 
+/* Three rounds of what `round` writes: counted, or written out. */
+static void three(struct request *r, void (*round)(struct request *), int counted)
+{
+    if (counted) {
+        byte(r, COUNTED);
+        byte(r, 3);
+        byte(r, 3);
+        round(r);
+        return;
+    }
+    byte(r, THEN);
+    round(r);
+    byte(r, THEN);
+    round(r);
+    round(r);
+}
+
 static struct request *fresh(const char *name)
 {
     struct request *r = calloc(1, sizeof *r);
@@ -372,12 +389,10 @@ static struct request *fresh(const char *name)
 
 /* ---- the cases */
 
-/* Desk 0, start 1, four of the marks 2 to 8 for each class, hut 9. 60 boats in three classes; a few do not start or finish. A boat
-   entered; by the test that boat, another of its class or one of another class started, rounded or not, and finished. */
-static struct request *typical_day(const char *name, unsigned test)
+/* Desk 0, start 1, four of the marks 2 to 8 for each class, hut 9. 60 boats in three classes; a few do not start or finish. */
+static void typical_record(struct request *r)
 {
     static const uint8_t course[3][4] = {{2, 3, 4, 5}, {3, 5, 7, 8}, {6, 4, 2, 8}};
-    struct request *r = fresh(name);
     begin_day(r, 10);
     for (unsigned b = 0; b < 60; b++) {
         unsigned class = b % 3, sail = 100 + b;
@@ -398,6 +413,13 @@ static struct request *typical_day(const char *name, unsigned test)
     shuffle(r);
     r->from = 0;
     r->to = 9;
+}
+
+/* A boat entered; by the test that boat, another of its class or one of another class started, rounded or not, and finished. */
+static struct request *typical_day(const char *name, unsigned test)
+{
+    struct request *r = fresh(name);
+    typical_record(r);
     command(r, KEEP, 1, 0);
     byte(r, THEN);
     command(r, test, 2, 0);
@@ -660,14 +682,59 @@ static struct request *slowest(const char *name, unsigned test, unsigned boats, 
     return r;
 }
 
+/* ---- three rounds, written out and counted */
+
+static void rounding(struct request *r) { command(r, SAME, 3, 0); }
+
+/* Any number of others, by either of two commands. */
+static void others(struct request *r)
+{
+    byte(r, REPEAT);
+    tests(r, OTHER, 2, 1, 1);
+}
+
+/* A boat entered, that boat started, three rounds, and it finished. */
+static struct request *three_sailed(const char *name, void (*record)(struct request *), void (*round)(struct request *), int counted)
+{
+    struct request *r = fresh(name);
+    record(r);
+    command(r, KEEP, 1, 0);
+    byte(r, THEN);
+    command(r, SAME, 2, 0);
+    byte(r, THEN);
+    three(r, round, counted);
+    command(r, SAME, 4, 0);
+    return r;
+}
+
+/* 1,024 places in two halves that no line joins, 55 boats, one kind: size 1,032,192 written out and 974,848 counted. */
+static struct request *three_large(const char *name, int counted)
+{
+    struct request *r = fresh(name);
+    begin_day(r, 1024);
+    for (unsigned i = 0; i < 4096; i++) {
+        unsigned half = i % 2 * 512;
+        add(r, half + below(512), 1, 1, i % 55, half + below(512));
+    }
+    r->from = 0;
+    r->to = 512;
+    /* A boat kept, three rounds of others, and any line last. */
+    command(r, KEEP, 1, 0);
+    byte(r, THEN);
+    three(r, others, counted);
+    command(r, LINE, 1, 0);
+    return r;
+}
+
 /* ---- the runs */
 
-/* The full days stand by twos, each request about the day read and then about the day with a third unread. */
+/* The full days stand by twos, each request about the day read and then about the day with a third unread; so do rounds, written out
+   and then counted. */
 enum { FULL = 1, FULL_END = 7, CASES = 14, SLOWEST = CASES + 16, CLASSES = SLOWEST + 2, FULL_CLASSES = CLASSES + 2,
-       FULL_CLASSES_END = FULL_CLASSES + 4, SLOWEST_CLASSES = FULL_CLASSES_END + 2, ROWS = SLOWEST_CLASSES + 6 };
+       FULL_CLASSES_END = FULL_CLASSES + 4, SLOWEST_CLASSES = FULL_CLASSES_END + 2, ROUNDS = SLOWEST_CLASSES + 6, ROWS = ROUNDS + 6 };
 
 /* Is the row one of the slowest requests, which stand apart from the table? */
-static int is_slowest(int i) { return (i >= SLOWEST && i < CLASSES) || i >= SLOWEST_CLASSES; }
+static int is_slowest(int i) { return (i >= SLOWEST && i < CLASSES) || (i >= SLOWEST_CLASSES && i < ROUNDS); }
 
 static struct request *row(unsigned i)
 {
@@ -732,6 +799,18 @@ static struct request *row(unsigned i)
         return slowest("29: one place, 4,096 boats of 64 classes, one keep", FOREIGN, 4096, 64, 1);
     case SLOWEST_CLASSES + 5:
         return slowest("29: one place, 127 boats of 64 classes, two keeps", FOREIGN, 127, 64, 2);
+    case ROUNDS:
+        return three_sailed("typical day, three roundings", typical_record, rounding, 0);
+    case ROUNDS + 1:
+        return three_sailed("typical day, three roundings, counted", typical_record, rounding, 1);
+    case ROUNDS + 2:
+        return three_sailed("full day, three laps", full_record, lap, 0);
+    case ROUNDS + 3:
+        return three_sailed("full day, three laps, counted", full_record, lap, 1);
+    case ROUNDS + 4:
+        return three_large("1,024 places, three rounds of others", 0);
+    case ROUNDS + 5:
+        return three_large("1,024 places, three rounds of others, counted", 1);
     }
     unsigned step = (i - CASES) % 4;
     switch ((i - CASES) / 4) {
@@ -746,16 +825,16 @@ static struct request *row(unsigned i)
     }
 }
 
-/* What it costs that a third of the lines is unread: a full day's time by its time read, of the days that were measured so. */
-static void compare_unread(double least[][PROGRAMS])
+/* Of rows by twos that were both measured, the second one's time by the first one's. Where there are any, the title stands before them,
+   unless it does already. */
+static void compare_pairs(double least[][PROGRAMS], int first, int end, const char *title, int *titled)
 {
-    int titled = 0;
-    for (int i = FULL; i < FULL_CLASSES_END; i = i + 2 == FULL_END ? FULL_CLASSES : i + 2) {
+    for (int i = first; i < end; i += 2) {
         if (least[i][LIBRARY] == 0 || least[i + 1][LIBRARY] == 0)
             continue;
-        if (!titled)
-            printf("\n| a third unread / read | library | C | C grouped | second | before |\n|---|---|---|---|---|---|\n");
-        titled = 1;
+        if (!*titled)
+            printf("\n| %s | library | C | C grouped | second | before |\n|---|---|---|---|---|---|\n", title);
+        *titled = 1;
         struct request *r = row(i);
         printf("| %-52s", r->name);
         for (int p = 0; p < PROGRAMS; p++)
@@ -763,6 +842,15 @@ static void compare_unread(double least[][PROGRAMS])
         printf(" |\n");
         free(r);
     }
+}
+
+/* What it costs that a third of the lines is unread, and what is gained where rounds are counted. */
+static void compare_twos(double least[][PROGRAMS])
+{
+    int unread = 0, counted = 0;
+    compare_pairs(least, FULL, FULL_END, "a third unread / read", &unread);
+    compare_pairs(least, FULL_CLASSES, FULL_CLASSES_END, "a third unread / read", &unread);
+    compare_pairs(least, ROUNDS, ROWS, "counted / written out", &counted);
 }
 
 static int profiled(char **argument)
@@ -833,6 +921,6 @@ int main(int count, char **argument)
         free(r->chain);
         free(r);
     }
-    compare_unread(least);
+    compare_twos(least);
     return 0;
 }

@@ -11,6 +11,10 @@
  * other, sister and foreign all fail on such a line, and all fail where the slot holds such a number. Line (21) takes the line, keep (27)
  * keeps the number, and chains_words counts all unread numbers as one boat. Class 0 alone, and number 0 alone, are boats.
  *
+ * Rounds. A counted pattern (2A) accepts from its lowest to its highest count of rounds in a row, both ends allowed; a round may be empty,
+ * and a boat that it keeps is known in that round only. Commands count once as they are written, and in the unfolded count as often as they
+ * may come: a counted pattern has 1 + highest * the unfolded count of its pattern. The search goes by unfolded counts.
+ *
  * Slices. A pointer and the count that follows it are one slice: so many entries from there on. A pointer is never null and is
  * aligned to its type, also where the count is 0: lend the address of any variable of the type then. (malloc(0) may be null.)
  *
@@ -18,13 +22,16 @@
  * only read may.
  *
  * Replies. Every function replies with one number of 64 bits: value + 2^32 * number. The number is 0, and the value is then what
- * the function says below; or a question about what was given was answered no, and the number is that question's (1 to 23,
+ * the function says below; or a question about what was given was answered no, and the number is that question's (1 to 25,
  * enum chains_refusal). A refusal's value is 0, except with 19, where it is the length of the shortest chain. chains_length,
  * chains_needed, chains_written, chains_yes, chains_no, chains_none, chains_found and chains_too_long take a reply apart so that a
  * refusal is not taken for an answer.
  *
+ * Questions. A record is asked 1 to 7. A pattern is asked 8, 9, 10, 11, 24, 12 and 13 at each of its commands, in this order, and when it
+ * is complete 14 and then 25.
+ *
  * Stack. A call takes less than 64 KB of the thread's stack (CHAINS_STACK bytes), whatever it is given. The hungriest, chains_find
- * with 62 repeats inside each other, takes about 45,000 bytes as the library is built.
+ * with 62 repeats inside each other, takes about 48,000 bytes as the library is built.
  *
  * No function fails in another way, whatever bytes and numbers it is given; none allocates, keeps a pointer or has a state, so
  * calls from several threads are safe as long as they do not share a buffer that is written to.
@@ -58,13 +65,15 @@ enum chains_refusal {
     CHAINS_BYTES_AFTER_END = 7,         /* there are bytes after the record's end byte */
 
     /* The pattern, command by command. */
-    CHAINS_COMMAND_NOT_KNOWN = 8,       /* where a command (20 to 29) must stand, there is another byte or none */
+    CHAINS_COMMAND_NOT_KNOWN = 8,       /* where a command (20 to 2A) must stand, there is another byte or none */
     CHAINS_TOO_MANY_COMMANDS = 9,       /* there are more than 63 commands */
-    CHAINS_OPERANDS_MISSING = 10,       /* a command's kind or slot is not there */
+    CHAINS_OPERANDS_MISSING = 10,       /* a command's kind, slot or counts are not there */
     CHAINS_OPERAND_OUT_OF_RANGE = 11,   /* a command's kind is not 1 to 15, or its slot is not 0 to 3 */
     CHAINS_SLOT_NOT_KEPT = 12,          /* same, other, sister or foreign names a slot that no keep around it keeps */
     CHAINS_KEEPS_TOO_DEEP = 13,         /* keeps are nested more than three deep */
     CHAINS_BYTES_AFTER_PATTERN = 14,    /* there are bytes after the complete pattern */
+    CHAINS_ROUNDS_OUT_OF_RANGE = 24,    /* a lowest count of rounds is above the highest, or that is above 20 */
+    CHAINS_UNFOLDED_TOO_LONG = 25,      /* the unfolded count is above 63 */
 
     /* The request. */
     CHAINS_ASKED_PLACE_NOT_THERE = 15,  /* an asked place is not below the count of places */
@@ -103,7 +112,8 @@ enum chains_field {
 enum chains_count {
     CHAINS_COUNT_COMMANDS = 0,
     CHAINS_COUNT_KEEPS = 1,
-    CHAINS_COUNTS = 2 /* how many there are */
+    CHAINS_COUNT_UNFOLDED = 2,
+    CHAINS_COUNTS = 3 /* how many there are */
 };
 
 /* ---- A reply taken apart */
@@ -196,7 +206,7 @@ static inline const char *chains_message(uint32_t number)
     case 7: return "the day's record goes on after its end";
     case 8: return "the pattern breaks off, or has something in it that is not a command";
     case 9: return "the pattern has more than 63 commands";
-    case 10: return "the pattern breaks off before a command's kind or slot";
+    case 10: return "the pattern breaks off before a command's kind, slot or counts";
     case 11: return "the pattern has a kind that is not 1 to 15, or a slot that is not 0 to 3";
     case 12: return "the pattern compares a boat with that of a slot, but no keep around it keeps a boat there";
     case 13: return "the pattern has more than three keeps inside each other";
@@ -210,6 +220,8 @@ static inline const char *chains_message(uint32_t number)
     case 21: return "the sail number is not below 16,777,216";
     case 22: return "the day's record is full: it has 4,096 lines";
     case 23: return "the buffer has no room for the day's record after this";
+    case 24: return "the pattern has a count of rounds whose lowest is above its highest, or whose highest is above 20";
+    case 25: return "the pattern is too long: with its rounds written out it has more than 63 commands";
     default: return "this number is not that of a refusal";
     }
 }
@@ -253,12 +265,12 @@ uint64_t chains_add(uint8_t *buf, size_t buf_len, size_t len, uint16_t from, uin
 uint64_t chains_read(const uint8_t *rec, size_t rec_len, uint16_t line, uint32_t *fields, size_t fields_len);
 
 /*
- * Reads a pattern: how many commands it has, and how deep its keeps are nested at most.
+ * Reads a pattern: how many commands it has, how deep its keeps are nested at most, and its unfolded count.
  *
- * Value: 2; or 0 where counts_len is below 2, which is no refusal.
- * Refusals: 8 to 14. They come before the count of words is looked at.
- * pat: only read. counts: commands (1 to 63) and keeps (0 to 3) are written to the first two words; all other words stay. A value
- * of 0 and a refusal leave it untouched.
+ * Value: 3; or 2 where counts_len is 2; or 0 where it is below 2, which is no refusal.
+ * Refusals: those of a pattern. They come before the count of words is looked at.
+ * pat: only read. counts: commands (1 to 63), keeps (0 to 3) and the unfolded count (1 to 63) are written to the first three words, or
+ * where there are two, commands and keeps to these; all other words stay. A value of 0 and a refusal leave it untouched.
  */
 uint64_t chains_pattern(const uint8_t *pat, size_t pat_len, uint32_t *counts, size_t counts_len);
 
@@ -266,7 +278,7 @@ uint64_t chains_pattern(const uint8_t *pat, size_t pat_len, uint32_t *counts, si
  * How many words of 32 bits chains_check and chains_find need as their work area, for this record and this pattern.
  *
  * Value: the words, 8,200 to 4,202,496.
- * Refusals: 1 to 14, then 16.
+ * Refusals: those of a record and a pattern, then 16.
  * rec, pat: only read.
  */
 uint64_t chains_words(const uint8_t *rec, size_t rec_len, const uint8_t *pat, size_t pat_len);
@@ -276,9 +288,9 @@ uint64_t chains_words(const uint8_t *rec, size_t rec_len, const uint8_t *pat, si
  * numbers of lines.
  *
  * Value: 1 for yes, 0 for no.
- * Refusals: 1 to 18. All entries of the chain are asked about (18) before yes or no.
- * rec, pat, chain: only read. work: may hold anything before. A refusal from 1 to 17 leaves it untouched; after every other reply
- * all of it is zeros, also what lies past the words that are needed.
+ * Refusals: those of a record and a pattern, then 15 to 18. All entries of the chain are asked about (18) before yes or no.
+ * rec, pat, chain: only read. work: may hold anything before. After yes, no and 18 all of it is zeros, also what lies past the words that
+ * are needed; every other refusal leaves it untouched.
  */
 uint64_t chains_check(const uint8_t *rec, size_t rec_len, const uint8_t *pat, size_t pat_len, uint16_t from, uint16_t to,
                       const uint16_t *chain, size_t chain_len, uint32_t *work, size_t work_len);
@@ -288,7 +300,7 @@ uint64_t chains_check(const uint8_t *rec, size_t rec_len, const uint8_t *pat, si
  * first difference.
  *
  * Value: the chain's length; or CHAINS_NO_CHAIN (4,294,967,295) where no chain, of any length, is accepted.
- * Refusals: 1 to 17, then 19, whose value is the shortest length: lend so many entries and ask again.
+ * Refusals: those of a record and a pattern, then 15 to 17, then 19, whose value is the shortest length: lend so many entries and ask again.
  * rec, pat: only read. work: as with chains_check; it is zeros after 19. out: the chain is written at its front when found; the
  * rest of it, and all of it after none and after a refusal, is untouched.
  */

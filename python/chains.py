@@ -3,7 +3,8 @@
 A record and a pattern are bytes or a bytearray. A pattern compares a line's boat with one that it has kept: the same (22) or another (23),
 and of others those of its class (sister, 28) and those of another class (foreign, 29). Class 0 with sail number 0 says that the number was
 not read: all four fail on such a line, and all four fail where the slot holds such a number; line takes it, keep keeps it, and together
-they count as one boat.
+they count as one boat. From so many to so many rounds of a pattern (2A) may come in a row; the search goes by the unfolded count, in which
+a command counts as often as it may come.
 
 CHAINS_LIB names the library's file; else it is looked for beside this module, in the folder above and in the repository's target. A
 question that was answered no is a Refused, which has its number, its second number (value) and, as its text, a sentence; a number
@@ -24,7 +25,7 @@ SENTENCES = (  # by number, from 1
     "the day's record goes on after its end",
     "the pattern breaks off, or has something in it that is not a command",
     "the pattern has more than 63 commands",
-    "the pattern breaks off before a command's kind or slot",
+    "the pattern breaks off before a command's kind, slot or counts",
     "the pattern has a kind that is not 1 to 15, or a slot that is not 0 to 3",
     "the pattern compares a boat with that of a slot, but no keep around it keeps a boat there",
     "the pattern has more than three keeps inside each other",
@@ -38,6 +39,8 @@ SENTENCES = (  # by number, from 1
     "the sail number is not below 16,777,216",
     "the day's record is full: it has 4,096 lines",
     "the buffer has no room for the day's record after this",
+    "the pattern has a count of rounds whose lowest is above its highest, or whose highest is above 20",
+    "the pattern is too long: with its rounds written out it has more than 63 commands",
 )
 Line = namedtuple("Line", "from_ kind class_ sail to")
 
@@ -110,11 +113,20 @@ def lines(day):
     return found
 
 
+def _counts(pattern):
+    three = (ctypes.c_uint32 * 3)()
+    _value(_library.chains_pattern(*_slice(pattern), three, 3))
+    return tuple(three)
+
+
 def counts(pattern):
-    """A pattern's count of commands, and its deepest nesting of keeps."""
-    two = (ctypes.c_uint32 * 2)()
-    _value(_library.chains_pattern(*_slice(pattern), two, 2))
-    return tuple(two)
+    """A pattern's count of commands, as written, and its deepest nesting of keeps."""
+    return _counts(pattern)[:2]
+
+
+def unfolded(pattern):
+    """A pattern's unfolded count."""
+    return _counts(pattern)[2]
 
 
 def words(day, pattern):

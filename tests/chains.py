@@ -1,5 +1,5 @@
 #!/usr/bin/env python3
-"""The small program: its data sets and the line that each prints, from the text of document 01 and requests One and Two alone.
+"""The small program: its data sets and the line that each prints, from the text of document 01 and requests One to Three alone.
 
 Run from the repository's root:
 python3 tests/chains.py write FOLDER    writes crates/chains/data, its stdout, examples/day and tests/data under the folder
@@ -8,8 +8,8 @@ import os
 import subprocess
 import sys
 import tempfile
-from chains01 import (A, B, C, D, E, P, R, R_LINES, S, T, THEN_ANY, THEN_FOREIGN, THEN_OTHER, THEN_SAME, THEN_SISTER, boats_like, find, record,
-                      line)
+from chains01 import (A, B, C, D, E, F, G, LAP, P, R, R_LINES, S, T, THEN_ANY, THEN_FOREIGN, THEN_OTHER, THEN_SAME, THEN_SISTER, boats_like, find,
+                      record, line, rounds, twenties)
 
 
 def question(a, b, pattern): return a.to_bytes(2, "big") + b.to_bytes(2, "big") + bytes(pattern)
@@ -85,7 +85,19 @@ OTHERS = {
     "unread kept, sister": (B, question(0, 1, THEN_SISTER)),
     "unread kept, foreign": (B, question(0, 1, THEN_FOREIGN)),
     "28 with no keep": (C, question(0, 2, [0x28, 1, 0])),
-    "2A": (C, question(0, 2, [0x27, 1, 0, 0x2A, 2, 0])),
+    "2B": (C, question(0, 2, [0x27, 1, 0, 0x2B, 2, 0])),
+    "two to five laps": (F, question(0, 0, rounds(2, 5, LAP))),
+    "two to five lines, to 5": (G, question(0, 5, rounds(2, 5, LAP))),
+    "two to five lines, to 6": (G, question(0, 6, rounds(2, 5, LAP))),
+    "lowest above highest": (F, question(0, 0, rounds(1, 0, LAP))),
+    "highest 21": (F, question(0, 0, rounds(0, 21, LAP))),
+    "unfolded count 63, search size 2,048": (record(32, (0, 3, 1, 7, 31)), question(0, 31, rounds(1, 2, [0x26] * 30 + LAP))),
+    "unfolded count 64": (F, question(0, 0, rounds(0, 3, [0x26] * 20 + LAP))),
+    "twenty of twenty ..": (F, question(0, 0, twenties(62, LAP))),
+    "twenty of twenty .. and bytes after it": (F, question(0, 0, twenties(62, LAP) + [0] * 5000)),
+    "no rounds of twenty of twenty ..": (F, question(0, 0, rounds(0, 0, twenties(61, LAP)))),
+    "62 rounds in each other, 188 bytes": (F, question(0, 0, [0x2A, 1, 1] * 62 + LAP)),
+    "rounds only": (F, question(0, 0, [0x2A, 1, 1] * 2000)),
     "31 laps and home": (LAPS, question(0, 1, TIMES + [0x21, 4])),
     "4,096 lines": (LONG + [0], question(0, 1, [0x21, 1])),
     "4,096 lines and no end": (LONG, question(0, 1, [0x21, 1])),

@@ -1,8 +1,8 @@
-"""The text of document 01 and of requests One and Two as Python, for the tests' expected outputs: reading records and patterns, membership
-clause by clause, questions 1 to 17 of a request, and the worked records and patterns."""
+"""The text of document 01 and of requests One to Three as Python, for the tests' expected outputs: reading records and patterns,
+membership clause by clause, questions 1 to 17, 24 and 25 of a request, and the worked records and patterns."""
 
 TABLE = {0x20: (0, 0), 0x21: (1, 0), 0x22: (2, 0), 0x23: (2, 0), 0x24: (0, 2), 0x25: (0, 2), 0x26: (0, 1), 0x27: (2, 1),
-         0x28: (2, 0), 0x29: (2, 0)}
+         0x28: (2, 0), 0x29: (2, 0), 0x2A: (2, 1)}
 
 
 class Refused(Exception):
@@ -41,7 +41,8 @@ def read_pattern(data):
         code, (width, after) = data[at], TABLE[data[at]]
         operands = data[at + 1:at + 1 + width]
         ask(len(operands) == width, 10)
-        ask((width < 1 or 1 <= operands[0] <= 15) and (width < 2 or operands[1] <= 3), 11)
+        ask(code == 0x2A or (width < 1 or 1 <= operands[0] <= 15) and (width < 2 or operands[1] <= 3), 11)
+        ask(code != 0x2A or operands[0] <= operands[1] <= 20, 24)
         ask(code not in TAKES or operands[1] in kept, 12)
         ask(code != 0x27 or len(kept) < 3, 13)
         inside = kept + [operands[1]] if code == 0x27 else kept
@@ -53,7 +54,11 @@ def read_pattern(data):
 
     p, at = part(0, [])
     ask(at == len(data), 14)
-    return p, counted[0]
+    ask(unfolded(p) <= 63, 25)
+    return p
+
+
+def unfolded(p): return 1 + (p[1][1] if p[0] == 0x2A else 1) * sum(unfolded(q) for q in p[2])
 
 
 def keeps(p): return (p[0] == 0x27) + max([keeps(q) for q in p[2]] or [0])
@@ -86,15 +91,22 @@ def accepts(p, word, slots):
     if code == 0x24: return any(accepts(q, word, slots) for q in inner)
     if code == 0x25: return any(accepts(inner[0], word[:i], slots) and accepts(inner[1], word[i:], slots) for i in range(len(word) + 1))
     if code == 0x26: return not word or any(accepts(inner[0], word[:i], slots) and accepts(p, word[i:], slots) for i in range(1, len(word) + 1))
+    if code == 0x2A: return any(in_a_row(inner[0], n, word, slots) for n in range(operands[0], operands[1] + 1))
     return bool(word) and word[0][0] == operands[0] and accepts(inner[0], word[1:], {**slots, operands[1]: word[0][1]})
 
 
+def in_a_row(p, n, word, slots):
+    """Is the word n words of the pattern's language, one after the other?"""
+    if n == 0: return not word
+    return any(accepts(p, word[:i], slots) and in_a_row(p, n - 1, word[i:], slots) for i in range(len(word) + 1))
+
+
 def asked(day, pattern, a, b, words):
-    """Questions 1 to 17: the lines and the pattern, or the exception Refused."""
+    """Questions 1 to 17, 24 and 25: the lines and the pattern, or the exception Refused."""
     places, lines = read_record(day)
-    p, commands = read_pattern(pattern)
+    p = read_pattern(pattern)
     ask(a < places and b < places, 15)
-    size = places * (commands + 1) * (len({line[2] for line in lines}) + 1) ** keeps(p)
+    size = places * (unfolded(p) + 1) * (len({line[2] for line in lines}) + 1) ** keeps(p)
     ask(size <= 1048576, 16)
     ask(words >= 4 * size + 8192, 17)
     return lines, p
@@ -129,6 +141,20 @@ C = record(3, (0, 1, 2, 1, 1), (1, 2, 1, 7, 2), (1, 2, 1, 8, 2), (1, 2, 2, 1, 2)
 D = record(3, (0, 1, 1, 1, 1), (1, 2, 1, 7, 2), (1, 2, 1, 8, 2), (1, 2, 2, 1, 2))
 
 
+# Request Three. One place, and a lap of it in one line of kind 3; a course of six such lines, each from a place to the next.
+LAP = [0x21, 3]
+F = record(1, (0, 3, 1, 1, 0))
+G = record(7, *[(i, 3, 1, 1, i + 1) for i in range(6)])
+
+
+def rounds(lowest, highest, pattern): return [0x2A, lowest, highest] + pattern
+
+
+def twenties(n, pattern):
+    """So many times "twenty times", each in the one before."""
+    return [0x2A, 20, 20] * n + pattern
+
+
 def boats_like(kept, other):
     """A boat kept at kind 1; after it an unread line, another boat's, its own."""
     return record(2, (0, 1, *kept, 1), (1, 2, 0, 0, 1), (1, 2, *other, 1), (1, 2, *kept, 1))
@@ -152,12 +178,23 @@ def heads(todo):
         after = {0x20: [rest],
                  0x24: [((q, slots),) + rest for q in inner],
                  0x25: [tuple((q, slots) for q in inner) + rest],
-                 0x26: [rest] + [((q, slots),) + todo for q in inner]}[code]
+                 0x26: [rest] + [((q, slots),) + todo for q in inner],
+                 0x2A: rounds_left(todo)}[code]
         for t in after:
             if t not in met:
                 met.add(t)
                 left.append(t)
     return found
+
+
+def rounds_left(todo):
+    """What a list that begins with a counted pattern comes to: no round, or a first one and then those that are left."""
+    ((code, operands, inner), slots), rest = todo[0], todo[1:]
+    if code != 0x2A: return []
+    lowest, highest = operands
+    none = [rest] if lowest == 0 else []
+    more = (code, (max(lowest - 1, 0), highest - 1), inner)
+    return none + ([((inner[0], slots), (more, slots)) + rest] if highest > 0 else [])
 
 
 def read_one(todo, kind, boat):

@@ -1,10 +1,10 @@
 #!/usr/bin/env python3
-"""Rows about the checker and what they make crates/rows write, from the text of document 01 and requests One and Two alone: questions 1 to
-18, and membership clause by clause.
+"""Rows about the checker and what they make crates/rows write, from the text of document 01 and requests One to Three alone: questions 1 to
+18, 24 and 25, and membership clause by clause.
 
 Run from the repository's root: python3 tests/checks.py FOLDER writes FOLDER/checks.bin and prints a part of crates/rows/stdout."""
-from chains01 import (A, B, C, D, E, P, R, S, T, THEN_ANY, THEN_FOREIGN, THEN_OTHER, THEN_SAME, THEN_SISTER, Refused, accepts, asked,
-                      boats_like, record)
+from chains01 import (A, B, C, D, E, F, LAP, P, R, S, T, THEN_ANY, THEN_FOREIGN, THEN_OTHER, THEN_SAME, THEN_SISTER, Refused, accepts, asked,
+                      boats_like, record, rounds, twenties)
 from table import Table, long, short
 
 table = Table("checks")
@@ -97,5 +97,30 @@ for word, test in (("sister", 0x28), ("foreign", 0x29)):
         row("1-1 back after 2-1, %s: %s" % (word, boat), KEPT, [0x27, 1, 0, 0x25, 0x27, 2, 0, 0x20, test, 3, 0], 0, 3, [0, 1, last])
 row("pattern 28 01 00, no keep", C, [0x28, 1, 0], 0, 2, [0])
 row("pattern 29 01 00, no keep", C, [0x29, 1, 0], 0, 2, [0])
-row("pattern 2a", C, [0x27, 1, 0, 0x2A, 2, 0], 0, 2, [0, 1])
+row("pattern 2b", C, [0x27, 1, 0, 0x2B, 2, 0], 0, 2, [0, 1])
+
+# ---- request Three: from the lowest to the highest count of rounds, both ends allowed; a round may be empty, and its boats are its own
+MAYBE = [0x24, 0x20] + LAP
+for name, pattern in (("two to five laps", rounds(2, 5, LAP)), ("no laps", rounds(0, 0, LAP)), ("three laps", rounds(3, 3, LAP)),
+                      ("one to three of nothing", rounds(1, 3, [0x20])), ("two or three, maybe empty", rounds(2, 3, MAYBE)),
+                      ("two to five, then three", [0x25] + rounds(2, 5, LAP) + rounds(3, 3, LAP)), ("two of two or three", rounds(2, 2, rounds(2, 3, LAP))),
+                      ("repeat of three", [0x26] + rounds(3, 3, LAP)), ("two of repeats", rounds(2, 2, [0x25] + LAP + [0x26] + LAP))):
+    for n in range(10): row("%s: %d" % (name, n), F, pattern, 0, 0, [0] * n)
+OWN = rounds(2, 2, [0x27, 1, 0, 0x22, 1, 0])
+for chain in ([0, 0, 0, 0], [0, 0, 1, 1], [0, 1, 1, 0], [0, 0, 0, 1], [0, 0]): row("its own boat in each round: %s" % " ".join(map(str, chain)), T, OWN, 0, 0, chain)
+# A boat entered; in each round that boat, and then any boat kept in the same slot: the next round has the entered one again.
+AGAIN = [0x27, 1, 0] + rounds(2, 2, [0x25, 0x22, 2, 0, 0x27, 2, 0, 0x20])
+BOATS = record(1, (0, 1, 1, 1, 0), (0, 2, 1, 2, 0), (0, 2, 1, 1, 0))
+for chain in ([0, 2, 1, 2, 1], [0, 2, 1, 1, 1], [0, 2, 2, 2, 2]): row("the outer boat in each round: %s" % " ".join(map(str, chain)), BOATS, AGAIN, 0, 0, chain)
+AFTER = [0x27, 1, 0, 0x25] + rounds(1, 2, [0x27, 2, 0, 0x20]) + [0x22, 2, 0]
+for chain in ([0, 1, 2], [0, 1, 1]): row("the outer boat after the rounds: %s" % " ".join(map(str, chain)), BOATS, AFTER, 0, 0, chain)
+row("no rounds of twenty of twenty .., empty", F, rounds(0, 0, twenties(40, LAP)), 0, 0, [])
+row("no rounds of twenty of twenty .., a lap", F, rounds(0, 0, twenties(40, LAP)), 0, 0, [0])
+row("2a 01 00 and no place", R, rounds(1, 0, LAP), 9, 9, [9], 0)
+row("2a 00 15 and no place", R, rounds(0, 21, LAP), 9, 9, [9])
+row("25 and no place", R, twenties(40, LAP), 9, 9, [9])
+row("25, a byte more", R, twenties(40, LAP) + [0x20], 9, 9, [9])
+# The size is 7 for two to five laps of one place, and by keeps as written: 2 × 2 where no round may come.
+for words in (8219, 8220): row("two to five laps, %d words" % words, F, rounds(2, 5, LAP), 0, 0, [0, 0], words)
+for words in (8207, 8208): row("no rounds of a keep, %d words" % words, F, rounds(0, 0, [0x27, 3, 0, 0x20]), 0, 0, [], words)
 table.write()

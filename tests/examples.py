@@ -19,6 +19,8 @@ KINDS = {1: "entered", 2: "started", 3: "rounded", 4: "finished", 5: "retired"}
 ONCE = [0x27, 1, 0, 0x25, 0x22, 2, 0, 0x25, 0x22, 3, 0, 0x22, 4, 0]
 # The same with two roundings.
 TWICE = [0x27, 1, 0, 0x25, 0x22, 2, 0, 0x25, 0x22, 3, 0, 0x25, 0x22, 3, 0, 0x22, 4, 0]
+# The same with two to five roundings.
+COUNTED = [0x27, 1, 0, 0x25, 0x22, 2, 0, 0x25, 0x2A, 2, 5, 0x22, 3, 0, 0x22, 4, 0]
 # Entered, started, rounded, finished, of any boats.
 ANY = [0x25, 0x21, 1, 0x25, 0x21, 2, 0x25, 0x21, 3, 0x21, 4]
 
@@ -41,6 +43,7 @@ EXAMPLES = {
     "own_record": (7, [SLIPS[i] for i in own(SLIPS, 2, 150)], 1, 6, ANY),
     "laps": (6, LEGS, 0, 5, TWICE),
     "laps_one_place": (4, COURSE, 0, 3, TWICE),
+    "laps_counted": (6, LEGS, 0, 5, COUNTED),
 }
 
 
@@ -100,7 +103,7 @@ def run():
         expect("README shows the lines of " + name, "\n".join(rows(EXAMPLES[name][1])) in readme)
     by_slip = "".join("    " + row for row in read("examples/one_boat/by_slip.txt").decode().splitlines(True))
     expect("README shows by_slip.txt", by_slip in readme)
-    for pattern in (ONCE, TWICE, ANY): expect("README shows " + hexadecimal(pattern), "`%s`" % hexadecimal(pattern) in readme)
+    for pattern in (ONCE, TWICE, COUNTED, ANY): expect("README shows " + hexadecimal(pattern), "`%s`" % hexadecimal(pattern) in readme)
 
     # Each boat, from its own slip and by a record of its own lines: the same lines of the day.
     day, _ = files("one_boat")
@@ -112,6 +115,12 @@ def run():
         word, _, chain = answer.partition(":")
         back = word + ":" + "".join(" %d" % numbers[int(i)] for i in chain.split()) if chain else answer
         expect("by its own record: " + line, back == line)
+
+    # Other counts of laps on the same day.
+    for lowest, highest, line in ((0, 1, "found 4: 0 2 4 6"), (3, 5, "none")):
+        counted = COUNTED[:9] + [lowest, highest] + COUNTED[11:]
+        expect("%d to %d laps: %s" % (lowest, highest, line), printed_of(record(6, *LEGS), question(0, 5, counted)) == line + "\n")
+        expect("README says %02X %02X and %s" % (lowest, highest, line), re.search("`%02X %02X`[^.]*`%s`" % (lowest, highest, line), readme))
 
     # A changed byte: line 5 of the worked day, the low byte of its sail number.
     day, ask = bytearray(read("examples/day/day.rec")), read("examples/day/ask.pat")

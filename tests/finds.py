@@ -1,11 +1,11 @@
 #!/usr/bin/env python3
-"""Rows about the finder and what they make crates/rows write, from the text of document 01 and requests One and Two alone: 01's table, the
+"""Rows about the finder and what they make crates/rows write, from the text of document 01 and requests One to Three alone: 01's table, the
 misreadings that they shut out, and requests at the edge of each question.
 
 Run from the repository's root: python3 tests/finds.py FOLDER writes FOLDER/finds.bin and prints a part of crates/rows/stdout."""
 from itertools import permutations
-from chains01 import (A, B, C, D, E, P, R, R_LINES, S, T, THEN_ANY, THEN_FOREIGN, THEN_OTHER, THEN_SAME, THEN_SISTER, boats_like, find, line,
-                      record)
+from chains01 import (A, B, C, D, E, F, G, LAP, P, R, R_LINES, S, T, THEN_ANY, THEN_FOREIGN, THEN_OTHER, THEN_SAME, THEN_SISTER, boats_like, find,
+                      line, record, rounds, twenties)
 from table import Table, long, short
 
 table = Table("finds")
@@ -118,6 +118,45 @@ for word, test, boat in (("sisters", 0x28, (3, 2)), ("foreigners", 0x29, (1, 2))
     row("%s, before a line" % word, record(4, (3, 4, 0, 0, 3), (0, 1, 1, 1, 1), (1, 2, 2, 1, 2), (1, 2, 1, 1, 2), (1, 2, 1, 2, 2), (2, 3, 0, 0, 3)),
         [0x27, 1, 0, 0x25, test, 2, 0, 0x21, 3], 0, 3)
 
+# ---- request Three: so many rounds and no more
+row("two to five laps", F, rounds(2, 5, LAP))
+row("no laps", F, rounds(0, 0, LAP))
+row("one to three of nothing", F, rounds(1, 3, [0x20]))
+row("two to five, then three", F, [0x25] + rounds(2, 5, LAP) + rounds(3, 3, LAP))
+row("two of three", F, rounds(2, 2, rounds(3, 3, LAP)))
+row("no rounds of twenty of twenty ..", F, rounds(0, 0, twenties(40, LAP)))
+row("62 rounds in each other", F, [0x2A, 1, 1] * 62 + LAP)
+# A course of six lines: the place decides how many rounds there are.
+for name, pattern, ends in (("two to five lines", rounds(2, 5, LAP), (0, 1, 2, 3, 5, 6)),
+                            ("three or four, maybe empty", rounds(3, 4, [0x24, 0x20] + LAP), (0, 1, 4, 5)),
+                            ("two of two or three", rounds(2, 2, rounds(2, 3, LAP)), (3, 4, 5, 6)),
+                            ("any number of threes", [0x26] + rounds(3, 3, LAP), (0, 2, 3, 4, 6))):
+    for to in ends: row("%s, to %d" % (name, to), G, pattern, 0, to)
+EITHER = [0x24, 0x21, 2, 0x21, 1]
+row("the lower line in every round", record(1, (0, 1, 1, 1, 0), (0, 2, 1, 1, 0)), rounds(3, 4, EITHER))
+row("a line, then the lower one of a round", record(1, (0, 1, 1, 1, 0), (0, 2, 1, 1, 0)), [0x25, 0x21, 2] + rounds(1, 2, EITHER))
+row("its own boat in each round", T, rounds(2, 2, [0x27, 1, 0, 0x22, 1, 0]))
+row("others in each round", T, rounds(2, 2, [0x27, 1, 0, 0x23, 1, 0]))
+# A boat entered; in each round another than that boat, and then any boat kept in the same slot.
+row("the outer boat in each round", record(4, (0, 1, 1, 1, 1), (1, 2, 1, 2, 2), (2, 2, 1, 2, 1), (2, 2, 1, 1, 1), (1, 3, 1, 1, 3)),
+    [0x27, 1, 0, 0x25] + rounds(2, 2, [0x25, 0x23, 2, 0, 0x27, 2, 0, 0x20]) + [0x22, 3, 0], 0, 3)
+# Laps of a boat: entered, started, so many roundings, finished, the course having a place for each leg.
+SAILED = record(7, (0, 1, 1, 7, 1), (1, 2, 1, 7, 2), *[(n, 3, 1, 7, n + 1) for n in range(2, 5)], (5, 4, 1, 7, 6), (3, 4, 1, 7, 6))
+for lowest, highest in ((2, 5), (0, 2), (4, 5), (0, 0)):
+    row("%d to %d laps of a boat" % (lowest, highest), SAILED, [0x27, 1, 0, 0x25, 0x22, 2, 0, 0x25] + rounds(lowest, highest, [0x22, 3, 0]) + [0x22, 4, 0], 0, 6)
+# The size is 32 × (63 + 1), and one more is refused; of two rounds it is 3 + 1, and of a keep where no round may come 1 + 1 times 2.
+MOST = [0x26, 0x26] + rounds(0, 20, [0x24, 0x20] + LAP)
+row("unfolded count 63, 32 places", record(32, (0, 3, 1, 1, 31)), MOST, 0, 31)
+row("unfolded count 63, 33 places", record(33, (0, 3, 1, 1, 31)), MOST, 0, 31)
+row("unfolded count 64", F, [0x26] + MOST)
+row("unfolded count 64, a byte more", F, [0x26] + MOST + [0x20])
+for words in (8207, 8208): row("two rounds, %d words" % words, F, rounds(2, 2, LAP), words=words)
+for words in (8207, 8208): row("no rounds of a keep, %d words" % words, F, rounds(0, 0, [0x27, 3, 0, 0x20]), words=words)
+row("2a 01 00 and no place", E, rounds(1, 0, LAP), 9, 9, 0, 0)
+row("2a 00 15 and no place", E, rounds(0, 21, LAP), 9, 9)
+row("25 and no place", E, twenties(40, LAP), 9, 9, 0)
+row("24 after the record", E[:-1], rounds(1, 0, LAP))
+
 # ---- the record's questions
 row("40,965 bytes", [1, 4, 0] + line(0, 1, 1, 1, 1) * 4096 + [0, 0], [0x20])
 row("record empty", [], [0x20])
@@ -136,6 +175,11 @@ row("pattern 28", E, [0x28])
 row("pattern 28 01 00", E, [0x28, 1, 0])
 row("pattern 29 01 00", E, [0x29, 1, 0])
 row("pattern 2a", E, [0x2A])
+row("pattern 2a 01", E, [0x2A, 1])
+row("pattern 2a 01 00", E, [0x2A, 1, 0])
+row("pattern 2a 00 00", E, [0x2A, 0, 0])
+row("pattern 2a 00 15", E, [0x2A, 0, 21])
+row("pattern 2b", E, [0x2B])
 row("pattern 2c", E, [0x2C])
 row("pattern 2f", E, [0x2F])
 row("slot 4", E, [0x27, 1, 4, 0x20])

@@ -151,7 +151,7 @@ class Answered(Case):
 
     def test_every_refusal_in_words(self):
         tree = Tree.of(self)
-        self.assertEqual([str(i + 1) for i in range(23)], list(sentences()))
+        self.assertEqual([str(i + 1) for i in range(25)], list(sentences()))
         for number, sentence in sentences().items():
             tree.says("echo refused " + number)
             self.assertEqual((0, "refused %s\n" % number, sentence + "\n"), tree.built())

@@ -123,7 +123,32 @@ class Requests(Asking):
         for test in (0x28, 0x29):
             self.assertEqual(chains.counts(bytes((0x27, 1, 0, test, 15, 0))), (2, 1))
             for number, operands in ((10, (1,)), (11, (0, 0)), (11, (1, 4)), (12, (1, 0))): self.refused(number, chains.counts, bytes((test, *operands)))
-        for byte in range(0x2A, 0x30): self.refused(8, chains.counts, bytes((byte,)))
+        for byte in range(0x2B, 0x30): self.refused(8, chains.counts, bytes((byte,)))
+
+    def test_rounds(self):
+        day, lap = day_of(1, [(0, 3, 1, 1, 0)]), b"\x21\x03"
+        for pattern, least, most in ((b"\x2a\2\5" + lap, 2, 5), (b"\x2a\0\0" + lap, 0, 0), (b"\x2a\1\3\x20", 0, 0),
+                                     (b"\x2a\1\3\x24\x20" + lap, 0, 3), (b"\x25\x2a\2\5" + lap + b"\x2a\3\3" + lap, 5, 8)):
+            self.assertEqual(chains.find(day, pattern, 0, 0), [0] * least)
+            self.assertEqual([n for n in range(10) if chains.check(day, pattern, 0, 0, [0] * n)], list(range(least, most + 1)))
+        two, own = day_of(1, [(0, 1, 1, 1, 0), (0, 1, 1, 2, 0)]), bytes.fromhex("2a0202 270100 220100")
+        self.assertEqual([chains.check(two, own, 0, 0, chain) for chain in ([0, 0, 1, 1], [0, 0, 0, 1])], [True, False])
+        self.assertEqual(chains.words(day, b"\x2a\2\5" + lap), 4 * 7 + 8192)
+        for number, damaged in ((10, "2a"), (10, "2a01"), (24, "2a0100"), (24, "2a0015"), (8, "2a0000"), (14, "2a01012020")):
+            self.refused(number, chains.counts, bytes.fromhex(damaged))
+
+    def test_unfolded(self):
+        self.assertEqual(chains.unfolded(P), 7)
+        self.assertEqual(chains.counts(b"\x2a\2\5" + P), (8, 1))
+        self.assertEqual(chains.unfolded(b"\x2a\2\5" + P), 36)
+        self.assertEqual(chains.unfolded(b"\x2a\0\0" + S), 1)
+        most = bytes.fromhex("26 26 2a0014 24 20 20")
+        self.assertEqual(chains.unfolded(most), 63)
+        nests = b"\x2a\x14\x14" * 40 + NOTHING
+        self.assertEqual(chains.unfolded(b"\x2a\0\0" + nests), 1)
+        for number, damaged in ((25, b"\x26" + most), (25, nests), (14, nests + NOTHING)):
+            for call in (chains.counts, chains.unfolded): self.refused(number, call, damaged)
+            self.refused(number, chains.find, chains.begin(1), damaged, 9, 9)
 
     def test_order_of_refusals(self):
         many = day_of(1024, [(0, 1, 1, boat, 0) for boat in range(64)])

@@ -29,5 +29,6 @@ class Table:
 
     def write(self):
         """Writes the rows to the table's file in the folder that the command names, and prints the part of stdout."""
+        assert len(self.rows) <= 65536, "%s: the program's buffer has 65,536 bytes" % self.name
         with open(os.path.join(sys.argv[1], self.name), "wb") as out: out.write(self.rows)
         print(self.name + ":\n" + self.said, end="")

@@ -1,10 +1,10 @@
 //! Requests with replies written down by hand: document 01's rows, the places where it can
-//! be misread, request One's unread numbers, request Two's classes, and the vectors that tell
-//! wrong programs apart. Each is compared with this program and with the reply that stands here, so that it tests
-//! this program too.
+//! be misread, request One's unread numbers, request Two's classes, request Three's rounds, and
+//! the vectors that tell wrong programs apart. Each is compared with this program and with the
+//! reply that stands here, so that it tests this program too.
 
 use crate::compare::{self, shown};
-use crate::generator::{dirt, dirty_bytes, dirty_entries};
+use crate::generator::{counting_to, dirt, dirty_bytes, dirty_entries};
 use crate::library::{pattern_values, Ask, Library};
 use crate::random::Random;
 use crate::record::{read_record, written, Line, LONGEST, MOST_LINES};
@@ -39,12 +39,20 @@ pub const ALL: &[Case] = &[
     case("One: unread numbers", unread_numbers),
     case("One: lines between two places, some unread", unread_runs),
     case("One: unread numbers and slots", unread_slots),
-    case("Two: the bytes 28 to 2F", class_questions),
+    case("Two: the bytes 28 and 29", class_questions),
     case("Two: a lent sail", class_vectors),
     case("Two: every rule, every outcome", class_outcomes),
     case("Two: lines between two places, by class", class_runs),
     case("Two: classes and slots", class_slots),
     case("Two: 4,096 lines between two places", class_full_run),
+    case("Three: the byte 2A, 24 and 25", round_questions),
+    case("Three: unfolded counts", unfolded_counts),
+    case("Three: sizes", round_sizes),
+    case("Three: 24 and 25 among the questions", round_order),
+    case("Three: so many rounds", round_vectors),
+    case("Three: every count of rounds", round_counts),
+    case("Three: rounds and boats", round_boats),
+    case("Three: rounds in rounds", round_nests),
     case("A 30: begin", begin_traps),
     case("A 31-34: add and read", add_traps),
     case("001, Example 2", example_2),
@@ -57,6 +65,7 @@ pub const ALL: &[Case] = &[
     case("V11: a chain of 92,400 lines", vector_11),
     case("the largest size, found and none", largest),
     case("Two: the largest size, found and none", largest_by_class),
+    case("Three: the largest size, found and none", largest_of_rounds),
     case("001, Proposition 3", proposition_3),
     case("a pattern's counts", pattern_counts),
 ];
@@ -85,21 +94,29 @@ impl Bench<'_> {
         expect(&format!("words of {rec:02x?}, {pat:02x?}"), got, expected)
     }
 
-    /// The counts of a pattern, or its refusal, with room for them, too little and more.
+    /// The counts of a pattern, or its refusal: commands and keeps, the unfolded count being that
+    /// of the commands.
     fn pattern(&self, pat: &[u8], expected: Result<[u32; 2], u8>) -> Done {
+        let unfolded = |[commands, keeps]: [u32; 2]| [commands, keeps, commands];
+        self.counts(pat, expected.map(unfolded))
+    }
+
+    /// Commands, keeps and unfolded count of a pattern, or its refusal, with room for them, for
+    /// two, for too few and for more.
+    fn counts(&self, pat: &[u8], expected: Result<[u32; 3], u8>) -> Done {
         let mut random = Random::new(pat.len() as u64);
-        for words in [2, 1, 0, 4] {
+        for words in [3, 2, 1, 0, 5] {
             let lent = dirt(&mut random, words);
             let got = compare::pattern(self.library, pat, &lent)?;
             let reply = match expected {
                 Err(number) => refused(number, 0),
                 Ok(_) if words < 2 => 0,
-                Ok(_) => 2,
+                Ok(_) => words.min(3) as u64,
             };
             expect(&format!("counts of {pat:02x?}"), got, reply)?;
         }
-        let (_, counts) = pattern_values(pat, &[7, 7]);
-        let said = expected.unwrap_or([7, 7]);
+        let (_, counts) = pattern_values(pat, &[7, 7, 7]);
+        let said = expected.unwrap_or([7, 7, 7]);
         if counts != said {
             return Err(format!(
                 "counts of {pat:02x?}: {counts:?}, but the case says {said:?}"
@@ -398,7 +415,7 @@ fn pattern_traps(b: &Bench) -> Result<String, String> {
     asked(&[0x25, 0x21, 0, 0x22, 1, 0], 11)?;
     asked(&[0x25, 0x21, 1, 0xFF], 8)?;
     asked(&[0x1F], 8)?;
-    asked(&[0x2A], 8)?;
+    asked(&[0x2B], 8)?;
     asked(&[0x25, 0x20], 8)?;
     // 10: 8 before 9, and 9 before 10.
     asked(&repeats(63, &[]), 8)?;
@@ -859,7 +876,7 @@ fn unread_slots(b: &Bench) -> Result<String, String> {
 
 const TESTS: [u8; 4] = [0x22, 0x23, 0x28, 0x29];
 
-/// Questions 8 to 12 of the two commands, and 8 of the bytes after them.
+/// Questions 8 to 12 of the two commands.
 fn class_questions(b: &Bench) -> Result<String, String> {
     let asked = |pat: &[u8], number: u8| {
         b.words(&E, pat, refused(number, 0))?;
@@ -895,14 +912,6 @@ fn class_questions(b: &Bench) -> Result<String, String> {
         // They have no patterns after them.
         asked(&kept(&[test, 1, 0, 0x20]), 14)?;
         asked(&kept(&[0x25, test, 1, 0]), 8)?;
-    }
-    for byte in 0x2A..=0x30 {
-        asked(&[byte], 8)?;
-        asked(&[byte, 1, 0], 8)?;
-        asked(&kept(&[byte, 1, 0]), 8)?;
-        asked(&[0x25, 0x20, byte], 8)?;
-        asked(&[0x20, byte], 14)?;
-        asked(&repeats(63, &[byte]), 8)?;
     }
     ok()
 }
@@ -1113,6 +1122,433 @@ fn class_full_run(b: &Bench) -> Result<String, String> {
     let unread = day(|_| (0, 0), (0, 1));
     b.found(ask(&unread, &then(0x29), 0, 2), &[0, last])?;
     b.none(ask(&unread, &then(0x28), 0, 2))?;
+    ok()
+}
+
+// ---- request Three
+
+/// So many times "twenty times", each in the one before, and then these bytes.
+fn twenties(count: usize, then: &[u8]) -> Vec<u8> {
+    [&[0x2A, 20, 20].repeat(count)[..], then].concat()
+}
+
+/// 2A and its two counts around a pattern.
+fn rounds(lowest: u8, highest: u8, inner: &[u8]) -> Vec<u8> {
+    [&[0x2A, lowest, highest], inner].concat()
+}
+
+/// Questions 8 to 13 and 24 of 2A, and 8 of the bytes after it.
+fn round_questions(b: &Bench) -> Result<String, String> {
+    let asked = |pat: &[u8], number: u8| {
+        b.words(&E, pat, refused(number, 0))?;
+        b.pattern(pat, Err(number))
+    };
+    // 10: both counts, before 24 looks at one; 8: one pattern after them.
+    for short in [&[0x2A][..], &[0x2A, 1], &[0x2A, 21], &[0x2A, 255]] {
+        asked(short, 10)?;
+        asked(&repeats(62, short), 10)?;
+    }
+    asked(&[0x2A, 0, 0], 8)?;
+    asked(&[0x2A, 2, 5], 8)?;
+    asked(&[0x2A, 2, 5, 0xFF], 8)?;
+    asked(&[0x2A, 0, 0, 0x2B], 8)?;
+    asked(&[0x2A, 1, 2, 0x20, 0x20], 14)?;
+    // 9 counts it as written, before 10 and 24.
+    asked(&repeats(63, &[0x2A]), 9)?;
+    asked(&repeats(63, &[0x2A, 1, 0, 0x20]), 9)?;
+    asked(&repeats(62, &[0x2A, 1, 0, 0x20]), 24)?;
+    asked(&repeats(62, &[0x2A, 0, 0, 0x20]), 9)?;
+    asked(&repeats(62, &[0x2A, 0, 0]), 8)?;
+    // 24: the lowest up to the highest, the highest up to 20; before anything inside.
+    for (lowest, highest) in [
+        (1, 0),
+        (2, 1),
+        (20, 19),
+        (0, 21),
+        (20, 21),
+        (21, 21),
+        (255, 0),
+    ] {
+        for inner in [&[0x20][..], &[], &[0xFF], &[0x21, 0], &[0x22, 1, 0]] {
+            asked(&rounds(lowest, highest, inner), 24)?;
+        }
+    }
+    asked(&[0x2A, 0, 255, 0x20], 24)?;
+    asked(&[0x2A, 255, 255, 0x20], 24)?;
+    asked(&[0x2A, 1, 1, 0x2A, 1, 0, 0x20], 24)?;
+    asked(&[0x25, 0x21, 0, 0x2A, 1, 0, 0x20], 11)?;
+    asked(&[0x25, 0x2A, 1, 0, 0x20, 0x21, 0], 24)?;
+    // 11 asks the counts nothing: 0, 16 and 20 are no kind, 4 and 20 no slot.
+    for (lowest, highest) in [
+        (0, 0),
+        (0, 1),
+        (1, 4),
+        (16, 16),
+        (16, 20),
+        (0, 20),
+        (20, 20),
+    ] {
+        b.counts(
+            &rounds(lowest, highest, &[0x20]),
+            Ok([2, 0, 1 + highest as u32]),
+        )?;
+    }
+    // What is inside is asked, also where no round may come.
+    for highest in [0, 1, 20] {
+        asked(&rounds(0, highest, &[0x21]), 10)?;
+        asked(&rounds(0, highest, &[0x21, 0]), 11)?;
+        asked(&rounds(0, highest, &[0x22, 1, 0]), 12)?;
+        let three = [0x27, 1, 0, 0x27, 1, 1, 0x27, 1, 2];
+        let inside = rounds(0, highest, &[0x27, 1, 3, 0x20]);
+        asked(&[&three[..], &inside].concat(), 13)?;
+        asked(
+            &rounds(0, highest, &[&three[..], &[0x27, 1, 3, 0x20]].concat()),
+            13,
+        )?;
+    }
+    // 12: it keeps nothing and hides nothing; what a round keeps is kept in the round.
+    let kept = rounds(0, 2, &[0x22, 1, 0]);
+    b.counts(&[&[0x27, 1, 0][..], &kept].concat(), Ok([3, 1, 4]))?;
+    asked(&[&[0x27, 1, 1][..], &kept].concat(), 12)?;
+    let round = rounds(1, 1, &[0x27, 1, 0, 0x20]);
+    asked(&[&[0x25][..], &round, &[0x22, 1, 0]].concat(), 12)?;
+    // 13: it is no keep.
+    let three = [
+        0x27, 1, 0, 0x2A, 1, 1, 0x27, 1, 1, 0x2A, 1, 1, 0x27, 1, 2, 0x20,
+    ];
+    b.counts(&three, Ok([6, 3, 6]))?;
+    for byte in 0x2B..=0x30 {
+        asked(&[byte], 8)?;
+        asked(&[byte, 1, 0], 8)?;
+        asked(&[0x27, 1, 0, byte, 1, 0], 8)?;
+        asked(&[0x25, 0x20, byte], 8)?;
+        asked(&[0x20, byte], 14)?;
+        asked(&repeats(63, &[byte]), 8)?;
+    }
+    ok()
+}
+
+/// The unfolded count and question 25, up to counts that no number of a machine holds.
+fn unfolded_counts(b: &Bench) -> Result<String, String> {
+    let asked = |pat: &[u8], number: u8| {
+        b.words(&E, pat, refused(number, 0))?;
+        b.counts(pat, Err(number))
+    };
+    b.counts(&rounds(2, 5, &P), Ok([8, 1, 36]))?;
+    b.counts(&rounds(0, 0, &S), Ok([6, 2, 1]))?;
+    let then = [&[0x25][..], &rounds(1, 3, &S), &P].concat();
+    b.counts(&then, Ok([14, 2, 24]))?;
+    let either = [
+        &[0x24][..],
+        &rounds(0, 2, &[0x21, 1]),
+        &rounds(3, 3, &[0x20]),
+    ]
+    .concat();
+    b.counts(&either, Ok([5, 0, 8]))?;
+    b.counts(&rounds(2, 2, &rounds(3, 3, &[0x21, 1])), Ok([3, 0, 9]))?;
+    // 63 and 64, before and after 14.
+    let sixty_one = rounds(0, 20, &[0x24, 0x20, 0x20]);
+    b.counts(&sixty_one, Ok([4, 0, 61]))?;
+    b.counts(&repeats(2, &sixty_one), Ok([6, 0, 63]))?;
+    asked(&repeats(3, &sixty_one), 25)?;
+    asked(&[&repeats(2, &sixty_one)[..], &[0x20]].concat(), 14)?;
+    asked(&[&repeats(3, &sixty_one)[..], &[0x20]].concat(), 14)?;
+    asked(&rounds(0, 4, &rounds(0, 15, &[0x20])), 25)?;
+    b.counts(&rounds(0, 3, &rounds(0, 19, &[0x20])), Ok([3, 0, 61]))?;
+    asked(&rounds(20, 20, &rounds(20, 20, &[0x20])), 25)?;
+    // 9 is about commands as written, and comes first.
+    asked(&repeats(62, &rounds(0, 0, &[0x20])), 9)?;
+    b.counts(&repeats(61, &rounds(0, 0, &[0x20])), Ok([63, 0, 62]))?;
+    b.counts(&repeats(60, &rounds(0, 2, &[0x20])), Ok([62, 0, 63]))?;
+    asked(&repeats(60, &rounds(0, 3, &[0x20])), 25)?;
+    // Twenty times twenty times .. : no number of a machine holds the count, and none of it is one.
+    for count in [2, 7, 8, 15, 16, 30, 40, 62] {
+        asked(&twenties(count, &[0x20]), 25)?;
+        asked(&twenties(count, &[0x20, 0x20]), 14)?;
+    }
+    asked(&twenties(63, &[0x20]), 9)?;
+    for count in [1, 2, 40, 61] {
+        let none = rounds(0, 0, &twenties(count, &[0x20]));
+        b.counts(&none, Ok([count as u32 + 2, 0, 1]))?;
+        b.counts(&[&none[..], &[0x20]].concat(), Err(14))?;
+        // Twenty times one is 20, whatever is inside that one.
+        if count < 61 {
+            b.counts(&rounds(20, 20, &none), Ok([count as u32 + 3, 0, 21]))?;
+        }
+    }
+    // A count that comes round to a small one in 8, 16, 32 or 64 bits.
+    let mut random = Random::new(1);
+    for bits in [8, 16, 32, 64] {
+        for small in [1, 17, 40, 63] {
+            let pat = counting_to(&mut random, (1 << bits) + small);
+            asked(&pat, 25)?;
+            asked(&[&pat[..], &[0x20]].concat(), 14)?;
+        }
+    }
+    ok()
+}
+
+/// The search size goes by the unfolded count; keeps count as they are written.
+fn round_sizes(b: &Bench) -> Result<String, String> {
+    let three_boats = boats(2, 3);
+    b.words(&three_boats, &rounds(2, 5, &[0x21, 3]), words_of(2 * 7))?;
+    b.words(&three_boats, &rounds(0, 0, &[0x21, 3]), words_of(2 * 2))?;
+    let keep = [0x27, 1, 0, 0x20];
+    b.words(&three_boats, &rounds(2, 5, &keep), words_of(2 * 12 * 4))?;
+    b.words(&three_boats, &rounds(0, 0, &keep), words_of(2 * 2 * 4))?;
+    b.words(&three_boats, &rounds(0, 0, &S), words_of(2 * 2 * 16))?;
+    let nested = [&[0x27, 1, 0][..], &rounds(1, 3, &keep)].concat();
+    b.words(&three_boats, &nested, words_of(2 * 9 * 16))?;
+    let none = rounds(0, 0, &twenties(40, &keep));
+    b.words(&three_boats, &none, words_of(2 * 2 * 4))?;
+    // The largest size: 1,024 places, an unfolded count of 15, one keep, 63 boats; and next to it.
+    let fifteen = [
+        &[0x27, 1, 0][..],
+        &repeats(4, &rounds(0, 3, &[0x26, 0x26, 0x21, 1])),
+    ]
+    .concat();
+    b.counts(&fifteen, Ok([9, 1, 15]))?;
+    b.words(&boats(1_024, 63), &fifteen, 4_202_496)?;
+    b.words(&boats(1_024, 64), &fifteen, refused(16, 0))?;
+    b.words(&boats(1_024, 63), &repeats(1, &fifteen), refused(16, 0))?;
+    let day = boats(1_024, 63);
+    b.check_in(ask(&day, &fifteen, 0, 0), &[0], 4_202_496, 1)?;
+    b.check_in(ask(&day, &fifteen, 0, 0), &[0], 4_202_495, refused(17, 0))?;
+    // Two rounds each need the words of a round more.
+    let two = rounds(2, 2, &[0x21, 1]);
+    b.check_in(
+        ask(&day, &two, 0, 0),
+        &[0, 1],
+        words_of(1_024 * 4) as usize,
+        1,
+    )?;
+    b.check_in(
+        ask(&day, &two, 0, 0),
+        &[0, 1],
+        words_of(1_024 * 3) as usize,
+        refused(17, 0),
+    )?;
+    ok()
+}
+
+/// 24 and 25 after the record and before 15; the area and the output are left as they were.
+fn round_order(b: &Bench) -> Result<String, String> {
+    let r = r();
+    let bad = rounds(1, 0, &[0x20]);
+    let large = twenties(40, &[0x20]);
+    for (pat, number) in [(&bad, 24), (&large, 25)] {
+        for words in [0, 9_000] {
+            b.check_in(ask(&r, pat, 9, 9), &[9], words, refused(number, 0))?;
+            b.find_in(ask(&r, pat, 9, 9), words, 3, refused(number, 0))?;
+            b.check_in(ask(&r, pat, 0, 3), &[9], words, refused(number, 0))?;
+            b.find_in(ask(&r, pat, 0, 3), words, 0, refused(number, 0))?;
+            b.check_in(ask(&[1, 0, 1], pat, 9, 9), &[9], words, refused(3, 0))?;
+            b.find_in(ask(&[1, 0, 1], pat, 9, 9), words, 3, refused(3, 0))?;
+        }
+    }
+    // 16 comes after 25: the places and boats would be too many for any count.
+    let many = boats(1_024, 64);
+    let kept = [&[0x27, 1, 0, 0x27, 1, 1, 0x27, 1, 2][..], &large].concat();
+    b.words(&many, &kept, refused(25, 0))?;
+    let one = [
+        &[0x27, 1, 0, 0x27, 1, 1, 0x27, 1, 2][..],
+        &rounds(0, 0, &large),
+    ]
+    .concat();
+    b.words(&many, &one, refused(16, 0))?;
+    ok()
+}
+
+/// A lap of one line, from a place to itself.
+fn one_line() -> Vec<u8> {
+    written(1, &[line(0, 3, 1, 1, 0)])
+}
+
+fn round_vectors(b: &Bench) -> Result<String, String> {
+    let rec = one_line();
+    let lap = [0x21, 3];
+    b.found(ask(&rec, &rounds(2, 5, &lap), 0, 0), &[0, 0])?;
+    b.found(ask(&rec, &rounds(0, 0, &lap), 0, 0), &[])?;
+    b.found(ask(&rec, &rounds(1, 3, &[0x20]), 0, 0), &[])?;
+    let beside = [&[0x25][..], &rounds(2, 5, &lap), &rounds(3, 3, &lap)].concat();
+    b.found(ask(&rec, &beside, 0, 0), &[0; 5])?;
+    let none = rounds(0, 0, &twenties(40, &lap));
+    b.found(ask(&rec, &none, 0, 0), &[])?;
+    b.check(ask(&rec, &none, 0, 0), &[0], 0)?;
+    // A course of so many legs, one line each: found where so many rounds are allowed.
+    let legs: Vec<Line> = (0..8).map(|i| line(i, 3, 1, 1, i + 1)).collect();
+    let course = written(9, &legs);
+    for length in 0..=8u16 {
+        let chain: Vec<u16> = (0..length).collect();
+        for (lowest, highest) in [(2, 5), (0, 3), (4, 4), (0, 0), (8, 20)] {
+            let pat = rounds(lowest, highest, &lap);
+            let asked = ask(&course, &pat, 0, length);
+            if (lowest as u16..=highest as u16).contains(&length) {
+                b.found(asked, &chain)?;
+            } else {
+                b.none(asked)?;
+                b.check(asked, &chain, 0)?;
+            }
+        }
+    }
+    // Rounds that may be empty: fewer rounds with lines are enough, and more are too many.
+    let pat = rounds(3, 5, &[0x24, 0x20, 0x21, 3]);
+    for length in 0..=8u16 {
+        let chain: Vec<u16> = (0..length).collect();
+        let asked = ask(&course, &pat, 0, length);
+        b.check(asked, &chain, (length <= 5) as u64)?;
+        if length <= 5 {
+            b.found(asked, &chain)?;
+        } else {
+            b.none(asked)?;
+        }
+    }
+    // Rounds of several lines, and of one length or another.
+    let two_or_three = [0x25, 0x24, 0x25, 0x21, 3, 0x21, 3, 0x21, 3, 0x21, 3];
+    for length in 0..=8u16 {
+        let chain: Vec<u16> = (0..length).collect();
+        let pat = rounds(2, 2, &two_or_three);
+        let asked = ask(&course, &pat, 0, length);
+        b.check(asked, &chain, (4..=6).contains(&length) as u64)?;
+    }
+    // The lower line at the first difference, whichever round it comes from.
+    let rec = written(
+        1,
+        &[
+            line(0, 1, 1, 1, 0),
+            line(0, 2, 1, 1, 0),
+            line(0, 1, 1, 2, 0),
+        ],
+    );
+    let either = [0x24, 0x21, 2, 0x21, 1];
+    b.found(ask(&rec, &rounds(3, 4, &either), 0, 0), &[0, 0, 0])?;
+    let second = [&[0x25, 0x21, 2][..], &rounds(1, 2, &either)].concat();
+    b.found(ask(&rec, &second, 0, 0), &[1, 0])?;
+    ok()
+}
+
+/// All counts up to 4 and some larger ones, of rounds of a line, of a line or nothing, of two
+/// lines and of repeats, on words of all lengths up to a few more than the rounds: yes exactly
+/// where the rounds can be made up of the lines.
+fn round_counts(b: &Bench) -> Result<String, String> {
+    let rec = one_line();
+    // A round, and the least and the most lines that it takes; all between are possible.
+    let bodies: [(&[u8], usize, usize); 5] = [
+        (&[0x21, 3], 1, 1),
+        (&[0x24, 0x20, 0x21, 3], 0, 1),
+        (&[0x25, 0x21, 3, 0x24, 0x20, 0x21, 3], 1, 2),
+        (&[0x26, 0x21, 3], 0, 99),
+        (&[0x20], 0, 0),
+    ];
+    let counts = (0..=4).flat_map(|low| (low..=4).map(move |high| (low, high)));
+    for (lowest, highest) in counts.chain([(0, 9), (7, 9), (9, 9)]) {
+        for (body, least, most) in bodies {
+            let pat = rounds(lowest, highest, body);
+            let asked = ask(&rec, &pat, 0, 0);
+            let (shortest, longest) = (lowest as usize * least, highest as usize * most);
+            b.found(asked, &vec![0; shortest])?;
+            for length in 0..=(longest + 2).min(20) {
+                let yes = (shortest..=longest).contains(&length);
+                b.check(asked, &vec![0; length], yes as u64)?;
+            }
+        }
+    }
+    ok()
+}
+
+/// A boat kept in a round is that round's; one kept outside is there in every round.
+fn round_boats(b: &Bench) -> Result<String, String> {
+    let t = t();
+    let own = [0x27, 1, 0, 0x22, 1, 0];
+    let pat = rounds(2, 2, &own);
+    b.found(ask(&t, &pat, 0, 0), &[0, 0, 0, 0])?;
+    b.check(ask(&t, &pat, 0, 0), &[0, 0, 1, 1], 1)?;
+    b.check(ask(&t, &pat, 0, 0), &[0, 1, 1, 0], 0)?;
+    b.check(ask(&t, &pat, 0, 0), &[0, 0, 0, 1], 0)?;
+    // Entered; in each round that boat, and then any boat kept in the same slot.
+    let rec = written(
+        1,
+        &[
+            line(0, 1, 1, 1, 0),
+            line(0, 2, 1, 2, 0),
+            line(0, 2, 1, 1, 0),
+        ],
+    );
+    for (lowest, highest) in [(2, 2), (1, 2), (2, 3)] {
+        let round = rounds(lowest, highest, &[0x25, 0x22, 2, 0, 0x27, 2, 0, 0x20]);
+        let pat = [&[0x27, 1, 0][..], &round].concat();
+        let asked = ask(&rec, &pat, 0, 0);
+        b.check(asked, &[0, 2, 1, 2, 1], 1)?;
+        b.check(asked, &[0, 2, 1, 1, 1], 0)?;
+        b.check(asked, &[0, 2, 2, 2, 2], 1)?;
+    }
+    let round = rounds(2, 2, &[0x25, 0x23, 2, 0, 0x27, 2, 0, 0x20]);
+    let others = [&[0x27, 1, 0][..], &round].concat();
+    b.found(ask(&rec, &others, 0, 0), &[0, 1, 1, 1, 1])?;
+    b.check(ask(&rec, &others, 0, 0), &[0, 1, 1, 2, 1], 0)?;
+    // The outer boat is back after the rounds.
+    let after = [
+        &[0x27, 1, 0, 0x25][..],
+        &rounds(1, 2, &[0x27, 2, 0, 0x20]),
+        &[0x22, 2, 0],
+    ]
+    .concat();
+    b.found(ask(&rec, &after, 0, 0), &[0, 1, 2])?;
+    b.check(ask(&rec, &after, 0, 0), &[0, 1, 1], 0)?;
+    // An unread number in one round says nothing of the next.
+    let rec = written(
+        1,
+        &[
+            line(0, 1, 0, 0, 0),
+            line(0, 1, 1, 1, 0),
+            line(0, 2, 1, 1, 0),
+        ],
+    );
+    let pat = rounds(2, 2, &[0x27, 1, 0, 0x24, 0x20, 0x22, 2, 0]);
+    b.found(ask(&rec, &pat, 0, 0), &[0, 0])?;
+    b.check(ask(&rec, &pat, 0, 0), &[0, 1, 2], 1)?;
+    b.check(ask(&rec, &pat, 0, 0), &[0, 2, 1], 0)?;
+    ok()
+}
+
+/// Rounds in rounds, in repeats and around repeats.
+fn round_nests(b: &Bench) -> Result<String, String> {
+    let rec = one_line();
+    let check = |pat: &[u8], lengths: &[usize]| -> Done {
+        for length in 0..=14 {
+            let yes = lengths.contains(&length) as u64;
+            b.check(ask(&rec, pat, 0, 0), &vec![0; length], yes)?;
+        }
+        b.found(ask(&rec, pat, 0, 0), &vec![0; lengths[0]])
+    };
+    let lap = [0x21, 3];
+    check(&rounds(2, 2, &rounds(3, 3, &lap)), &[6])?;
+    check(
+        &rounds(2, 3, &rounds(3, 4, &lap)),
+        &[6, 7, 8, 9, 10, 11, 12],
+    )?;
+    check(&rounds(1, 2, &rounds(4, 5, &lap)), &[4, 5, 8, 9, 10])?;
+    check(&rounds(0, 2, &rounds(0, 2, &lap)), &[0, 1, 2, 3, 4])?;
+    check(&rounds(2, 2, &rounds(2, 2, &rounds(2, 2, &lap))), &[8])?;
+    check(&rounds(1, 1, &rounds(1, 1, &rounds(1, 1, &lap))), &[1])?;
+    check(
+        &[&[0x26][..], &rounds(3, 3, &lap)].concat(),
+        &[0, 3, 6, 9, 12],
+    )?;
+    check(
+        &[&[0x26][..], &rounds(4, 5, &lap)].concat(),
+        &[0, 4, 5, 8, 9, 10, 12, 13, 14],
+    )?;
+    check(
+        &rounds(2, 2, &[0x25, 0x21, 3, 0x26, 0x21, 3]),
+        &(2..=14).collect::<Vec<_>>(),
+    )?;
+    // Deep in each other: 62 commands, one round each.
+    let deep = [&[0x2A, 1, 1].repeat(62)[..], &lap].concat();
+    b.counts(&deep, Ok([63, 0, 63]))?;
+    check(&deep, &[1])?;
+    let open = [&[0x2A, 0, 1].repeat(62)[..], &lap].concat();
+    check(&open, &[0, 1])?;
     ok()
 }
 
@@ -1616,6 +2052,51 @@ fn largest_by_class(b: &Bench) -> Result<String, String> {
     Ok(format!("{:?} with the comparison", clock.elapsed()))
 }
 
+/// Requests of the largest search size with rounds: 16 positions, 63 boats, one keep.
+fn largest_of_rounds(b: &Bench) -> Result<String, String> {
+    let clock = Instant::now();
+    // Two rings that don't meet; each line comes twice, with different boats.
+    let mut lines = Vec::new();
+    for i in 0..1_024 {
+        let half = i / 512 * 512;
+        for shift in [0, 7] {
+            let to = half + (i + 1) % 512;
+            lines.push(line(i, 1, 1, (i as u32 + shift) % 63, to));
+        }
+    }
+    lines.push(line(300, 2, 1, 0, 301));
+    let rec = written(1_024, &lines);
+    // A boat kept; so many rounds of any number of others; and that boat once more.
+    for (lowest, highest, rest) in [(0, 4, 3), (4, 4, 3), (2, 2, 7), (1, 5, 1)] {
+        let round = rounds(lowest, highest, &[0x26, 0x23, 1, 0]);
+        let pat = [
+            &repeats(rest, &[0x27, 1, 0, 0x25])[..],
+            &round,
+            &[0x22, 2, 0],
+        ]
+        .concat();
+        b.words(&rec, &pat, 4_202_496)?;
+        b.find_in(ask(&rec, &pat, 0, 301), 4_202_496, 301, 301)?;
+        b.find_in(ask(&rec, &pat, 0, 301), 4_202_496, 300, refused(19, 301))?;
+        b.find_in(ask(&rec, &pat, 0, 600), 4_202_496, 300, NO_CHAIN)?;
+    }
+    // Twelve lines and then the one of kind 2: from the place twelve lines before it alone.
+    let pat = [&[0x25][..], &rounds(12, 12, &[0x21, 1]), &[0x21, 2]].concat();
+    b.find_in(
+        ask(&rec, &pat, 288, 301),
+        exact(ask(&rec, &pat, 0, 0)),
+        13,
+        13,
+    )?;
+    b.find_in(
+        ask(&rec, &pat, 287, 301),
+        exact(ask(&rec, &pat, 0, 0)),
+        13,
+        NO_CHAIN,
+    )?;
+    Ok(format!("{:?} with the comparison", clock.elapsed()))
+}
+
 /// Commands, and the deepest nesting of keeps; refusals as they come before the room.
 fn pattern_counts(b: &Bench) -> Result<String, String> {
     let keep = [0x27, 1, 0];
@@ -1628,7 +2109,7 @@ fn pattern_counts(b: &Bench) -> Result<String, String> {
     b.pattern(&[&three[..], &[0x20]].concat(), Ok([4, 3]))?;
     b.pattern(&beside, Ok([5, 1]))?;
     b.pattern(&[], Err(8))?;
-    b.pattern(&[0x2A], Err(8))?;
+    b.pattern(&[0x2B], Err(8))?;
     b.pattern(&repeats(63, &[0x20]), Err(9))?;
     b.pattern(&[0x21], Err(10))?;
     b.pattern(&[0x21, 0], Err(11))?;

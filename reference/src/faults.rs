@@ -1,5 +1,5 @@
 //! Planted faults: copies of this program, each wrong in one way that a reader of document 01
-//! or of requests One and Two could fall into. The comparison must tell every one of them from
+//! or of requests One to Three could fall into. The comparison must tell every one of them from
 //! this program, so that its silence about the library says something.
 
 mod faulty;
@@ -42,6 +42,20 @@ pub enum Fault {
     SixteenCommands,
     Never12OfSister,
     Never12OfForeign,
+    // Reading counted patterns.
+    CountsAsOperands,
+    Asks24Inside,
+    TwentyOneRounds,
+    EqualCountsRefused,
+    LowestAbove,
+    Asks9Unfolded,
+    Asks25AsWritten,
+    Asks25Before14,
+    Asks25After15,
+    CountsNoRounds,
+    CountIn8Bits,
+    CountIn32Bits,
+    CountIn64Bits,
     // Sizes.
     SizeByAllKeeps,
     SizeBySlots,
@@ -50,6 +64,9 @@ pub enum Fault {
     SizeWithoutOne,
     SizeWithoutUnread,
     SizeWraps,
+    SizeAsWritten,
+    KeepsOfNoRounds,
+    SizeByKeepsOfRounds,
     // The order of questions.
     Asks16Before15,
     Asks17Before15,
@@ -79,6 +96,14 @@ pub enum Fault {
     ForeignOfUnreadLine,
     ForeignOfUnreadSlot,
     SisterAndForeign,
+    // So many rounds.
+    HighestLeftOut,
+    HighestExcluded,
+    OneRoundMore,
+    LowestNotWanted,
+    EndsOnly,
+    EmptyRoundsLeftOut,
+    RoundBoatStays,
     // The checker.
     AnyStart,
     AnyEnd,
@@ -134,6 +159,10 @@ pub enum Fault {
     CountsSwapped,
     ShortCounts,
     RoomBeforePattern,
+    UnfoldedBeforeKeeps,
+    UnfoldedAsWritten,
+    TwoCounts,
+    ThirdOfTwo,
 }
 
 /// A fault, in words, and the sorts of rounds that meet it.
@@ -179,6 +208,19 @@ pub const PLANTED: &[Planted] = &[
     planted(SixteenCommands, BCF, "8 by the range from 20 to 2F"),
     planted(Never12OfSister, BCF, "does not ask 12 of 28"),
     planted(Never12OfForeign, BCF, "does not ask 12 of 29"),
+    planted(CountsAsOperands, BCF, "asks 11 of the two counts of 2A as of a kind and a slot"),
+    planted(Asks24Inside, B, "asks 24 after what stands inside was read"),
+    planted(TwentyOneRounds, BCF, "lets a highest count of 21 pass"),
+    planted(EqualCountsRefused, BCF, "refuses a 2A whose two counts are equal"),
+    planted(LowestAbove, BCF, "lets a lowest count above the highest pass"),
+    planted(Asks9Unfolded, BCF, "gives 9 where the unfolded count is above 63"),
+    planted(Asks25AsWritten, BCF, "asks 25 of the commands as written"),
+    planted(Asks25Before14, B, "asks 25 before 14"),
+    planted(Asks25After15, CF, "asks 25 after 15"),
+    planted(CountsNoRounds, BCF, "counts what stands in 2A 00 00 once"),
+    planted(CountIn8Bits, BCF, "counts unfolded commands in 8 bits"),
+    planted(CountIn32Bits, BCF, "counts unfolded commands in 32 bits"),
+    planted(CountIn64Bits, BCF, "counts unfolded commands in 64 bits"),
     planted(SizeByAllKeeps, BCF, "takes all keeps of the pattern for the power in the search size"),
     planted(SizeBySlots, BCF, "takes the different slots for the power in the search size"),
     planted(SizeByLines, BCF, "counts lines, not boats, in the search size"),
@@ -186,6 +228,9 @@ pub const PLANTED: &[Planted] = &[
     planted(SizeWithoutOne, BCF, "leaves out the one in boats + 1"),
     planted(SizeWithoutUnread, BCF, "leaves unread numbers out of the count of boats"),
     planted(SizeWraps, &[], "multiplies the search size in 32 bits"),
+    planted(SizeAsWritten, BCF, "takes the commands as written for the search size"),
+    planted(KeepsOfNoRounds, BCF, "leaves keeps in 2A 00 00 out of the power in the search size"),
+    planted(SizeByKeepsOfRounds, BCF, "takes a keep once for each round for the power in the search size"),
     planted(Asks16Before15, CF, "asks 16 before 15"),
     planted(Asks17Before15, CF, "asks 17 before 15"),
     planted(Asks17Before16, CF, "asks 17 before 16"),
@@ -211,6 +256,13 @@ pub const PLANTED: &[Planted] = &[
     planted(ForeignOfUnreadLine, CF, "29 compares an unread line's class"),
     planted(ForeignOfUnreadSlot, CF, "29 compares an unread slot's class"),
     planted(SisterAndForeign, CF, "28 and 29 taken for each other"),
+    planted(HighestLeftOut, CF, "lets any more rounds pass than the highest count"),
+    planted(HighestExcluded, CF, "takes the highest count for the first that is too many"),
+    planted(OneRoundMore, CF, "lets one round more pass than the highest count"),
+    planted(LowestNotWanted, CF, "does not want the lowest count of rounds"),
+    planted(EndsOnly, CF, "wants the lowest count of rounds or the highest, and none between"),
+    planted(EmptyRoundsLeftOut, CF, "counts no round that takes no line"),
+    planted(RoundBoatStays, CF, "a boat kept in a round is seen in the next"),
     planted(AnyStart, C, "says yes wherever the chain begins"),
     planted(AnyEnd, C, "says yes wherever the chain ends"),
     planted(NoForMissingLine, C, "says no where a line does not exist"),
@@ -260,6 +312,10 @@ pub const PLANTED: &[Planted] = &[
     planted(CountsSwapped, B, "gives keeps before commands"),
     planted(ShortCounts, B, "writes commands where one word is lent for both counts"),
     planted(RoomBeforePattern, B, "says 0 for too few words before it asks about the pattern"),
+    planted(UnfoldedBeforeKeeps, B, "gives the unfolded count before the keeps"),
+    planted(UnfoldedAsWritten, B, "gives the commands as written for the unfolded count"),
+    planted(TwoCounts, B, "gives two counts where three words are lent"),
+    planted(ThirdOfTwo, B, "writes a third count where two words are lent"),
 ];
 
 /// What found a fault, and after how many requests.

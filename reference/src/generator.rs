@@ -1,8 +1,9 @@
 //! Requests made at random, leaning towards what goes wrong: laps and self-loops, so that
 //! chains get longer than the list of places; nested keeps that use a slot again; one
 //! sail number in two classes, and several numbers in one; days with many unread numbers;
-//! patterns that accept the empty word under repeat; every question at its edge; damaged
-//! bytes; areas and outputs that fit exactly or just don't.
+//! patterns that accept the empty word under repeat; rounds that are counted, in each other,
+//! with keeps in them, empty, and a round more or less than allowed; every question at its
+//! edge; damaged bytes; areas and outputs that fit exactly or just don't.
 
 use crate::membership::{compared, takes, Letter, Valuation};
 use crate::pattern::{read_pattern, Node, Rule};
@@ -99,7 +100,8 @@ fn any_boat(random: &mut Random, pool: &Pool) -> Boat {
 
 // ---- patterns
 
-/// The bytes of a pattern with at most so many commands.
+/// The bytes of a pattern whose unfolded count is at most so much, but for rounds that are made
+/// too large on purpose.
 fn grown(random: &mut Random, pool: &Pool, most: usize) -> Vec<u8> {
     let mut bytes = Vec::new();
     grow(random, pool, most, &mut Vec::new(), &mut bytes);
@@ -107,7 +109,7 @@ fn grown(random: &mut Random, pool: &Pool, most: usize) -> Vec<u8> {
 }
 
 fn grow(random: &mut Random, pool: &Pool, most: usize, around: &mut Vec<u8>, bytes: &mut Vec<u8>) {
-    let choice = if most == 1 { 0 } else { random.below(20) };
+    let choice = if most == 1 { 0 } else { random.below(25) };
     match choice {
         0..=2 => grow_leaf(random, pool, around, bytes),
         3..=11 if most >= 3 => {
@@ -127,11 +129,34 @@ fn grow(random: &mut Random, pool: &Pool, most: usize, around: &mut Vec<u8>, byt
             grow(random, pool, most - 1, around, bytes);
             around.pop();
         }
+        20..=24 => {
+            let highest = highest(random, most - 1);
+            bytes.extend([0x2A, lowest(random, highest), highest]);
+            let inside = if random.once_in(12) {
+                most - 1
+            } else {
+                (most - 1) / highest.max(1) as usize
+            };
+            grow(random, pool, inside, around, bytes);
+        }
         _ => {
             bytes.push(0x26);
             grow(random, pool, most - 1, around, bytes);
         }
     }
+}
+
+/// A highest count of rounds that leaves one of `most` commands for each round.
+fn highest(random: &mut Random, most: usize) -> u8 {
+    let any = random.between(1, most.min(20));
+    let small = random.pick(&[0, 1, 1, 2, 2, 2, 3, 3, 4, 5]);
+    random.pick(&[any, small, small, small]).min(most) as u8
+}
+
+/// A lowest count that goes with it: both ends, and what is between.
+fn lowest(random: &mut Random, highest: u8) -> u8 {
+    let any = random.between(0, highest as usize) as u8;
+    random.pick(&[0, any, any, highest])
 }
 
 fn grow_leaf(random: &mut Random, pool: &Pool, around: &[u8], bytes: &mut Vec<u8>) {
@@ -152,19 +177,129 @@ fn any_test(random: &mut Random) -> u8 {
     random.pick(&[0x22, 0x22, 0x22, 0x23, 0x23, 0x28, 0x28, 0x28, 0x29, 0x29])
 }
 
-/// A pattern of so many commands whose keeps nest so deep, for sizes at their edge.
-fn padded(random: &mut Random, commands: usize, keeps: usize) -> Vec<u8> {
+/// A pattern with this unfolded count whose keeps nest so deep, for sizes at their edge.
+fn padded(random: &mut Random, unfolded: usize, keeps: usize) -> Vec<u8> {
     let mut bytes = Vec::new();
     for _ in 0..keeps {
         bytes.extend([0x27, 1, random.below(4) as u8]);
     }
-    bytes.extend(vec![0x26; commands - keeps - 1]);
+    let left = unfolded - keeps;
+    if random.once_in(2) {
+        bytes.extend(vec![0x26; left - 1]);
+        bytes.extend([0x21, 1]);
+    } else {
+        bytes.extend(counting_to(random, left as u128));
+    }
+    bytes
+}
+
+/// A pattern with this unfolded count: a line in repeats and rounds. A large count is taken apart
+/// with few repeats, so that nearly every one up to 2^64 and somewhat more has 63 commands at most.
+pub fn counting_to(random: &mut Random, unfolded: u128) -> Vec<u8> {
+    let mut bytes = Vec::new();
+    let mut left = unfolded;
+    while left > 1 {
+        let inside = left - 1;
+        let wanted = if left > 64 {
+            // The one that divides it with the fewest repeats before.
+            (13..=20).rev().min_by_key(|highest| inside % highest)
+        } else {
+            Some(random.between(1, 6) as u128)
+        };
+        match wanted {
+            Some(highest) if highest > 1 && inside.is_multiple_of(highest) => {
+                let highest = highest as u8;
+                bytes.extend([0x2A, lowest(random, highest), highest]);
+                left = inside / highest as u128;
+            }
+            _ => {
+                bytes.push(0x26);
+                left = inside;
+            }
+        }
+    }
     bytes.extend([0x21, 1]);
     bytes
 }
 
-/// Patterns at the edges of questions 8 to 14.
+/// Patterns at the edges of questions 24 and 25.
+fn edge_of_rounds(random: &mut Random) -> Vec<u8> {
+    let nests = |count: usize| [0x2A, 20, 20].repeat(count);
+    let small = random.between(1, 63) as u128;
+    let highest = highest(random, 20);
+    let slot = random.below(4) as u8;
+    match random.below(20) {
+        // Operands that are not there, and nothing inside.
+        0 => vec![0x2A, 0, 0][..random.between(1, 3)].to_vec(),
+        // Counts at their edges; what is inside is read after them.
+        1 => {
+            let lowest = random.pick(&[0, 19, 20, 21]);
+            let highest = random.pick(&[20, 21, 21, 255]);
+            [
+                &[0x2A, lowest, highest][..],
+                random.pick(&[&[0x20][..], &[], &[0xFF]]),
+            ]
+            .concat()
+        }
+        2 => vec![
+            0x2A,
+            highest,
+            highest.saturating_sub(1),
+            random.pick(&[0x20, 0xFF]),
+        ],
+        3 => vec![0x2A, highest, highest, 0x21, 1],
+        4 => vec![0x26; 61]
+            .into_iter()
+            .chain([0x2A, 0, 1, 0x20])
+            .collect(),
+        5 => vec![0x26; 62]
+            .into_iter()
+            .chain([0x2A, 0, 1, 0x20])
+            .collect(),
+        6 => vec![0x26; 63].into_iter().chain([0x2A, 0]).collect(),
+        // Unfolded counts at the edge, and a byte after the pattern.
+        7..=9 => {
+            let count = random.pick(&[62, 63, 63, 64, 64, 65, 70, 100]);
+            counting_to(random, count)
+        }
+        10 => {
+            let count = random.pick(&[63, 64, 65]);
+            [counting_to(random, count), vec![0x20]].concat()
+        }
+        // Counts that come round to a small number.
+        11 => {
+            let times = random.between(1, 5) as u128;
+            counting_to(random, (times << 8) + small)
+        }
+        12 => counting_to(random, (1 << 32) + small),
+        13 => counting_to(random, (1 << 64) + small),
+        // Rounds in each other, in none, and with a byte after them.
+        14 => {
+            let count = random.between(1, 62);
+            [nests(count), vec![0x20]].concat()
+        }
+        15 | 16 => {
+            let nests = nests(random.between(1, 62));
+            let end = random.pick(&[&[0x20][..], &[0x20], &[0x20, 0x20], &[0x21, 0]]);
+            [&[0x2A, 0, 0][..], &nests, end].concat()
+        }
+        // Keeps around rounds and in them, none of which may come.
+        17 => vec![0x27, 1, 0, 0x27, 1, 1, 0x2A, 0, 0, 0x27, 1, 2, 0x20],
+        18 => vec![
+            0x27, 1, 0, 0x27, 1, 1, 0x2A, 0, highest, 0x27, 1, 2, 0x27, 1, slot, 0x20,
+        ],
+        // A keep in a round, and a test after it.
+        _ => vec![
+            0x25, 0x2A, 1, 2, 0x27, 1, slot, 0x22, 1, slot, 0x22, 1, slot,
+        ],
+    }
+}
+
+/// Patterns at the edges of the questions 8 to 14, 24 and 25.
 fn edge_pattern(random: &mut Random) -> Vec<u8> {
+    if random.once_in(2) {
+        return edge_of_rounds(random);
+    }
     let repeats = |count: usize, then: &[u8]| {
         let mut bytes = vec![0x26; count];
         bytes.extend(then);
@@ -206,7 +341,7 @@ fn edge_pattern(random: &mut Random) -> Vec<u8> {
 
 /// Patterns that are known to be hard to get right.
 fn known_pattern(random: &mut Random) -> Vec<u8> {
-    let known: [&[u8]; 14] = [
+    let known: [&[u8]; 24] = [
         &[
             0x27, 1, 0, 0x25, 0x22, 2, 0, 0x25, 0x26, 0x22, 3, 0, 0x22, 15, 0,
         ],
@@ -228,6 +363,24 @@ fn known_pattern(random: &mut Random) -> Vec<u8> {
         ],
         &[
             0x27, 1, 2, 0x27, 1, 2, 0x25, 0x26, 0x27, 1, 2, 0x23, 1, 2, 0x22, 1, 2,
+        ],
+        // So many laps; rounds that may be empty; rounds of rounds, and beside rounds.
+        &[
+            0x27, 1, 0, 0x25, 0x22, 2, 0, 0x25, 0x2A, 2, 3, 0x22, 3, 0, 0x22, 15, 0,
+        ],
+        &[0x2A, 1, 3, 0x24, 0x20, 0x25, 0x21, 1, 0x21, 2],
+        &[0x2A, 2, 4, 0x26, 0x21, 1],
+        &[0x25, 0x2A, 2, 4, 0x24, 0x20, 0x21, 1, 0x21, 2],
+        &[0x2A, 2, 2, 0x2A, 1, 3, 0x21, 1],
+        &[0x26, 0x2A, 2, 2, 0x21, 1],
+        &[
+            0x25, 0x2A, 0, 2, 0x21, 1, 0x2A, 1, 2, 0x24, 0x21, 1, 0x21, 2,
+        ],
+        // A boat kept in each round; one kept outside, which each round has again.
+        &[0x2A, 2, 3, 0x27, 1, 0, 0x25, 0x26, 0x21, 2, 0x22, 1, 0],
+        &[0x27, 1, 0, 0x2A, 1, 2, 0x25, 0x22, 1, 0, 0x27, 1, 0, 0x20],
+        &[
+            0x27, 1, 0, 0x2A, 2, 2, 0x25, 0x23, 1, 0, 0x27, 1, 0, 0x24, 0x20, 0x22, 2, 0,
         ],
     ];
     random.pick(&known).to_vec()
@@ -272,6 +425,17 @@ fn sampled(
             }
             word
         }
+        Node::Counted {
+            lowest,
+            highest,
+            inner,
+        } => {
+            let mut word = Vec::new();
+            for _ in 0..times(random, *lowest, *highest, inner) {
+                word.extend(sampled(random, pool, inner, v, rounds / 2));
+            }
+            word
+        }
         Node::Keep { kind, slot, inner } => {
             let boat = any_boat(random, pool);
             let mut inside = v;
@@ -283,12 +447,25 @@ fn sampled(
     }
 }
 
+/// How many rounds: both ends and what is between; but one in five is a round too many or too
+/// few, unless a round is rounds itself, or is far too long where none may come.
+fn times(random: &mut Random, lowest: u8, highest: u8, inner: &Node) -> usize {
+    let (lowest, highest) = (lowest as usize, highest as usize);
+    let short = !matches!(inner, Node::Counted { .. }) && inner.unfolded() <= 63;
+    if short && random.once_in(5) {
+        return random.pick(&[highest + 1, highest + 1, lowest.saturating_sub(1)]);
+    }
+    let any = random.between(lowest, highest);
+    random.pick(&[lowest, any, any, highest])
+}
+
 /// A boat that the rule takes, this one being kept, of the pool if it has any; but one in eight is
-/// any boat of the pool, or one with the kept boat's class.
+/// any boat of the pool, one with the kept boat's class, or unread in a day with such numbers.
 fn taken(random: &mut Random, pool: &Pool, rule: Rule, kept: Boat) -> Boat {
     if random.once_in(8) {
         let any = random.pick(&pool.boats);
-        return random.pick(&[any, boat(kept.class, any.sail)]);
+        let unread = if pool.unread { UNREAD } else { any };
+        return random.pick(&[any, boat(kept.class, any.sail), unread]);
     }
     let boats = pool.boats.iter().copied();
     let taken: Vec<Boat> = boats
@@ -332,9 +509,16 @@ fn next_place(random: &mut Random, place: u16, places: u16) -> u16 {
     }
 }
 
-/// A day in which a chain has this word, among lines that look alike.
-fn laid_out(random: &mut Random, pool: &Pool, word: &[Letter], places: u16) -> Day {
-    let from = random.below(places as usize) as u16;
+/// A day in which a chain has this word, among lines that look alike. On a straight course each
+/// line of it leads on to the next place, so that no shorter chain gets there.
+fn laid_out(random: &mut Random, pool: &Pool, word: &[Letter]) -> Day {
+    let straight = word.len() < 40 && random.once_in(4);
+    let (from, places) = if straight {
+        (0, word.len() as u16 + 1)
+    } else {
+        let places = random.pick(&[1, 1, 2, 2, 3, 4, 5, 9]);
+        (random.below(places as usize) as u16, places)
+    };
     let mut lines: Vec<Line> = Vec::new();
     let mut chain = Vec::new();
     let mut place = from;
@@ -353,7 +537,11 @@ fn laid_out(random: &mut Random, pool: &Pool, word: &[Letter], places: u16) -> D
                 kind: letter.kind,
                 class: letter.boat.class,
                 sail: letter.boat.sail,
-                to: next_place(random, place, places),
+                to: if straight {
+                    place + 1
+                } else {
+                    next_place(random, place, places)
+                },
             });
             lines.len() - 1
         };
@@ -560,16 +748,27 @@ pub fn damage_pattern(random: &mut Random, bytes: &mut Vec<u8>) {
     let at = random.below(bytes.len() + 1);
     match random.below(8) {
         0 => bytes.truncate(at),
-        1 => bytes.push(random.pick(&[0x20, 0x21, 0x26, 0xFF, 0])),
+        1 => bytes.push(random.pick(&[0x20, 0x21, 0x26, 0x2A, 0xFF, 0])),
         2 => set(bytes, at, &[random.byte()]),
         3 => {
             let byte = random.between(0x27, 0x30) as u8;
             set(bytes, at, &[random.pick(&[0x1F, 0x20, byte, byte, 0xFF])])
         }
-        4 => set(bytes, at, &[random.pick(&[0, 1, 3, 4, 15, 16, 255])]),
+        4 => set(
+            bytes,
+            at,
+            &[random.pick(&[0, 1, 3, 4, 15, 16, 20, 21, 255])],
+        ),
         5 => {
             let test = any_test(random);
-            bytes.insert(at, random.pick(&[0x20, 0x21, test, 0x25, 0x26, 0x27]))
+            let command = random.pick(&[0x20, 0x21, test, 0x25, 0x26, 0x27, 0x2A]);
+            bytes.insert(at, command);
+            if command == 0x2A {
+                bytes.splice(
+                    at + 1..at + 1,
+                    [random.pick(&[0, 1, 2, 3]), random.pick(&[1, 2, 3, 20])],
+                );
+            }
         }
         6 => {
             if at < bytes.len() {
@@ -618,7 +817,7 @@ pub fn any_bytes(random: &mut Random) -> (Vec<u8>, Vec<u8>) {
             pat.clear();
             for _ in 0..random.below(12) {
                 let byte = random.byte();
-                let (command, near) = (0x20 + byte % 10, 0x20 + (byte & 15));
+                let (command, near) = (0x20 + byte % 11, 0x20 + (byte & 15));
                 pat.push(random.pick(&[command, command, near, byte & 15, byte & 3, byte]));
             }
         }
@@ -663,8 +862,7 @@ pub fn request(random: &mut Random) -> Request {
             if word.len() > 150 {
                 word = sampled(random, &pool, &tree.root, [None; 4], 0);
             }
-            let places = random.pick(&[1, 1, 2, 2, 3, 4, 5, 9]);
-            laid_out(random, &pool, &word, places)
+            laid_out(random, &pool, &word)
         }
         _ => unplanned(random, &pool),
     };

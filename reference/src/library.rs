@@ -100,15 +100,20 @@ pub fn read_values(rec: &[u8], number: u16, fields: &[u32]) -> (u64, Vec<u32>) {
 }
 
 /// The reply of reading a pattern, and the counts after it: as with a line's fields, the
-/// questions come first, and fewer than two words get nothing.
+/// questions come first, and fewer than two words get nothing. Two get commands and keeps, a
+/// third the unfolded count.
 pub fn pattern_values(pat: &[u8], counts: &[u32]) -> (u64, Vec<u32>) {
     let mut after = counts.to_vec();
     match read_pattern(pat) {
         Err(number) => (refused(number, 0), after),
         Ok(_) if counts.len() < 2 => (0, after),
         Ok(pattern) => {
-            after[..2].copy_from_slice(&[pattern.commands as u32, pattern.keeps as u32]);
-            (2, after)
+            let counts = [pattern.commands, pattern.keeps, pattern.unfolded];
+            let written = after.len().min(counts.len());
+            for (word, count) in after.iter_mut().zip(counts) {
+                *word = count as u32;
+            }
+            (written as u64, after)
         }
     }
 }

@@ -1,8 +1,9 @@
 //! The pattern as a machine with steps that take a line and steps that take none.
 //!
-//! A state of the machine is a spot and the stack of boats kept so far, each with its
-//! slot. Going into a keep pushes a boat, coming out of it pops one: an outer keep's
-//! boat of the same slot is then on top again.
+//! A state of the machine is a spot, the stack of boats kept so far, each with its slot, and how
+//! many rounds are done of each counted pattern around the spot. Going into a keep pushes a boat,
+//! coming out of it pops one: an outer keep's boat of the same slot is then on top again. A counted
+//! pattern is built once, and its rounds are counted.
 
 use crate::pattern::{Node, Rule, DEEPEST};
 use crate::record::{Line, Record};
@@ -32,8 +33,20 @@ pub(crate) enum Spot {
     Fork { one: usize, two: usize },
     /// Comes out of a keep, taking no line.
     Leave { next: usize },
+    /// Stands before the first round of a counted pattern.
+    First { rounds: Rounds, next: usize },
+    /// Stands after each round of it.
+    Again { rounds: Rounds, next: usize },
     /// The whole pattern is done.
     Done,
+}
+
+/// How many rounds are wanted, and where one starts.
+#[derive(Clone, Copy, Debug)]
+pub(crate) struct Rounds {
+    lowest: u8,
+    highest: u8,
+    body: usize,
 }
 
 #[derive(Clone, Copy, Debug)]
@@ -93,7 +106,7 @@ impl Stack {
         self
     }
 
-    pub(crate) fn popped(mut self) -> Stack {
+    fn popped(mut self) -> Stack {
         self.depth -= 1;
         self.kept[self.depth as usize] = Kept::default();
         self
@@ -109,16 +122,40 @@ impl Stack {
     }
 }
 
-/// A state between two lines: at a spot that takes a line, or done.
+/// A state; between two lines it is at a spot that takes a line, or done.
 #[derive(Clone, Copy, PartialEq, Eq, PartialOrd, Ord, Hash, Debug)]
 pub struct State {
     pub(crate) spot: u8,
+    /// The rounds done of the counted patterns around the spot, the innermost one's the lowest
+    /// digit, each digit below the pattern's highest count. The product of these counts is below
+    /// the unfolded count, so it is a number below 63.
+    pub(crate) rounds: u8,
     pub(crate) stack: Stack,
+}
+
+impl State {
+    pub(crate) fn at(self, spot: usize) -> State {
+        State {
+            spot: spot as u8,
+            ..self
+        }
+    }
+
+    fn counted(self, rounds: u8) -> State {
+        State { rounds, ..self }
+    }
+
+    fn popped(self) -> State {
+        State {
+            stack: self.stack.popped(),
+            ..self
+        }
+    }
 }
 
 pub struct Machine {
     pub(crate) spots: Vec<Spot>,
-    pub(crate) start: usize,
+    start: usize,
     done: usize,
 }
 
@@ -133,10 +170,19 @@ impl Machine {
         }
     }
 
+    /// The state before everything.
+    pub(crate) fn start(&self) -> State {
+        State {
+            spot: self.start as u8,
+            rounds: 0,
+            stack: Stack::default(),
+        }
+    }
+
     /// The states before the first line.
     pub fn begin(&self) -> Vec<State> {
         let mut states = Vec::new();
-        self.settle(self.start, Stack::default(), &mut states);
+        self.settle(self.start(), &mut states);
         states
     }
 
@@ -146,7 +192,7 @@ impl Machine {
             return;
         };
         if let Some(stack) = test.passed(state.stack, line, boat) {
-            self.settle(next, stack, after);
+            self.settle(State { stack, ..state }.at(next), after);
         }
     }
 
@@ -154,27 +200,44 @@ impl Machine {
         state.spot as usize == self.done
     }
 
+    /// Where a state goes on to without a line, or `None` where it stays for one or is done.
+    pub(crate) fn silent(&self, state: State) -> Option<[Option<State>; 2]> {
+        Some(match self.spots[state.spot as usize] {
+            Spot::Take { .. } | Spot::Done => return None,
+            Spot::Fork { one, two } => [Some(state.at(one)), Some(state.at(two))],
+            Spot::Leave { next } => [Some(state.popped().at(next)), None],
+            Spot::First { rounds, next } => {
+                let first = state.counted(state.rounds * rounds.highest);
+                let none = (rounds.lowest == 0).then_some(state.at(next));
+                [Some(first.at(rounds.body)), none]
+            }
+            Spot::Again { rounds, next } => {
+                let done = state.rounds % rounds.highest + 1;
+                let more = state.counted(state.rounds + 1).at(rounds.body);
+                let out = state.counted(state.rounds / rounds.highest).at(next);
+                [
+                    (done < rounds.highest).then_some(more),
+                    (done >= rounds.lowest).then_some(out),
+                ]
+            }
+        })
+    }
+
     /// Follows the steps that take no line. From one state, a spot can be met with one
     /// stack only, since leaving a keep is all that such steps do to it; so each spot is
-    /// looked at once.
-    pub(crate) fn settle(&self, spot: usize, stack: Stack, into: &mut Vec<State>) {
-        let mut met = [false; 128];
-        let mut waiting = vec![(spot, stack)];
-        while let Some((spot, stack)) = waiting.pop() {
-            if met[spot] {
+    /// looked at once with each count of rounds.
+    pub(crate) fn settle(&self, state: State, into: &mut Vec<State>) {
+        let mut met = [0u64; 128];
+        let mut waiting = vec![state];
+        while let Some(state) = waiting.pop() {
+            let (met, count) = (&mut met[state.spot as usize], 1 << state.rounds);
+            if *met & count != 0 {
                 continue;
             }
-            met[spot] = true;
-            match self.spots[spot] {
-                Spot::Take { .. } | Spot::Done => into.push(State {
-                    spot: spot as u8,
-                    stack,
-                }),
-                Spot::Fork { one, two } => {
-                    waiting.push((one, stack));
-                    waiting.push((two, stack));
-                }
-                Spot::Leave { next } => waiting.push((next, stack.popped())),
+            *met |= count;
+            match self.silent(state) {
+                None => into.push(state),
+                Some(next) => waiting.extend(next.into_iter().flatten()),
             }
         }
     }
@@ -232,6 +295,23 @@ fn build(spots: &mut Vec<Spot>, node: &Node, next: usize) -> usize {
                 two: next,
             };
             return fork;
+        }
+        Node::Counted { highest: 0, .. } => return next,
+        Node::Counted {
+            lowest,
+            highest,
+            inner,
+        } => {
+            // What stands after a round is there before the body, which goes on to it.
+            let again = spots.len();
+            spots.push(Spot::Leave { next });
+            let rounds = Rounds {
+                lowest: *lowest,
+                highest: *highest,
+                body: build(spots, inner, again),
+            };
+            spots[again] = Spot::Again { rounds, next };
+            Spot::First { rounds, next }
         }
         Node::Keep { kind, slot, inner } => {
             spots.push(Spot::Leave { next });

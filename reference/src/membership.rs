@@ -1,5 +1,6 @@
 //! Is a word in a pattern's language? Straight from the clauses of source 001, section 3, with
-//! what requests One and Two say about comparing boats in those of the tests:
+//! what requests One and Two say about comparing boats in those of the tests, and source 000's
+//! clause of the counted path for request Three, a union of powers:
 //! `accepts(r, v, from, to)` says whether the letters `from..to` are a word of L(r, v).
 
 use crate::pattern::{Node, Rule};
@@ -60,9 +61,13 @@ pub fn takes(rule: Rule, outcome: Outcome) -> bool {
 
 struct Membership<'a> {
     word: &'a [Letter],
-    /// Answers already found; a node is known by its address.
-    known: HashMap<(*const Node, Valuation, usize, usize), bool>,
+    /// Answers already found.
+    known: HashMap<Stretch, bool>,
 }
+
+/// What an answer is about: the node by its address, how many rounds of it, the boats, and the
+/// letters from and to.
+type Stretch = (*const Node, u8, Valuation, usize, usize);
 
 impl Membership<'_> {
     fn accepts(&mut self, r: &Node, v: Valuation, from: usize, to: usize) -> bool {
@@ -85,7 +90,7 @@ impl Membership<'_> {
                 inside[*slot as usize] = Some(self.word[from].boat);
                 self.accepts(inner, inside, from + 1, to)
             }
-            Node::Then(first, second) => self.remembered(r, v, from, to, |asked| {
+            Node::Then(first, second) => self.remembered((r, 1, v, from, to), |asked| {
                 (from..=to).any(|cut| {
                     asked.accepts(first, v, from, cut) && asked.accepts(second, v, cut, to)
                 })
@@ -94,13 +99,30 @@ impl Membership<'_> {
             // letters adds nothing, so the first round may be taken to have some.
             Node::Repeat(body) => {
                 from == to
-                    || self.remembered(r, v, from, to, |asked| {
+                    || self.remembered((r, 1, v, from, to), |asked| {
                         (from + 1..=to).any(|cut| {
                             asked.accepts(body, v, from, cut) && asked.accepts(r, v, cut, to)
                         })
                     })
             }
+            Node::Counted {
+                lowest,
+                highest,
+                inner,
+            } => (*lowest..=*highest).any(|rounds| self.power(inner, rounds, v, from, to)),
         }
+    }
+
+    /// Exactly so many rounds in a row, each of which may be empty.
+    fn power(&mut self, body: &Node, rounds: u8, v: Valuation, from: usize, to: usize) -> bool {
+        if rounds == 0 {
+            return from == to;
+        }
+        self.remembered((body, rounds, v, from, to), |asked| {
+            (from..=to).any(|cut| {
+                asked.accepts(body, v, from, cut) && asked.power(body, rounds - 1, v, cut, to)
+            })
+        })
     }
 
     /// The letter, when the stretch is one letter long.
@@ -112,20 +134,12 @@ impl Membership<'_> {
         }
     }
 
-    fn remembered(
-        &mut self,
-        r: &Node,
-        v: Valuation,
-        from: usize,
-        to: usize,
-        find_out: impl FnOnce(&mut Self) -> bool,
-    ) -> bool {
-        let key = (r as *const Node, v, from, to);
-        if let Some(&answer) = self.known.get(&key) {
+    fn remembered(&mut self, stretch: Stretch, find_out: impl FnOnce(&mut Self) -> bool) -> bool {
+        if let Some(&answer) = self.known.get(&stretch) {
             return answer;
         }
         let answer = find_out(self);
-        self.known.insert(key, answer);
+        self.known.insert(stretch, answer);
         answer
     }
 }

@@ -1,9 +1,11 @@
 //! Patterns: bytes to a tree, or the number of the refused question.
 
-/// A pattern has at most this many commands.
+/// A pattern has at most this many commands, as written, and its unfolded count is at most this.
 pub const MOST_COMMANDS: usize = 63;
 /// Keeps nest at most this deep.
 pub const DEEPEST: usize = 3;
+/// No highest count of rounds is above this.
+pub const MOST_ROUNDS: u8 = 20;
 
 /// The commands that compare a line's boat with a slot's.
 #[derive(Clone, Copy, PartialEq, Eq, Debug)]
@@ -49,18 +51,44 @@ pub enum Node {
         slot: u8,
         inner: Box<Node>,
     },
+    /// 2A: from so many to so many rounds in a row.
+    Counted {
+        lowest: u8,
+        highest: u8,
+        inner: Box<Node>,
+    },
+}
+
+impl Node {
+    /// Its unfolded count: what is counted counts as often as it may come. It can be far above
+    /// every number of a machine, and then is the highest one; no rounds of it are still none.
+    pub fn unfolded(&self) -> u128 {
+        let inside = match self {
+            Node::Nothing | Node::Line { .. } | Node::Test { .. } => 0,
+            Node::Either(one, two) | Node::Then(one, two) => {
+                one.unfolded().saturating_add(two.unfolded())
+            }
+            Node::Repeat(inner) | Node::Keep { inner, .. } => inner.unfolded(),
+            Node::Counted { highest, inner, .. } => {
+                inner.unfolded().saturating_mul(*highest as u128)
+            }
+        };
+        inside.saturating_add(1)
+    }
 }
 
 #[derive(Clone, PartialEq, Eq, Debug)]
 pub struct Pattern {
     pub root: Node,
-    /// How many commands it has.
+    /// How many commands it has, as written.
     pub commands: usize,
+    /// Its unfolded count.
+    pub unfolded: usize,
     /// The deepest nesting of keeps.
     pub keeps: usize,
 }
 
-/// Questions 8 to 14: each command in byte order, then the end.
+/// Questions 8 to 13 and 24 of each command in byte order, then 14 and 25.
 pub fn read_pattern(bytes: &[u8]) -> Result<Pattern, u8> {
     let mut reader = Reader {
         bytes,
@@ -72,9 +100,14 @@ pub fn read_pattern(bytes: &[u8]) -> Result<Pattern, u8> {
     if reader.at != bytes.len() {
         return Err(14);
     }
+    let unfolded = root.unfolded();
+    if unfolded > MOST_COMMANDS as u128 {
+        return Err(25);
+    }
     Ok(Pattern {
         root,
         commands: reader.commands,
+        unfolded: unfolded as usize,
         keeps: reader.keeps,
     })
 }
@@ -92,7 +125,7 @@ impl Reader<'_> {
         let Some(&command) = self.bytes.get(self.at) else {
             return Err(8);
         };
-        if !(0x20..=0x29).contains(&command) {
+        if !(0x20..=0x2A).contains(&command) {
             return Err(8);
         }
         self.commands += 1;
@@ -101,20 +134,31 @@ impl Reader<'_> {
         }
         let width = match command {
             0x21 => 1,
-            0x22 | 0x23 | 0x27 | 0x28 | 0x29 => 2,
+            0x22 | 0x23 | 0x27..=0x2A => 2,
             _ => 0,
         };
         let first = self.at + 1;
         let Some(operands) = self.bytes.get(first..first + width) else {
             return Err(10);
         };
+        self.at = first + width;
+        if command == 0x2A {
+            let (lowest, highest) = (operands[0], operands[1]);
+            if lowest > highest || highest > MOST_ROUNDS {
+                return Err(24);
+            }
+            return Ok(Node::Counted {
+                lowest,
+                highest,
+                inner: Box::new(self.node(around)?),
+            });
+        }
         if width >= 1 && !(1..=15).contains(&operands[0]) {
             return Err(11);
         }
         if width >= 2 && operands[1] > 3 {
             return Err(11);
         }
-        self.at = first + width;
         if let Some(rule) = Rule::of(command) {
             let (kind, slot) = (operands[0], operands[1]);
             if !around.contains(&slot) {

@@ -30,10 +30,10 @@ pub enum FindReply {
     Refused(u8, usize),
 }
 
-/// Places × (commands + 1) × (boats + 1) to the power of keeps.
+/// Places × (unfolded count + 1) × (boats + 1) to the power of keeps.
 pub fn search_size(record: &Record, pattern: &Pattern) -> u128 {
     let boats: BTreeSet<_> = record.lines.iter().map(|line| line.boat()).collect();
-    let mut size = record.places as u128 * (pattern.commands as u128 + 1);
+    let mut size = record.places as u128 * (pattern.unfolded as u128 + 1);
     for _ in 0..pattern.keeps {
         size *= boats.len() as u128 + 1;
     }
@@ -45,7 +45,7 @@ fn words_for(size: u128) -> u128 {
     4 * size + 8_192
 }
 
-/// The words that a record and a pattern need: questions 1 to 14, and 16.
+/// The words that a record and a pattern need: the questions of both, and 16.
 pub fn words(record: &[u8], pattern: &[u8]) -> Result<u64, u8> {
     let record = read_record(record)?;
     let pattern = read_pattern(pattern)?;
@@ -56,7 +56,7 @@ pub fn words(record: &[u8], pattern: &[u8]) -> Result<u64, u8> {
     Ok(words_for(size) as u64)
 }
 
-/// Questions 1 to 17.
+/// Questions 1 to 17, 24 and 25.
 pub fn ask(
     record: &[u8],
     pattern: &[u8],
@@ -128,7 +128,7 @@ pub fn first_chain(asked: &Asked) -> Option<Vec<u16>> {
     searched
 }
 
-/// Questions 1 to 17 and the search, the output being left aside.
+/// Questions 1 to 17, 24 and 25, and the search, the output being left aside.
 pub fn shortest(
     record: &[u8],
     pattern: &[u8],

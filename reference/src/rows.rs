@@ -45,10 +45,10 @@ fn sort(reply: &FindReply, places: usize) -> (String, usize) {
     }
 }
 
-/// All sorts, 2 to 17 and 19 among them, have their number of rows.
+/// All sorts, the refusals 2 to 17, 19, 24 and 25 among them, have their number of rows.
 fn complete(counts: &BTreeMap<String, usize>) -> bool {
     let refusals = (2..=17)
-        .chain([19])
+        .chain([19, 24, 25])
         .map(|number| FindReply::Refused(number, 0));
     refusals
         .chain([FindReply::NoChain, FindReply::Found(vec![])])

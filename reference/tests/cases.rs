@@ -5,10 +5,11 @@ use reference::cases::{Bench, ALL};
 use reference::library::Own;
 
 /// Long searches are left to the release build.
-const LONG: [&str; 3] = [
+const LONG: [&str; 4] = [
     "V11: a chain of 92,400 lines",
     "the largest size, found and none",
     "Two: the largest size, found and none",
+    "Three: the largest size, found and none",
 ];
 
 fn run(wanted: impl Fn(&str) -> bool) {

@@ -30,13 +30,16 @@ fn all_met(seen: &BTreeMap<u64, usize>, questions: impl IntoIterator<Item = u64>
 
 #[test]
 fn every_question_is_met() {
-    all_met(&tally(rounds::bytes, 1, 15_000), (0..=14).chain([16, 18]));
+    let of_both = (0..=14).chain([16, 18, 24, 25]);
+    all_met(&tally(rounds::bytes, 1, 15_000), of_both);
     all_met(
         &tally(rounds::writes, 2, 8_000),
         [0, 1, 2, 3, 4, 5, 6, 7, 18, 20, 21, 22, 23],
     );
-    all_met(&tally(rounds::check, 3, 20_000), (2..=18).chain([0]));
-    all_met(&tally(rounds::find, 4, 20_000), (2..=17).chain([0, 19]));
+    let of_check = (2..=18).chain([0, 24, 25]);
+    all_met(&tally(rounds::check, 3, 20_000), of_check);
+    let of_find = (2..=17).chain([0, 19, 24, 25]);
+    all_met(&tally(rounds::find, 4, 20_000), of_find);
 }
 
 #[test]
@@ -134,6 +137,15 @@ fn retested(node: &Node, from: Rule, to: Rule) -> Node {
             slot: *slot,
             inner: inside(inner),
         },
+        Node::Counted {
+            lowest,
+            highest,
+            inner,
+        } => Node::Counted {
+            lowest: *lowest,
+            highest: *highest,
+            inner: inside(inner),
+        },
         leaf => leaf.clone(),
     }
 }
@@ -147,7 +159,7 @@ fn outcomes_are_met() {
     let mut outcomes = BTreeMap::new();
     let mut tests = BTreeMap::new();
     let mut changed = BTreeMap::new();
-    for _ in 0..20_000 {
+    for _ in 0..25_000 {
         let r = request(&mut random);
         let Ok(mut asked) = ask(&r.rec, &r.pat, r.from, r.to, r.work_len) else {
             continue;
@@ -182,6 +194,112 @@ fn outcomes_are_met() {
     assert!(outcomes.len() == 4 && outcomes.values().all(|&count| 8 * count > pairs));
     assert!(tests.len() == 4 && tests.values().all(|&count| count > 3 * 1_500));
     assert!(changed.len() == 12 && changed.values().all(|&count| count > 60));
+}
+
+/// The pattern with other counts in each 2A.
+fn recounted(node: &Node, counts: fn(u8, u8) -> (u8, u8)) -> Node {
+    let inside = |node: &Node| Box::new(recounted(node, counts));
+    match node {
+        Node::Either(one, two) => Node::Either(inside(one), inside(two)),
+        Node::Then(first, second) => Node::Then(inside(first), inside(second)),
+        Node::Repeat(body) => Node::Repeat(inside(body)),
+        Node::Keep { kind, slot, inner } => Node::Keep {
+            kind: *kind,
+            slot: *slot,
+            inner: inside(inner),
+        },
+        Node::Counted {
+            lowest,
+            highest,
+            inner,
+        } => {
+            let (lowest, highest) = counts(*lowest, *highest);
+            Node::Counted {
+                lowest,
+                highest,
+                inner: inside(inner),
+            }
+        }
+        leaf => leaf.clone(),
+    }
+}
+
+/// How deep 2A stands in 2A, and whether one has a keep in it.
+fn rounds_in(node: &Node) -> (usize, bool) {
+    match node {
+        Node::Either(one, two) | Node::Then(one, two) => {
+            let (one, two) = (rounds_in(one), rounds_in(two));
+            (one.0.max(two.0), one.1 || two.1)
+        }
+        Node::Repeat(inner) | Node::Keep { inner, .. } => rounds_in(inner),
+        Node::Counted { inner, .. } => {
+            let (deep, kept) = rounds_in(inner);
+            (deep + 1, kept || keeps(inner))
+        }
+        _ => (0, false),
+    }
+}
+
+fn keeps(node: &Node) -> bool {
+    match node {
+        Node::Either(one, two) | Node::Then(one, two) => keeps(one) || keeps(two),
+        Node::Repeat(inner) | Node::Counted { inner, .. } => keeps(inner),
+        Node::Keep { .. } => true,
+        _ => false,
+    }
+}
+
+/// Rounds are counted in many requests that are answered, also in each other and with keeps in
+/// them; both counts decide many replies; and 24 and 25 are given often.
+#[test]
+fn rounds_are_met() {
+    type Change = (&'static str, fn(u8, u8) -> (u8, u8));
+    const CHANGES: [Change; 4] = [
+        ("lowest as 0", |_, highest| (0, highest)),
+        ("lowest and one", |lowest, highest| {
+            (highest.min(lowest + 1), highest)
+        }),
+        ("highest and one", |lowest, highest| (lowest, highest + 1)),
+        ("highest as lowest", |lowest, _| (lowest, lowest)),
+    ];
+    let mut random = Random::new(10);
+    let (mut found, mut none, mut nested, mut kept) = (0, 0, 0, 0);
+    let mut refused = BTreeMap::new();
+    let mut changed = BTreeMap::new();
+    for _ in 0..10_000 {
+        let r = request(&mut random);
+        let mut asked = match ask(&r.rec, &r.pat, r.from, r.to, r.work_len) {
+            Ok(asked) => asked,
+            Err(number) => {
+                *refused.entry(number).or_insert(0) += 1;
+                continue;
+            }
+        };
+        let root = asked.pattern.root.clone();
+        let (deep, has_keep) = rounds_in(&root);
+        if deep == 0 {
+            continue;
+        }
+        nested += (deep > 1) as usize;
+        kept += has_keep as usize;
+        let first = search(&asked);
+        match first {
+            Some(_) => found += 1,
+            None => none += 1,
+        }
+        for (name, counts) in CHANGES {
+            asked.pattern.root = recounted(&root, counts);
+            if asked.pattern.root.unfolded() <= 63 && search(&asked) != first {
+                *changed.entry(name).or_insert(0) += 1;
+            }
+        }
+    }
+    println!(
+        "{found} found, {none} none, {nested} nested, {kept} with keeps; {changed:?}; {refused:?}"
+    );
+    assert!(found > 1_500 && none > 500 && nested > 500 && kept > 500);
+    assert!(changed.len() == CHANGES.len() && changed.values().all(|&count| count > 25));
+    assert!(refused[&24] > 50 && refused[&25] > 50);
 }
 
 #[test]

@@ -77,7 +77,7 @@ impl Finder {
     /// several, the one with the lower number at the first difference. `None` says that no
     /// chain, of any length, is accepted.
     ///
-    /// Refusals: 1 to 16. Question 17 never fails here, since the work area is as large as
+    /// Refusals: 1 to 16, 24 and 25. Question 17 never fails here, since the work area is as large as
     /// [`lent::words`] says. Nor does 19: where the output is too short for the chain, it is
     /// made long enough and the library is asked once more. A `Finder` that meets a chain
     /// longer than any before thus searches twice.
@@ -128,7 +128,7 @@ impl Finder {
 
     /// Does the chain lead from the first place to the second, and does the pattern accept it?
     ///
-    /// Refusals: 1 to 16, and 18.
+    /// Refusals: 1 to 16, 18, 24 and 25.
     pub fn check(&mut self, question: &Question, chain: &[u16]) -> Result<bool, Refusal> {
         let Question {
             record,

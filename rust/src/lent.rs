@@ -51,7 +51,7 @@ pub enum LineReply {
 #[must_use]
 #[non_exhaustive]
 pub enum PatternReply {
-    /// The pattern passes, and has so many commands and keeps.
+    /// The pattern passes, and has these counts.
     Counts(Counts),
     /// A question was answered no.
     Refused(Refusal),
@@ -150,15 +150,19 @@ pub fn read(record: &[u8], number: u16) -> LineReply {
     }
 }
 
-/// Reads a pattern: the count of its commands, and its deepest nesting of keeps.
+/// Reads a pattern: the count of its commands, its deepest nesting of keeps, and its unfolded count.
 ///
-/// Refusals: 8 to 14.
+/// Refusals: 8 to 13 and 24 at each command, then 14, then 25.
 pub fn pattern(pattern: &[u8]) -> PatternReply {
-    let mut counts = [0u32; 2];
+    let mut counts = [0u32; 3];
     match taken_apart(linked::pattern(pattern, &mut counts)) {
         Ok(_) => {
-            let [commands, keeps] = counts;
-            PatternReply::Counts(Counts { commands, keeps })
+            let [commands, keeps, unfolded] = counts;
+            PatternReply::Counts(Counts {
+                commands,
+                keeps,
+                unfolded,
+            })
         }
         Err(refusal) => PatternReply::Refused(refusal),
     }
@@ -166,7 +170,7 @@ pub fn pattern(pattern: &[u8]) -> PatternReply {
 
 /// How many words of work area [`check`] and [`find`] need, for this record and pattern.
 ///
-/// Refusals: 1 to 14, then 16.
+/// Refusals: 1 to 14, 24 and 25, then 16.
 pub fn words(record: &[u8], pattern: &[u8]) -> WordsReply {
     match taken_apart(linked::words(record, pattern)) {
         Ok(words) => WordsReply::Words(words as usize),
@@ -176,8 +180,8 @@ pub fn words(record: &[u8], pattern: &[u8]) -> WordsReply {
 
 /// Does the chain lead from the first place to the second, and does the pattern accept it?
 ///
-/// Refusals: 1 to 18. The work area may hold anything before; a refusal from 1 to 17 leaves
-/// it untouched, and after every other reply all of it is zeros.
+/// Refusals: 1 to 14, 24 and 25, then 15 to 18. The work area may hold anything before; 18 and
+/// every reply that is no refusal leave all of it zeros, and every other refusal leaves it untouched.
 pub fn check(
     record: &[u8],
     pattern: &[u8],
@@ -196,7 +200,7 @@ pub fn check(
 /// Finds the shortest accepted chain from the first place to the second; of several, the one
 /// with the lower line number at the first difference.
 ///
-/// Refusals: 1 to 17, then 19 with the shortest length. The work area is left as with
+/// Refusals: as [`check`], but 19 with the shortest length for 18. The work area is left as with
 /// [`check`], and is zeros after 19. A chain that is found stands at the front of the output;
 /// the rest of it, and all of it after every other reply, is untouched.
 pub fn find(

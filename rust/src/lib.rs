@@ -12,6 +12,10 @@
 //! boat. All four fail on such a line, and all four fail where the slot holds such a number; line
 //! takes it, keep keeps it, and together they count as one boat.
 //!
+//! From so many to so many rounds of a pattern may come in a row (2A); a boat that a round keeps is
+//! known in that round only. The search goes by the unfolded count of a pattern, in which a command
+//! counts as often as it may come.
+//!
 //! - [`Record`] grows with its lines and can be asked directly; [`RecordIn`] stands in a buffer
 //!   that is given.
 //! - [`read_pattern`] tests a pattern before there is a record.

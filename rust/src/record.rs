@@ -198,7 +198,7 @@ impl Record {
     }
 
     /// Finds the first shortest chain of lines from the first place to the second that the
-    /// pattern accepts, as [`Finder::find`] does. Refusals: 8 to 16.
+    /// pattern accepts, as [`Finder::find`] does. Refusals: 8 to 16, 24, 25.
     ///
     /// For many questions keep a [`Finder`], and with it the work area.
     ///
@@ -217,7 +217,7 @@ impl Record {
     }
 
     /// Does the chain lead from the first place to the second, and does the pattern accept it?
-    /// Refusals: 8 to 16, and 18.
+    /// Refusals: 8 to 16, 18, 24, 25.
     ///
     /// ```
     /// use chains::{Line, Record, Refusal};
@@ -331,7 +331,7 @@ impl<'a> RecordIn<'a> {
     }
 
     /// Finds the first shortest chain of lines from the first place to the second that the
-    /// pattern accepts, as [`Finder::find`] does. Refusals: 8 to 16.
+    /// pattern accepts, as [`Finder::find`] does. Refusals: 8 to 16, 24, 25.
     ///
     /// For many questions keep a [`Finder`], and with it the work area.
     pub fn find(&self, pattern: &[u8], from: u16, to: u16) -> Result<Option<Vec<u16>>, Refusal> {
@@ -339,7 +339,7 @@ impl<'a> RecordIn<'a> {
     }
 
     /// Does the chain lead from the first place to the second, and does the pattern accept it?
-    /// Refusals: 8 to 16, and 18.
+    /// Refusals: 8 to 16, 18, 24, 25.
     pub fn check(
         &self,
         pattern: &[u8],

@@ -38,7 +38,7 @@ pub enum Refusal {
     CommandNotKnown,
     /// 9: the pattern has more than 63 commands.
     TooManyCommands,
-    /// 10: a command's kind or slot is not there.
+    /// 10: a command's kind, slot or counts are not there.
     OperandsMissing,
     /// 11: a command's kind is not 1 to 15, or its slot is not 0 to 3.
     OperandOutOfRange,
@@ -69,6 +69,10 @@ pub enum Refusal {
     RecordFull,
     /// 23: the buffer does not hold the record after the act.
     BufferTooSmall,
+    /// 24: a lowest count of rounds is above the highest, or that is above 20.
+    RoundsOutOfRange,
+    /// 25: the pattern's unfolded count is above 63.
+    UnfoldedTooLong,
     /// A number that this crate has no name for: a question of another version of the library.
     #[non_exhaustive]
     Other {
@@ -80,7 +84,7 @@ pub enum Refusal {
 }
 
 impl Refusal {
-    /// The number of the question: 1 to 23, and that of [`Refusal::Other`].
+    /// The number of the question: 1 to 25, and that of [`Refusal::Other`].
     pub fn number(self) -> u32 {
         match self {
             Refusal::RecordTooLong => 1,
@@ -106,6 +110,8 @@ impl Refusal {
             Refusal::SailNumberTooLarge => 21,
             Refusal::RecordFull => 22,
             Refusal::BufferTooSmall => 23,
+            Refusal::RoundsOutOfRange => 24,
+            Refusal::UnfoldedTooLong => 25,
             Refusal::Other { number, .. } => number,
         }
     }
@@ -138,6 +144,8 @@ impl Refusal {
             21 => Refusal::SailNumberTooLarge,
             22 => Refusal::RecordFull,
             23 => Refusal::BufferTooSmall,
+            24 => Refusal::RoundsOutOfRange,
+            25 => Refusal::UnfoldedTooLong,
             _ => Refusal::Other { number, second },
         }
     }
@@ -164,7 +172,9 @@ impl fmt::Display for Refusal {
                 "the pattern breaks off, or has something in it that is not a command"
             }
             Refusal::TooManyCommands => "the pattern has more than 63 commands",
-            Refusal::OperandsMissing => "the pattern breaks off before a command's kind or slot",
+            Refusal::OperandsMissing => {
+                "the pattern breaks off before a command's kind, slot or counts"
+            }
             Refusal::OperandOutOfRange => {
                 "the pattern has a kind that is not 1 to 15, or a slot that is not 0 to 3"
             }
@@ -193,6 +203,13 @@ impl fmt::Display for Refusal {
             Refusal::SailNumberTooLarge => "the sail number is not below 16,777,216",
             Refusal::RecordFull => "the day's record is full: it has 4,096 lines",
             Refusal::BufferTooSmall => "the buffer has no room for the day's record after this",
+            Refusal::RoundsOutOfRange => {
+                "the pattern has a count of rounds whose lowest is above its highest, or whose \
+                 highest is above 20"
+            }
+            Refusal::UnfoldedTooLong => {
+                "the pattern is too long: with its rounds written out it has more than 63 commands"
+            }
             Refusal::Other { number, .. } => {
                 return write!(
                     f,
@@ -215,7 +232,7 @@ mod tests {
 
     #[test]
     fn sentences_are_those_of_the_list() {
-        assert_eq!(SENTENCES.lines().count(), 23);
+        assert_eq!(SENTENCES.lines().count(), 25);
         for (number, row) in (1..).zip(SENTENCES.lines()) {
             let refusal = Refusal::of(number, 92_400);
             assert_eq!(refusal.number(), number);
@@ -231,7 +248,7 @@ mod tests {
 
     #[test]
     fn unknown_numbers_do_not_panic() {
-        for number in [24, 32, 255, u32::MAX] {
+        for number in [26, 32, 255, u32::MAX] {
             let refusal = Refusal::of(number, 7);
             assert_eq!(refusal, Refusal::Other { number, second: 7 });
             assert_eq!(refusal.number(), number);

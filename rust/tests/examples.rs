@@ -32,7 +32,13 @@ fn said(folder: &str) -> Result<String, Refusal> {
 
 #[test]
 fn folders() -> Result<(), Refusal> {
-    for folder in ["one_boat", "own_record", "laps", "laps_one_place"] {
+    for folder in [
+        "one_boat",
+        "own_record",
+        "laps",
+        "laps_one_place",
+        "laps_counted",
+    ] {
         assert_eq!(said(folder)?.as_bytes(), read(folder, "expected.txt"));
     }
     Ok(())

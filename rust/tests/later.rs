@@ -15,6 +15,7 @@ fn known(refusal: Refusal) -> bool {
         BytesAfterPattern | AskedPlaceNotThere | SearchTooLarge | WorkAreaTooSmall => true,
         LineNotThere | LengthBeyondBuffer | SailNumberTooLarge | RecordFull => true,
         BufferTooSmall | OutputTooSmall { length: _ } => true,
+        RoundsOutOfRange | UnfoldedTooLong => true,
         Other {
             number: _,
             second: _,

@@ -29,13 +29,15 @@ fn refused_records() -> Vec<(u32, Vec<u8>)> {
     ]
 }
 
-/// Patterns that questions 8 to 14 refuse.
+/// Patterns that questions 8 to 14, 24 and 25 refuse.
 fn refused_patterns() -> Vec<(u32, Vec<u8>)> {
     vec![
         (8, vec![]),
-        (8, vec![0x2A]),
+        (8, vec![0x2B]),
+        (8, vec![0x2A, 0, 0]),
         (9, repeats(63, &[0x20])),
         (10, vec![0x21]),
+        (10, vec![0x2A, 1]),
         (11, vec![0x21, 0]),
         (11, vec![0x27, 1, 4, 0x20]),
         (12, vec![0x22, 1, 0]),
@@ -46,10 +48,15 @@ fn refused_patterns() -> Vec<(u32, Vec<u8>)> {
             vec![0x27, 1, 0, 0x27, 1, 1, 0x27, 1, 2, 0x27, 1, 3, 0x20],
         ),
         (14, vec![0x20, 0x20]),
+        (14, twenties(40, &[0x20, 0x20])),
+        (24, vec![0x2A, 1, 0]),
+        (24, vec![0x2A, 0, 21, 0x20]),
+        (25, repeats(3, &rounds(0, 20, &[0x24, 0x20, 0x20]))),
+        (25, twenties(40, &[0x20])),
     ]
 }
 
-/// Every request that 1 to 16 refuse, whatever is lent.
+/// Every request that 1 to 16, 24 and 25 refuse, whatever is lent.
 fn refused_requests() -> Vec<(u32, Vec<u8>, Vec<u8>, u16)> {
     let mut requests = Vec::new();
     for (number, bytes) in refused_records() {

@@ -127,6 +127,34 @@ fn classes() -> Result<(), Refusal> {
     Ok(())
 }
 
+/// From the lowest to the highest count of rounds, both allowed; a round may be empty, and has its
+/// own boats.
+#[test]
+fn rounds_are_counted() -> Result<(), Refusal> {
+    let mut finder = Finder::new();
+    let day = record(1, &[line(0, 3, 1, 1, 0)]);
+    let lap = [0x21, 3];
+    let beside = [&[0x25][..], &rounds(2, 5, &lap), &rounds(3, 3, &lap)].concat();
+    for (pattern, least, most) in [
+        (rounds(2, 5, &lap), 2, 5),
+        (rounds(0, 0, &lap), 0, 0),
+        (rounds(1, 3, &NOTHING), 0, 0),
+        (rounds(1, 3, &[0x24, 0x20, 0x21, 3]), 0, 3),
+        (beside, 5, 8),
+    ] {
+        let question = ask(&day, &pattern, 0, 0);
+        assert_eq!(finder.find(&question)?, Some(&vec![0; least][..]));
+        for laps in 0..10 {
+            let yes = (least..=most).contains(&laps);
+            assert_eq!(finder.check(&question, &vec![0; laps])?, yes);
+        }
+    }
+    let pattern = rounds(2, 2, &[0x27, 1, 0, 0x22, 1, 0]);
+    assert!(t().check(&pattern, 0, 0, &[0, 0, 1, 1])?);
+    assert!(!t().check(&pattern, 0, 0, &[0, 0, 0, 1])?);
+    Ok(())
+}
+
 #[test]
 fn rows_of_questions() {
     let mut finder = Finder::new();
@@ -152,9 +180,16 @@ fn rows_of_questions() {
         assert_eq!(refused(&[test, 1, 0]), Err(12));
         assert_eq!(refused(&[0x27, 1, 0, test, 1, 0]), Ok(None));
     }
-    for byte in 0x2A..=0x2F {
+    for byte in 0x2B..=0x2F {
         assert_eq!(refused(&[byte]), Err(8));
     }
+    assert_eq!(refused(&[0x2A]), Err(10));
+    assert_eq!(refused(&[0x2A, 1]), Err(10));
+    assert_eq!(refused(&[0x2A, 0, 0]), Err(8));
+    assert_eq!(refused(&[0x2A, 1, 0]), Err(24));
+    assert_eq!(refused(&[0x2A, 0, 21]), Err(24));
+    assert_eq!(refused(&twenties(40, &[0x20])), Err(25));
+    assert_eq!(refused(&rounds(0, 0, &twenties(40, &[0x20]))), Ok(Some(0)));
     assert_eq!(refused(&[0x20, 0x20]), Err(14));
     assert_eq!(refused(&repeats(62, &[0x20])), Ok(Some(0)));
     assert_eq!(refused(&repeats(63, &[0x20])), Err(9));
@@ -235,12 +270,18 @@ fn records_are_asked() -> Result<(), Refusal> {
 
 #[test]
 fn patterns_are_counted() -> Result<(), Refusal> {
-    let counts = |pattern: &[u8]| read_pattern(pattern).map(|c| (c.commands, c.keeps));
-    assert_eq!(counts(&P)?, (7, 1));
-    assert_eq!(counts(&S)?, (5, 2));
-    assert_eq!(counts(&NOTHING)?, (1, 0));
-    assert_eq!(counts(&repeats(62, &NOTHING))?, (63, 0));
-    assert_eq!(counts(&fifteen_commands())?, (15, 1));
+    let counts = |pattern: &[u8]| read_pattern(pattern).map(|c| (c.commands, c.keeps, c.unfolded));
+    assert_eq!(counts(&P)?, (7, 1, 7));
+    assert_eq!(counts(&S)?, (5, 2, 5));
+    assert_eq!(counts(&NOTHING)?, (1, 0, 1));
+    assert_eq!(counts(&repeats(62, &NOTHING))?, (63, 0, 63));
+    assert_eq!(counts(&fifteen_commands())?, (15, 1, 15));
+    assert_eq!(counts(&rounds(2, 5, &P))?, (8, 1, 36));
+    assert_eq!(counts(&rounds(0, 0, &S))?, (6, 2, 1));
+    let most = repeats(2, &rounds(0, 20, &[0x24, 0x20, 0x20]));
+    assert_eq!(counts(&most)?, (6, 0, 63));
+    let none = rounds(0, 0, &twenties(40, &NOTHING));
+    assert_eq!(counts(&none)?, (42, 0, 1));
     Ok(())
 }
 

@@ -1,6 +1,6 @@
 /*
- * Every function of chains.h, called from C: document 01's worked rows, unread numbers, every refusal number, and each lent buffer
- * afterwards; the helpers that take a reply apart; and chains_message, held to the list of sentences. Prints what fails; the status
+ * Every function of chains.h, called from C: document 01's worked rows, unread numbers, classes, counted rounds, every refusal number, and
+ * each lent buffer afterwards; the helpers that take a reply apart; and chains_message, held to the list of sentences. Prints what fails; the status
  * is 1 if something did.
  *
  *     gcc -std=c11 -Wall -Wextra -Werror -pedantic -Iinclude tests/c/chains_test.c target/libchains.a -o target/chains_test
@@ -280,20 +280,29 @@ static void pattern_refused(const char *what, const uint8_t *pat, size_t pat_len
     expect(what, memcmp(counts, same, sizeof counts) == 0);
 }
 
-/* Read: the first two words have the counts, and no other word is written; fewer than two get none. */
-static void pattern_counts(const char *what, const uint8_t *pat, size_t pat_len, uint32_t commands, uint32_t keeps)
+/* Read: the first three words have the counts, and no other word is written; two get the first two, and fewer get none. */
+static void pattern_unfolded(const char *what, const uint8_t *pat, size_t pat_len, uint32_t commands, uint32_t keeps, uint32_t unfolded)
 {
-    uint32_t counts[4] = {9, 9, 9, 9};
-    const uint32_t same[4] = {9, 9, 9, 9}, shown[4] = {commands, keeps, 9, 9};
+    uint32_t counts[5] = {9, 9, 9, 9, 9};
+    const uint32_t same[5] = {9, 9, 9, 9, 9}, two[5] = {commands, keeps, 9, 9, 9}, three[5] = {commands, keeps, unfolded, 9, 9};
     expect_reply(what, chains_pattern(pat, pat_len, counts, 0), 0, 0);
     expect_reply(what, chains_pattern(pat, pat_len, counts, 1), 0, 0);
     expect(what, memcmp(counts, same, sizeof counts) == 0);
-    for (size_t lent = 2; lent <= 4; lent++) {
+    expect_reply(what, chains_pattern(pat, pat_len, counts, 2), 0, 2);
+    expect(what, memcmp(counts, two, sizeof counts) == 0);
+    for (size_t lent = CHAINS_COUNTS; lent <= 5; lent++) {
         memcpy(counts, same, sizeof counts);
         expect_reply(what, chains_pattern(pat, pat_len, counts, lent), 0, CHAINS_COUNTS);
-        expect(what, memcmp(counts, shown, sizeof counts) == 0);
+        expect(what, memcmp(counts, three, sizeof counts) == 0);
     }
-    expect(what, counts[CHAINS_COUNT_COMMANDS] == commands && counts[CHAINS_COUNT_KEEPS] == keeps);
+    expect(what, counts[CHAINS_COUNT_COMMANDS] == commands && counts[CHAINS_COUNT_KEEPS] == keeps &&
+                     counts[CHAINS_COUNT_UNFOLDED] == unfolded);
+}
+
+/* The same of a pattern whose commands come once each. */
+static void pattern_counts(const char *what, const uint8_t *pat, size_t pat_len, uint32_t commands, uint32_t keeps)
+{
+    pattern_unfolded(what, pat, pat_len, commands, keeps, commands);
 }
 
 static void test_pattern(void)
@@ -368,7 +377,13 @@ static uint32_t needed(struct ask a)
     return chains_value(chains_words(a.rec->at, a.rec->len, a.pat, a.pat_len));
 }
 
-/* A check in so many words; its reply, and the area, which is zeros unless a question up to 17 was answered no. */
+/* Is the work area cleared after a reply with this number? After 18, 19 and no refusal; all other questions come before. */
+static int clears(uint32_t number)
+{
+    return number == 0 || number == CHAINS_LINE_NOT_THERE || number == CHAINS_OUTPUT_TOO_SMALL;
+}
+
+/* A check in so many words; its reply, and the area. */
 static void check_in(const char *what, struct ask a, const uint16_t *chain, size_t length, size_t words, uint32_t number,
                      uint32_t value)
 {
@@ -376,7 +391,7 @@ static void check_in(const char *what, struct ask a, const uint16_t *chain, size
     uint64_t reply =
         chains_check(a.rec->at, a.rec->len, a.pat, a.pat_len, a.from, a.to, chain, length, area + EDGE, words);
     expect_reply(what, reply, number, value);
-    expect_area(what, words, number == 0 || number > 17);
+    expect_area(what, words, clears(number));
 }
 
 static void check(const char *what, struct ask a, const uint16_t *chain, size_t length, uint32_t yes)
@@ -411,7 +426,7 @@ static void find_in(const char *what, struct ask a, size_t words, size_t entries
     make_dirty();
     uint64_t reply = chains_find(a.rec->at, a.rec->len, a.pat, a.pat_len, a.from, a.to, area + EDGE, words, output + EDGE, entries);
     expect_reply(what, reply, number, value);
-    expect_area(what, words, number == 0 || number > 17);
+    expect_area(what, words, clears(number));
     expect_output(what, chain, number == 0 && value != CHAINS_NO_CHAIN ? value : 0);
 }
 
@@ -572,9 +587,84 @@ static void test_classes(void)
         pattern_refused("a test of slot 4", slot_4, 3, CHAINS_OPERAND_OUT_OF_RANGE);
         pattern_refused("a test of a slot that is not kept", unkept, 3, CHAINS_SLOT_NOT_KEPT);
     }
-    for (uint8_t byte = 0x2A; byte <= 0x2F; byte++) {
+    for (uint8_t byte = 0x2B; byte <= 0x2F; byte++) {
         pattern_refused("no command", &byte, 1, CHAINS_COMMAND_NOT_KNOWN);
     }
+}
+
+/* ---- counted rounds */
+
+/* The first shortest chain has `least` laps, and the checker says yes from there to `most`. */
+static void laps(const char *what, const struct record *day, const uint8_t *pattern, size_t pattern_len, uint32_t least, uint32_t most)
+{
+    static const uint16_t chain[ENTRIES] = {0};
+    const struct ask asked = {day, pattern, pattern_len, 0, 0};
+    found(what, asked, chain, least);
+    for (uint32_t length = 0; length < ENTRIES; length++) {
+        check(what, asked, chain, length, length >= least && length <= most);
+    }
+}
+
+/* From the lowest to the highest count of rounds; a round may be empty, and has its own boats. 24 and 25 leave the area. */
+static void test_rounds(void)
+{
+    static const uint8_t two_to_five[5] = {0x2A, 2, 5, 0x21, 3}, none[5] = {0x2A, 0, 0, 0x21, 3}, empty[4] = {0x2A, 1, 3, 0x20};
+    static const uint8_t beside[11] = {0x25, 0x2A, 2, 5, 0x21, 3, 0x2A, 3, 3, 0x21, 3}, maybe[7] = {0x2A, 1, 3, 0x24, 0x20, 0x21, 3};
+    static struct record day;
+    begin(&day, 1);
+    add(&day, (struct line){0, 3, 1, 1, 0});
+    laps("two to five laps", &day, two_to_five, 5, 2, 5);
+    laps("no laps", &day, none, 5, 0, 0);
+    laps("rounds of nothing", &day, empty, 4, 0, 0);
+    laps("rounds that may be empty", &day, maybe, 7, 0, 3);
+    laps("two to five laps, then three", &day, beside, 11, 5, 8);
+
+    const uint8_t own[9] = {0x2A, 2, 2, 0x27, 1, 0, 0x22, 1, 0};
+    const uint16_t c0011[4] = {0, 0, 1, 1}, c0001[4] = {0, 0, 0, 1};
+    const struct ask T_own = {&t, own, 9, 0, 0};
+    check("a boat of its own in each round", T_own, c0011, 4, 1);
+    check("two boats in one round", T_own, c0001, 4, 0);
+
+    pattern_unfolded("two to five laps", two_to_five, 5, 2, 0, 6);
+    pattern_unfolded("no laps", none, 5, 2, 0, 1);
+    pattern_unfolded("two rounds of a keep", own, 9, 3, 1, 5);
+    expect_words("the size goes by the unfolded count", day.at, day.len, two_to_five, 5, 0, 4 * 7 + 8192);
+    const uint8_t kept[7] = {0x2A, 0, 0, 0x27, 1, 0, 0x20};
+    expect_words("keeps count where no round may come", day.at, day.len, kept, 7, 0, 4 * 2 * 2 + 8192);
+
+    const uint8_t most[9] = {0x26, 0x26, 0x26, 0x2A, 0, 20, 0x24, 0x20, 0x20};
+    pattern_unfolded("an unfolded count of 63", most + 1, 8, 6, 0, 63);
+    pattern_refused("an unfolded count of 64", most, 9, CHAINS_UNFOLDED_TOO_LONG);
+
+    /* No rounds of twenty rounds of twenty rounds and so on, forty times; without the first three bytes it is far too long. */
+    uint8_t nests[3 + 3 * 40 + 2] = {0x2A, 0, 0};
+    for (size_t i = 3; i < 3 + 3 * 40; i += 3) {
+        nests[i] = 0x2A;
+        nests[i + 1] = 20;
+        nests[i + 2] = 20;
+    }
+    nests[123] = 0x20;
+    nests[124] = 0x20;
+    pattern_unfolded("no rounds of twenty of twenty ..", nests, 124, 42, 0, 1);
+    pattern_refused("no rounds, and a byte after them", nests, 125, CHAINS_BYTES_AFTER_PATTERN);
+    pattern_refused("twenty of twenty ..", nests + 3, 121, CHAINS_UNFOLDED_TOO_LONG);
+    pattern_refused("twenty of twenty .., and a byte after them", nests + 3, 122, CHAINS_BYTES_AFTER_PATTERN);
+    laps("no rounds of twenty of twenty ..", &day, nests, 124, 0, 0);
+
+    const uint8_t turned[4] = {0x2A, 1, 0, 0xFF}, many[4] = {0x2A, 0, 21, 0x20};
+    pattern_refused("2A", turned, 1, CHAINS_OPERANDS_MISSING);
+    pattern_refused("2A 01", turned, 2, CHAINS_OPERANDS_MISSING);
+    pattern_refused("2A 01 00", turned, 3, CHAINS_ROUNDS_OUT_OF_RANGE);
+    pattern_refused("2A 01 00 FF", turned, 4, CHAINS_ROUNDS_OUT_OF_RANGE);
+    pattern_refused("2A 00 00", none, 3, CHAINS_COMMAND_NOT_KNOWN);
+    pattern_refused("2A 00 15", many, 3, CHAINS_ROUNDS_OUT_OF_RANGE);
+    pattern_refused("2A 00 15 20", many, 4, CHAINS_ROUNDS_OUT_OF_RANGE);
+    const uint16_t c0[1] = {0};
+    const struct ask no_rounds = {&r, many, 4, 9, 9}, too_long = {&r, nests + 3, 121, 9, 9};
+    check_in("check, 24", no_rounds, c0, 1, 8704, CHAINS_ROUNDS_OUT_OF_RANGE, 0);
+    find_in("find, 24", no_rounds, 8704, 3, CHAINS_ROUNDS_OUT_OF_RANGE, 0, c0);
+    check_in("check, 25", too_long, c0, 1, 8704, CHAINS_UNFOLDED_TOO_LONG, 0);
+    find_in("find, 25", too_long, 8704, 3, CHAINS_UNFOLDED_TOO_LONG, 0, c0);
 }
 
 /* ---- replies taken apart, and the version */
@@ -588,7 +678,7 @@ static uint64_t reply_of(uint64_t number, uint64_t value)
 static void test_refused_replies(void)
 {
     const uint64_t values[6] = {0, 1, 2, 3, 5, CHAINS_NO_CHAIN};
-    for (uint64_t number = 1; number <= 23; number++) {
+    for (uint64_t number = 1; number <= 25; number++) {
         for (size_t i = 0; i < 6; i++) {
             const uint64_t value = values[i], reply = reply_of(number, value);
             size_t length = 77;
@@ -638,7 +728,7 @@ static void test_replies(void)
 
 /* ---- sentences */
 
-/* Every row of the list, number, tab and sentence, is what chains_message says; the rows are 1 to 23. */
+/* Every row of the list, number, tab and sentence, is what chains_message says; the rows are 1 to 25. */
 static void test_messages(const char *path)
 {
     FILE *list = fopen(path, "r");
@@ -660,10 +750,10 @@ static void test_messages(const char *path)
         }
     }
     fclose(list);
-    expect("the list has 23 sentences", number == 23);
+    expect("the list has 25 sentences", number == 25);
     expect("0 is not refused", strcmp(chains_message(0), "not refused") == 0);
     const char *unknown = "this number is not that of a refusal";
-    expect("24 is no refusal", strcmp(chains_message(24), unknown) == 0 && strcmp(chains_message(UINT32_MAX), unknown) == 0);
+    expect("26 is no refusal", strcmp(chains_message(26), unknown) == 0 && strcmp(chains_message(UINT32_MAX), unknown) == 0);
 }
 
 int main(int argc, char **argv)
@@ -679,6 +769,7 @@ int main(int argc, char **argv)
     test_find();
     test_unread();
     test_classes();
+    test_rounds();
     test_refused_replies();
     test_replies();
     test_messages(argc > 1 ? argv[1] : "include/refusals.txt");

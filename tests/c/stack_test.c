@@ -16,7 +16,7 @@
 #include <sys/mman.h>
 #include <unistd.h>
 
-enum { PATTERNS = 15, DAYS = 5, LONGEST_PATTERN = 200, MOST_WORDS = 4202496, MOST_ENTRIES = 100000, LINES = 4096 };
+enum { PATTERNS = 21, REFUSED = 2, DAYS = 5, LONGEST_PATTERN = 200, MOST_WORDS = 4202496, MOST_ENTRIES = 100000, LINES = 4096 };
 
 static const unsigned char PAINT = 0xC5;
 
@@ -60,6 +60,7 @@ static void write_patterns(void)
     const uint8_t sister[3] = {0x28, 1, 0}, foreign[3] = {0x29, 1, 2}, then_foreign[4] = {0x25, 0x29, 1, 1};
     const uint8_t either_line[3] = {0x24, 0x21, 1}, then_line[3] = {0x25, 0x21, 1}, then_same[4] = {0x25, 0x22, 1, 1};
     const uint8_t mixed[6] = {0x25, 0x26, 0x24, 0x21, 2, 0x26};
+    const uint8_t once[3] = {0x2A, 1, 1}, maybe[3] = {0x2A, 0, 1}, never[3] = {0x2A, 0, 0}, most[3] = {0x2A, 20, 20};
     struct bytes *p = patterns;
     /* Repeats around nothing, and around a line. */
     put(p, 62, repeat, 1), put(p++, 1, nothing, 1);
@@ -80,7 +81,14 @@ static void write_patterns(void)
     put(p, 1, keep, 9), put(p, 29, then_foreign, 4), put(p++, 1, sister, 3);
     /* Then, repeat, either and repeat, nested four times, with repeats in them. */
     put(p, 4, mixed, 6), put(p, 36, repeat, 1), put(p, 1, line, 2), put(p++, 4, line, 2);
-    /* One repeat too many: refused, at the deepest place that is read. */
+    /* Rounds in each other, one of each or none; in three keeps and around them. */
+    put(p, 62, once, 3), put(p++, 1, line, 2);
+    put(p, 62, maybe, 3), put(p++, 1, nothing, 1);
+    put(p, 1, keep, 9), put(p, 59, once, 3), put(p++, 1, same, 3);
+    put(p, 58, maybe, 3), put(p, 1, keep, 9), put(p, 1, maybe, 3), put(p++, 1, foreign, 3);
+    put(p, 1, never, 3), put(p, 61, most, 3), put(p++, 1, nothing, 1);
+    /* Twenty times twenty times and so on, and one repeat too many: refused, at the deepest place that is read. */
+    put(p, 62, most, 3), put(p++, 1, nothing, 1);
     put(p, 63, repeat, 1), put(p++, 1, nothing, 1);
 }
 
@@ -212,8 +220,8 @@ int main(void)
     const size_t taken = taken_by(call_all, &counted);
     printf("%zu answers on a stack of %d bytes; the hungriest call took %zu, beside %zu of the thread's own\n", counted.answers,
            CHAINS_STACK, taken - own, own);
-    /* The last pattern alone is refused; of the requests about the others, some are too large. */
-    if (counted.patterns != PATTERNS - 1 || counted.answers < 3 * PATTERNS || counted.found < PATTERNS ||
+    /* The last patterns alone are refused; of the requests about the others, some are too large. */
+    if (counted.patterns != PATTERNS - REFUSED || counted.answers < 3 * PATTERNS || counted.found < PATTERNS ||
         counted.yes != counted.found) {
         fail("the requests are answered");
     }

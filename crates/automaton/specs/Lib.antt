@@ -1,4 +1,5 @@
 pub mod Automaton
+pub mod Rounds
 pub mod Runs
 pub mod Scope
 pub mod Placed

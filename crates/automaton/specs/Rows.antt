@@ -1,11 +1,11 @@
--- Computed examples: the automata of document 01's patterns P and S and of three more, and words that they accept or not. Nothing to believe.
+-- Computed examples: the automata of document 01's patterns P and S and of some more, and words that they accept or not. Nothing to believe.
 use mathlib.Core.Path.{_≡_, refl}
 use mathlib.Core.Bool.{Bool, true, false, So}
 use mathlib.Core.List.{List, [], _∷_}
 use mathlib.Core.Logic.{_↔_}
-use Prim.Native.Nat.{ℕ}
+use Prim.Native.Nat.{ℕ, zero, suc}
 use Rattle.meaning.specs.Record.{Boat}
-use Rattle.meaning.specs.Pattern.{Pattern, nothing, line, test, same, other, either, then, repeat, keep}
+use Rattle.meaning.specs.Pattern.{Pattern, nothing, line, test, same, other, either, then, repeat, keep, counted}
 use Rattle.meaning.specs.Language.{Letter, Word, unbound, bind, L}
 use Rattle.automaton.specs.Automaton.{Node, Test, always, against, silent, nodes, start, accepts}
 use Rattle.automaton.specs.Words.{same-words-in}
@@ -159,3 +159,142 @@ one-given p s b w = same-words-in p (s ∷ []) (b ∷ []) refl w
 unkept : accepts (test other 1 0) [] [] (letter 1 (boat 1 1) ∷ []) ≡ false
 unfolding letter boat
 unkept = refl
+
+-- ---- counted patterns
+
+-- so many letters of kind 3
+letters : ℕ → Word
+letters zero = []
+letters (suc n) = letter 3 (boat 1 1) ∷ letters n
+
+-- a round may be the last where one is needed and two are allowed
+nodes-counted : nodes (counted 1 2 (line 3)) []
+    ≡ silent
+    ∷ node 3 always false 0 (2 ∷ 3 ∷ [])
+    ∷ node 3 always false 0 (3 ∷ [])
+    ∷ []
+unfolding node
+nodes-counted = refl
+
+start-counted : start (counted 1 2 (line 3)) ≡ 1 ∷ []
+start-counted = refl
+
+-- from two to five: below, at both ends, above
+C : Pattern
+C = counted 2 5 (line 3)
+
+C-one : accepts C [] [] (letters 1) ≡ false
+unfolding C letters letter boat
+C-one = refl
+
+C-two : accepts C [] [] (letters 2) ≡ true
+unfolding C letters letter boat
+C-two = refl
+
+C-five : accepts C [] [] (letters 5) ≡ true
+unfolding C letters letter boat
+C-five = refl
+
+C-six : accepts C [] [] (letters 6) ≡ false
+unfolding C letters letter boat
+C-six = refl
+
+-- no round at all
+none-nodes : nodes (counted 0 0 (line 3)) [] ≡ silent ∷ []
+none-nodes = refl
+
+none-empty : accepts (counted 0 0 (line 3)) [] [] [] ≡ true
+none-empty = refl
+
+none-one : accepts (counted 0 0 (line 3)) [] [] (letters 1) ≡ false
+unfolding letters letter boat
+none-one = refl
+
+-- rounds that have the empty word
+empty-rounds : accepts (counted 1 3 nothing) [] [] [] ≡ true
+empty-rounds = refl
+
+N : Pattern
+N = counted 2 3 (repeat (line 3))
+
+nodes-N : nodes N []
+    ≡ silent
+    ∷ silent
+    ∷ node 3 always false 0 (2 ∷ 4 ∷ 6 ∷ 7 ∷ [])
+    ∷ silent
+    ∷ node 3 always false 0 (4 ∷ 6 ∷ 7 ∷ [])
+    ∷ silent
+    ∷ node 3 always false 0 (6 ∷ 7 ∷ [])
+    ∷ []
+unfolding N node
+nodes-N = refl
+
+start-N : start N ≡ 2 ∷ 4 ∷ 6 ∷ 7 ∷ []
+unfolding N
+start-N = refl
+
+-- counted in counted: from two to four
+I : Pattern
+I = counted 2 2 (counted 1 2 (line 3))
+
+nodes-I : nodes I []
+    ≡ silent
+    ∷ silent
+    ∷ node 3 always false 0 (3 ∷ 5 ∷ [])
+    ∷ node 3 always false 0 (5 ∷ [])
+    ∷ silent
+    ∷ node 3 always false 0 (6 ∷ 7 ∷ [])
+    ∷ node 3 always false 0 (7 ∷ [])
+    ∷ []
+unfolding I node
+nodes-I = refl
+
+I-one : accepts I [] [] (letters 1) ≡ false
+unfolding I letters letter boat
+I-one = refl
+
+I-two : accepts I [] [] (letters 2) ≡ true
+unfolding I letters letter boat
+I-two = refl
+
+I-four : accepts I [] [] (letters 4) ≡ true
+unfolding I letters letter boat
+I-four = refl
+
+I-five : accepts I [] [] (letters 5) ≡ false
+unfolding I letters letter boat
+I-five = refl
+
+-- each round keeps its own boat, and the boat of the round before is gone
+O : Pattern
+O = counted 2 2 (keep 1 0 (test same 1 0))
+
+nodes-O : nodes O []
+    ≡ silent
+    ∷ node 1 always true 0 (2 ∷ [])
+    ∷ node 1 (against same 0) false 1 (3 ∷ [])
+    ∷ node 1 always true 0 (4 ∷ [])
+    ∷ node 1 (against same 0) false 1 (5 ∷ [])
+    ∷ []
+unfolding O node
+nodes-O = refl
+
+O-own : accepts O [] [] (letter 1 (boat 1 1) ∷ letter 1 (boat 1 1) ∷ letter 1 (boat 1 2) ∷ letter 1 (boat 1 2) ∷ []) ≡ true
+unfolding O letter boat
+O-own = refl
+
+O-gone : accepts O [] [] (letter 1 (boat 1 1) ∷ letter 1 (boat 1 1) ∷ letter 1 (boat 1 2) ∷ letter 1 (boat 1 1) ∷ []) ≡ false
+unfolding O letter boat
+O-gone = refl
+
+-- after a round that keeps a boat the boat from outside is back
+B : Pattern
+B = counted 2 2 (either (keep 1 0 (line 1)) (test same 2 0))
+
+B-outer-back : accepts B (0 ∷ []) (boat 1 1 ∷ []) (letter 1 (boat 1 2) ∷ letter 1 (boat 1 2) ∷ letter 2 (boat 1 1) ∷ []) ≡ true
+unfolding B letter boat
+B-outer-back = refl
+
+B-inner-gone : accepts B (0 ∷ []) (boat 1 1 ∷ []) (letter 1 (boat 1 2) ∷ letter 1 (boat 1 2) ∷ letter 2 (boat 1 2) ∷ []) ≡ false
+unfolding B letter boat
+B-inner-gone = refl

@@ -11,11 +11,12 @@ use native.Mathlib.Nat.{le-of-eq}
 use native.Mathlib.Omega.{arith}
 use native.Mathlib.Decide.{decLt}
 use lib.ListN.{length, length-append}
-use Rattle.meaning.specs.Pattern.{Rule, Pattern, commands, keeps}
+use Rattle.meaning.specs.Pattern.{Rule, Pattern, unfolded, keeps}
 use Rattle.lists.specs.Listed.{_∈_, none-in, getD-in}
-use Rattle.automaton.specs.Automaton.{Node, Test, never, always, against, silent, testOf, levelOf, enter, compile, start, nodes, nodeAt}
+use Rattle.automaton.specs.Automaton.{Node, Test, never, always, against, silent, testOf, levelOf, nullable, heads, enter, compile, start, nodes, nodeAt}
+use Rattle.automaton.specs.Rounds.{rounds-nodes}
 use Rattle.automaton.specs.Scope.{Below, level-below}
-use Rattle.automaton.specs.Placed.{Placed, is-nothing, is-line, is-test, is-either, is-then, is-repeat, is-keep, Within, within-heads, within-enter, within-inside, within-deeper, nodes-length, nodes-placed, end-silent, end-within}
+use Rattle.automaton.specs.Placed.{Placed, is-nothing, is-line, is-test, is-either, is-then, is-repeat, is-keep, is-counted, Within, within-heads, within-enter, within-inside, within-deeper, nodes-length, nodes-placed, end-silent, end-within, within-rounds}
 
 -- ---- what is claimed
 
@@ -80,13 +81,18 @@ module _ {node : ℕ → Node} {done : ℕ} where
       ⊎-elim
       (λ j. good-deeper (omega arith) (nodes-good hp (within-enter hq d) n j))
       (λ j. good-deeper (omega arith) (nodes-good hq d n j))
-      (List·Memᴰ·append-cases (compile p (suc b) scope (enter q (suc b + commands p) K)) i))
+      (List·Memᴰ·append-cases (compile p (suc b) scope (enter q (suc b + unfolded p) K)) i))
       m
   nodes-good (is-repeat hp) d n m = good-cons good-silent (nodes-good hp (within-heads hp d) n) m
   nodes-good (is-keep {s = slot} {scope = scope} s hp) d n m =
       let inside : length (scope ++ (slot ∷ [])) ≡ suc (length scope) = omega (arith, length-append scope (slot ∷ [])) in
       good-cons (record { follows = within-deeper (le-of-eq inside) (within-enter hp (within-inside scope slot d)); depth = omega arith; reads = tt })
       (λ i. good-deeper (omega (arith, inside)) (nodes-good hp (within-inside scope slot d) n i))
+      m
+  nodes-good (is-counted {low = low} {high = high} {p = p} {b = b} {scope = scope} {K = K} h) d n m =
+      good-cons good-silent
+      (rounds-nodes (λ a. heads p a) (nullable p) (unfolded p) (λ a J. compile p a scope J) K low high (suc b)
+      (λ m′ n′ a r. nodes-good (h m′ n′ a r) (within-rounds p h d m′ n′ a r) n))
       m
 
 -- ---- of the whole automaton
@@ -95,25 +101,25 @@ module _ (p : Pattern) (scope : List ℕ) where
   abbrev node : ℕ → Node
   node = nodeAt (nodes p scope)
 
-  pub shape : {deepest : ℕ} → length scope + keeps p ≤ deepest → Shape (nodeAt (nodes p scope)) (commands p) deepest
+  pub shape : {deepest : ℕ} → length scope + keeps p ≤ deepest → Shape (nodeAt (nodes p scope)) (unfolded p) deepest
   shape {deepest} h = record {
-    end = end-silent p scope (commands p) (le-of-eq refl);
+    end = end-silent p scope (unfolded p) (le-of-eq refl);
     goes = goes;
     depth = λ c. omega (arith, h, good c .depth);
     reads = λ c. good c .reads;
   }
     where
-      good : (c : ℕ) → Good node (commands p) (length scope + keeps p) (node c)
-      good c = elim (decLt c (commands p)) [
+      good : (c : ℕ) → Good node (unfolded p) (length scope + keeps p) (node c)
+      good c = elim (decLt c (unfolded p)) [
         | yes l ↦ nodes-good (nodes-placed p scope) (end-within p scope) (node c) (getD-in (nodes p scope) c silent (omega (arith, nodes-length p scope)))
-        | no l ↦ subst (Good node (commands p) (length scope + keeps p)) (sym (end-silent p scope c (omega arith))) good-silent
+        | no l ↦ subst (Good node (unfolded p) (length scope + keeps p)) (sym (end-silent p scope c (omega arith))) good-silent
       ]
 
-      goes : (c k : ℕ) → k ∈ node c .follow → (c < commands p) × (k ≤ commands p) × (node k .depth ≤ leaves (node c))
-      goes c k m = elim (decLt c (commands p)) [
+      goes : (c k : ℕ) → k ∈ node c .follow → (c < unfolded p) × (k ≤ unfolded p) × (node k .depth ≤ leaves (node c))
+      goes c k m = elim (decLt c (unfolded p)) [
         | yes l ↦ (l, good c .follows .at k m .0, good c .follows .at k m .1)
         | no l ↦ none-in (subst (λ n. k ∈ n .follow) (end-silent p scope c (omega arith)) m)
       ]
 
-  pub start-within : Within (nodeAt (nodes p scope)) (commands p) (start p) (length scope)
+  pub start-within : Within (nodeAt (nodes p scope)) (unfolded p) (start p) (length scope)
   start-within = within-enter (nodes-placed p scope) (end-within p scope)

@@ -4,24 +4,33 @@ use mathlib.Core.Path.{_≡_, refl, sym, ap, _∙_}
 use mathlib.Core.Bool.{Bool, true, false, So, _||_, false≢true, and-eq-true-iff}
 use mathlib.Core.List.{List, [], _∷_, _++_, append-assoc}
 use mathlib.Core.Logic.{_⊎_, inl, inr, ⊎-elim}
-use Prim.Native.Nat.{ℕ, zero, suc, _≤_}
+use Prim.Native.Nat.{ℕ, zero, suc, _+_, _≤_}
 use native.Mathlib.Nat.{le-of-eq}
 use native.Mathlib.Omega.{arith}
 use lib.ListN.{length, length-append}
 use Rattle.meaning.specs.Record.{Boat}
-use Rattle.meaning.specs.Pattern.{Pattern, nothing, line, test, either, then, repeat, keep}
-use Rattle.meaning.specs.Language.{Letter, Word, Valuation, bind, Star, stop, more, L}
+use Rattle.meaning.specs.Pattern.{Pattern, nothing, line, test, either, then, repeat, keep, counted, unfolded}
+use Rattle.meaning.specs.Language.{Letter, Word, Valuation, bind, Star, stop, more, Times, L}
 use Rattle.lists.specs.Listed.{when}
-use Rattle.automaton.specs.Automaton.{Node, Test, always, taking, nullable, heads, enter, byBoat}
+use Rattle.automaton.specs.Automaton.{Node, Test, always, taking, before, nullRounds, nullable, heads, enter, headsCounted, enterCounted, byBoat}
+use Rattle.automaton.specs.Rounds.{Round, the-first, a-later}
 use Rattle.automaton.specs.Runs.{From, Taken, from-cases, from-when, from-none, from-cut, step-sound}
 use Rattle.automaton.specs.Scope.{Holds, holds-inside, passes-meets}
-use Rattle.automaton.specs.Placed.{Placed, is-nothing, is-line, is-test, is-either, is-then, is-repeat, is-keep, Within, within-heads, within-enter, within-inside, within-low}
+use Rattle.automaton.specs.Placed.{Placed, is-nothing, is-line, is-test, is-either, is-then, is-repeat, is-keep, is-counted, Within, within-heads, within-enter, within-inside, within-low, within-rounds}
 
 -- ---- a nullable pattern has the empty word
 
 or-cases : (x y : Bool) → So (x || y) → So x ⊎ So y
 or-cases true y h = inl refl
 or-cases false y h = inr h
+
+rounds-null : (P : Word → Type 0) (null : Bool) → (So null → P []) → (m n : ℕ) → So (nullRounds null m n) → Times P m n []
+rounds-null P null e zero n h = (0, omega arith, omega arith, refl)
+rounds-null P null e (suc m) zero h = absurd (false≢true h)
+rounds-null P null e (suc m) (suc n) h =
+    let (x, y) = and-eq-true-iff null (nullRounds null m n) .0 h in
+    let (k, low, high, w) = rounds-null P null e m n y in
+    (suc k, omega (arith, low), omega (arith, high), ([], [], refl, e x, w))
 
 nullable-sound : (p : Pattern) (ν : Valuation) → So (nullable p) → L p ν []
 nullable-sound nothing ν h = refl
@@ -31,6 +40,7 @@ nullable-sound (either p q) ν h = ⊎-elim (λ e. inl (nullable-sound p ν e)) 
 nullable-sound (then p q) ν h = let (e, f) = and-eq-true-iff (nullable p) (nullable q) .0 h in ([], [], refl, nullable-sound p ν e, nullable-sound q ν f)
 nullable-sound (repeat p) ν h = stop refl
 nullable-sound (keep k s p) ν h = absurd (false≢true h)
+nullable-sound (counted low high p) ν h = rounds-null (L p ν) (nullable p) (nullable-sound p ν) low high h
 
 -- ---- a word of a language, and then a run
 
@@ -72,6 +82,11 @@ module _ {node : ℕ → Node} {done : ℕ} {K : List ℕ} {st : List Boat} {w :
 
 -- ---- each command
 
+-- one round, and those after it
+one-more : (P : Word → Type 0) (m n : ℕ) (u v : Word) → P u → Times P (before m) n v → Times P m (suc n) (u ++ v)
+one-more P zero n u v l (k, low, high, w) = (suc k, omega arith, omega (arith, high), (u, v, refl, l, w))
+one-more P (suc m) n u v l (k, low, high, w) = (suc k, omega (arith, low), omega (arith, high), (u, v, refl, l, w))
+
 -- every run from H reads a word of P that has a letter, and goes on from K
 abbrev pub Sound : (ℕ → Node) → ℕ → (Word → Type 0) → List ℕ → List ℕ → List Boat → Type 0
 Sound node done P H K st = (w : Word) → From byBoat node done H st w → Split⁺ node done P K st w
@@ -81,13 +96,18 @@ module _ {node : ℕ → Node} {done : ℕ} where
       → (x : Taken byBoat node done (taking k t false scope K) st w) → P (x .head ∷ []) → Split⁺ node done P K st w
   one-sound scope x l = record { first = x .head; front = []; back = x .tail; is = x .is; word = l; rest = x .rest }
 
-  pub enter-sound : (p : Pattern) (b : ℕ) (ν : Valuation) {K : List ℕ} {st : List Boat} → Sound node done (L p ν) (heads p b) K st
-      → (w : Word) → From byBoat node done (enter p b K) st w → Split node done (L p ν) K st w
-  enter-sound p b ν f w r =
+  -- from the heads H, or from K where the empty word is in P
+  head-or-none : {P : Word → Type 0} (H : List ℕ) (null : Bool) → (So null → P []) → {K : List ℕ} {st : List Boat} → Sound node done P H K st
+      → (w : Word) → From byBoat node done (H ++ when null K) st w → Split node done P K st w
+  head-or-none H null e f w r =
       ⊎-elim
       (λ r′. split-any (f w r′))
-      (λ r′. let (e, r″) = from-when (nullable p) r′ in record { front = []; back = w; is = refl; word = nullable-sound p ν e; rest = r″ })
-      (from-cases (heads p b) r)
+      (λ r′. let (t, r″) = from-when null r′ in record { front = []; back = w; is = refl; word = e t; rest = r″ })
+      (from-cases H r)
+
+  pub enter-sound : (p : Pattern) (b : ℕ) (ν : Valuation) {K : List ℕ} {st : List Boat} → Sound node done (L p ν) (heads p b) K st
+      → (w : Word) → From byBoat node done (enter p b K) st w → Split node done (L p ν) K st w
+  enter-sound p b ν f w r = head-or-none (heads p b) (nullable p) (nullable-sound p ν) f w r
 
   then-sound : (p q : Pattern) (b c : ℕ) (ν : Valuation) {K : List ℕ} {st : List Boat}
       → Sound node done (L p ν) (heads p b) (enter q c K) st → Sound node done (L q ν) (heads q c) K st
@@ -109,6 +129,23 @@ module _ {node : ℕ → Node} {done : ℕ} where
       (λ r′. split-any (repeat-sound P H K st f n (x .back) (omega (arith, l, ap length (x .is), length-append (x .front) (x .back))) r′))
       (λ r′. record { front = []; back = x .back; is = refl; word = stop refl; rest = r′ })
       (from-cases H (x .rest)))
+
+  -- rounds: the first, if it is not empty, and those after it
+  rounds-sound : (p : Pattern) (ν : Valuation) (K : List ℕ) (st : List Boat) (m n b : ℕ)
+      → ((m′ n′ a : ℕ) → Round (unfolded p) m n b m′ n′ a → Sound node done (L p ν) (heads p a) (enterCounted p m′ n′ (a + unfolded p) K) st)
+      → Sound node done (Times (L p ν) m n) (headsCounted p n b) K st
+  rounds-sound p ν K st m zero b f w r = from-none r
+  rounds-sound p ν K st m (suc n) b f w r =
+      let next = b + unfolded p in
+      let later : Sound node done (Times (L p ν) (before m) n) (headsCounted p n next) K st =
+      rounds-sound p ν K st (before m) n next (λ m′ n′ a i. f m′ n′ a (a-later i)) in
+      ⊎-elim
+      (λ r′.
+      let x = f (before m) n b the-first w r′ in
+      split-join (one-more (L p ν) m n) x
+      (head-or-none (headsCounted p n next) (nullRounds (nullable p) (before m) n) (rounds-null (L p ν) (nullable p) (nullable-sound p ν) (before m) n) later (x .back) (x .rest)))
+      (λ r′. let (e, r″) = from-when (nullable p) r′ in split-as (λ u l. one-more (L p ν) m n [] u (nullable-sound p ν e) l) (later w r″))
+      (from-cases (heads p b) r)
 
   -- a letter that is kept, then a word of p, then a run; leaving p forgets the boat
   keep-sound : {k : ℕ} (s : ℕ) (p : Pattern) (scope : List ℕ) (ν : Valuation) {K K′ : List ℕ} {st : List Boat} {w : Word}
@@ -145,3 +182,5 @@ module _ {node : ℕ → Node} {done : ℕ} where
       keep-sound slot p scope ν t
       (enter-sound p (suc b) (bind ν slot v) (sound (bind ν slot v) hp (holds-inside slot v e) (within-inside scope slot d)) (t .tail) (t .rest))
       (λ u r′. from-cut st (v ∷ []) (within-low (e .long) d) .0 r′)
+  sound {st = st} ν (is-counted {low = low} {high = high} {p = p} {b = b} {K = K} h) e d w r =
+      rounds-sound p ν K st low high (suc b) (λ m n a i. sound ν (h m n a i) e (within-rounds p h d m n a i)) w r

@@ -10,7 +10,7 @@ use lib.Dec.{eqb}
 use lib.ListN.{take, length}
 use borrow.Author.Tests.{eq-eqb}
 use Rattle.meaning.specs.Record.{Boat}
-use Rattle.meaning.specs.Pattern.{Pattern, commands}
+use Rattle.meaning.specs.Pattern.{Pattern, unfolded}
 use Rattle.meaning.specs.Language.{Word, unbound, L}
 use Rattle.automaton.specs.Automaton.{Node, silent, start, nodes, nodeAt, byBoat, passes, takes, accepts}
 use Rattle.automaton.specs.Runs.{From, from-sound, from-complete}
@@ -44,14 +44,14 @@ module _ (p : Pattern) (scope : List ℕ) (st : List Boat) (long : length st ≡
   words-complete : L p (bindAll unbound scope st) w → So (accepts p scope st w)
   words-complete l =
       from-complete
-      (subst (From byBoat node (commands p) (start p) st) (append-nil w)
+      (subst (From byBoat node (unfolded p) (start p) st) (append-nil w)
       (complete (bindAll unbound scope st) (nodes-placed p scope) (holds-all scope st long) (end-within p scope) w [] l end-complete))
 
   words-sound : So (accepts p scope st w) → L p (bindAll unbound scope st) w
   words-sound h =
       let ν = bindAll unbound scope st in
       let x = enter-sound p 0 ν (sound ν (nodes-placed p scope) (holds-all scope st long) (end-within p scope)) w (from-sound (start p) st w h) in
-      let none-left : x .back ≡ [] = end-sound (end-silent p scope (commands p) (le-of-eq refl)) (x .back) (x .rest) in
+      let none-left : x .back ≡ [] = end-sound (end-silent p scope (unfolded p) (le-of-eq refl)) (x .back) (x .rest) in
       subst (L p ν) (sym (x .is ∙ (ap (x .front ++_) none-left ∙ append-nil (x .front)))) (x .word)
 
   -- with the boats of `st` in the slots of `scope`, the outermost first

@@ -3,19 +3,20 @@ use mathlib.Core.Path.{_≡_, sym, _∙_, subst}
 use mathlib.Core.Bool.{Bool, true, false, cond, _&&_, _||_}
 use mathlib.Core.List.{List, [], _∷_}
 use mathlib.Core.Logic.{inl, inr}
-use Prim.Native.Nat.{ℕ, suc, _+_, _*_, _<_, _^_, _%_}
-use native.Mathlib.Nat.{mod-eq-of-lt, one-mul}
+use Prim.Native.Nat.{ℕ, suc, _+_, _*_, _<_, _≤_, _^_, _%_}
+use native.Mathlib.Nat.{mod-eq-of-lt, one-mul, zero-mul}
 use native.Mathlib.Numerals.{add-one}
 use native.Mathlib.Omega.{arith}
 use lib.Bits.{bitOr}
 use lib.Dec.{eqb}
 use lib.Pow.{pow-lt}
 use borrow.Author.Tests.{eq-eqb, ne-eqb}
-use Rattle.meaning.specs.Pattern.{Rule, Pattern, nothing, line, test, either, then, repeat, keep, commands, testRule, leaf, around, joined, Part}
+use Rattle.meaning.specs.Pattern.{Rule, Pattern, nothing, line, test, either, then, repeat, keep, counted, unfolded, testRule, leaf, around, joined, Part}
 use Rattle.automaton.specs.Automaton.{heads, nullable, enter}
 use Rattle.positions.specs.Masks.{Marks, marks-none, marks-append, marks-when}
 use Rattle.compiler.specs.declared.Begin.{Begin}
-use Rattle.compiler.specs.Compiling.{OnePattern, Begins}
+use Rattle.pattern.specs.Passed.{OneOf}
+use Rattle.compiler.specs.Compiling.{Begins}
 
 -- what `1 << k` is, below the width
 pub shl-one : (k : ℕ) → k < 64 → (1 * 2 ^ k) % 18446744073709551616 ≡ 2 ^ k
@@ -29,9 +30,14 @@ leaf-nothing kind slot e = rw (eq-eqb _ _ e)
 pub around-keep : {code : ℕ} (kind slot : ℕ) (p : Pattern) → code ≡ 0x27 → around code kind slot p ≡ keep kind slot p
 around-keep kind slot p e = rw e
 
-pub is-repeat : {code : ℕ} → OnePattern code → (code ≡ 0x27 → ⊥) → code ≡ 0x26
-is-repeat (inl e) h = e
-is-repeat (inr e) h = absurd (h e)
+pub around-counted : {code : ℕ} (low high : ℕ) (p : Pattern) → code ≡ 0x2A → around code low high p ≡ counted low high p
+around-counted low high p e = rw e
+
+-- one of the three, and neither of two of them
+pub is-repeat : {code : ℕ} → OneOf code → (code ≡ 0x2A → ⊥) → (code ≡ 0x27 → ⊥) → code ≡ 0x26
+is-repeat (inl e) g h = e
+is-repeat (inr (inl e)) g h = absurd (h e)
+is-repeat (inr (inr e)) g h = absurd (g e)
 
 pub around-repeat : {code : ℕ} (kind slot : ℕ) (p : Pattern) → code ≡ 0x26 → around code kind slot p ≡ repeat p
 around-repeat kind slot p e = rw e
@@ -53,13 +59,19 @@ begins-part {b = b} {r = r} e h = subst (λ z. Begins (z .tree) b (z .next) r) e
 pub begins-suc : {x : Pattern} {b next : ℕ} {r : Begin} → Begins x (b + 1) next r → Begins x (suc b) next r
 begins-suc {x} {b} {next} {r} h = subst (λ i. Begins x i next r) (add-one b) h
 
-pub begins-second : (x : Pattern) (b : ℕ) {y : Pattern} {next : ℕ} {r : Begin} → Begins y (b + 1 + commands x) next r → Begins y (suc b + commands x) next r
-begins-second x b {y} {next} {r} h = subst (λ i. Begins y (i + commands x) next r) (add-one b) h
+pub begins-second : (x : Pattern) (b : ℕ) {y : Pattern} {next : ℕ} {r : Begin} → Begins y (b + 1 + unfolded x) next r → Begins y (suc b + unfolded x) next r
+begins-second x b {y} {next} {r} h = subst (λ i. Begins y (i + unfolded x) next r) (add-one b) h
 
 -- ---- the commands
 
 pub nothing-begins : (b : ℕ) {next : ℕ} {r : Begin} → r .next ≡ next → r .after ≡ b + 1 → r .heads ≡ 0 → r .nullable ≡ true → Begins nothing b next r
 nothing-begins b n a h e = record { next-is = n; after-is = a; heads-are = subst (λ m. Marks m []) (sym h) marks-none; nullable-is = e }
+
+-- and so begins what may come no time
+pub skipped-begins : (x : Pattern) {low high b next : ℕ} {r : Begin} → high ≡ 0 → low ≤ high → Begins nothing b next r → Begins (counted low high x) b next r
+skipped-begins x {low} {high} {b} {next} {r} e l h =
+    let none : low ≡ 0 = omega (arith, e, l) in
+    rw (e, none) (record { next-is = h .next-is; after-is = omega (arith, h .after-is, zero-mul (unfolded x)); heads-are = h .heads-are; nullable-is = h .nullable-is })
 
 -- every other command without patterns takes a letter
 pub leaf-begins : {code : ℕ} (kind slot b : ℕ) {next : ℕ} {r : Begin} → (code ≡ 0x20 → ⊥)
@@ -82,7 +94,7 @@ module _ {x : Pattern} {b next : ℕ} {p r : Begin} (h : Begins x (b + 1) next p
     nullable-is = e;
   }
 
-module _ {x y : Pattern} {b n m : ℕ} {p q r : Begin} (h : Begins x (b + 1) n p) (k : Begins y (b + 1 + commands x) m q) (n-is : r .next ≡ q .next) (a-is : r .after ≡ q .after) where
+module _ {x y : Pattern} {b n m : ℕ} {p q r : Begin} (h : Begins x (b + 1) n p) (k : Begins y (b + 1 + unfolded x) m q) (n-is : r .next ≡ q .next) (a-is : r .after ≡ q .after) where
   pub either-begins : r .heads ≡ bitOr (p .heads) (q .heads) → r .nullable ≡ (p .nullable || q .nullable) → Begins (either x y) b m r
   either-begins hs e = record {
     next-is = n-is ∙ k .next-is;
@@ -95,7 +107,7 @@ module _ {x y : Pattern} {b n m : ℕ} {p q r : Begin} (h : Begins x (b + 1) n p
   then-begins hs e = record {
     next-is = n-is ∙ k .next-is;
     after-is = omega (arith, a-is, k .after-is);
-    heads-are = hs (heads y (suc b + commands x)) (begins-second x b k .heads-are);
+    heads-are = hs (heads y (suc b + unfolded x)) (begins-second x b k .heads-are);
     nullable-is = e ∙ (λ i. h .nullable-is i && k .nullable-is i);
   }
 

@@ -1,21 +1,22 @@
 -- A pattern's nodes are its first command's and those of the patterns after it, and an entry says a node. Assumes nothing.
 use mathlib.Core.Path.{_≡_, refl, sym, _∙_, ap, subst}
 use mathlib.Core.Bool.{Bool, true, false, cond}
-use mathlib.Core.List.{List, [], _∷_, _++_}
+use mathlib.Core.List.{List, [], _∷_, _++_, append-nil}
 use mathlib.Core.Logic.{inl, inr}
 use mathlib.Core.Option.{Option, none, some}
-use Prim.Native.Nat.{ℕ, suc, _+_, _-_, _≤_}
+use Prim.Native.Nat.{ℕ, zero, suc, _+_, _-_, _≤_}
 use native.Mathlib.Omega.{arith}
 use lib.Dec.{eqb}
 use lib.ListN.{length}
 use borrow.Author.Tests.{ne-eqb}
-use Rattle.meaning.specs.Pattern.{Rule, Pattern, nothing, line, test, same, other, sister, foreign, either, then, commands, testRule, leaf, around, joined}
-use Rattle.automaton.specs.Automaton.{Node, Test, always, against, silent, taking, heads, enter, levelOf, testOf, compile}
+use Rattle.meaning.specs.Pattern.{Rule, Pattern, nothing, line, test, same, other, sister, foreign, either, then, unfolded, testRule, leaf, joined}
+use Rattle.automaton.specs.Automaton.{Node, Test, always, against, silent, taking, heads, enter, levelOf, testOf, compile, compileCounted}
 use Rattle.positions.specs.Program.{testIn}
 use Rattle.positions.specs.declared.Rule.the-variants as Asked
 use Rattle.positions.specs.Masks.{Marks, marks-none}
 use Rattle.automaton.specs.Scope.{Below, level-below}
-use Rattle.compiler.specs.Compiling.{OnePattern, mark, scopeIn, afterIn, afterFirst, Says, firstNode, askedRule}
+use Rattle.compiler.specs.Compiling.{OnePattern, aroundOf, mark, scopeIn, afterIn, afterFirst, Says, firstNode, askedRule}
+use Rattle.compiler.specs.declared.Step.{Step}
 use Rattle.compiler.specs.declared.Entry.{Entry}
 
 -- ---- a pattern's nodes, by its command
@@ -28,16 +29,29 @@ compile-leaf code kind slot b scope K = go (eqb code 0x20) (eqb code 0x21) (test
     go false true r = refl
     go false false r = refl
 
-pub compile-around : {code : ℕ} (kind slot b : ℕ) (x : Pattern) (scope K : List ℕ) → OnePattern code
-    → compile (around code kind slot x) b scope K ≡ firstNode (around code kind slot x) b scope K ∷ compile x (suc b) (scopeIn code slot scope) (afterIn code (heads x (suc b)) K)
-compile-around kind slot b x scope K (inl e) = rw e
-compile-around kind slot b x scope K (inr e) = rw e
+-- a counted pattern that comes once at most: its one round, and then what comes after the command
+one-round : (x : Pattern) (low b : ℕ) (scope K : List ℕ) → low ≤ 1 → compileCounted x low 1 b scope K ≡ compile x b scope K
+one-round x zero b scope K h = append-nil (compile x b scope K)
+one-round x (suc zero) b scope K h = append-nil (compile x b scope K)
+one-round x (suc (suc n)) b scope K h = absurd (omega (arith, h))
+
+pub compile-around : (c : Step) (b : ℕ) (x : Pattern) (scope K : List ℕ) → OnePattern c
+    → compile (aroundOf c x) b scope K ≡ firstNode (aroundOf c x) b scope K ∷ compile x (suc b) (scopeIn (c .code) (c .second) scope) (afterIn (c .code) (heads x (suc b)) K)
+compile-around c b x scope K (inl e) = rw e
+compile-around c b x scope K (inr (inl e)) = rw e
+compile-around c b x scope K (inr (inr (e, low, one))) = rw (e, one) (ap (silent ∷_) (one-round x (c .first) (suc b) scope K low))
+
+-- without a keep the first node is silent
+pub node-around : (c : Step) (b : ℕ) (x : Pattern) (scope K : List ℕ) → OnePattern c → (c .code ≡ 0x27 → ⊥) → firstNode (aroundOf c x) b scope K ≡ silent
+node-around c b x scope K (inl e) h = rw e
+node-around c b x scope K (inr (inl e)) h = absurd (h e)
+node-around c b x scope K (inr (inr (e, low, one))) h = rw e
 
 pub compile-joined : (code b : ℕ) (x y : Pattern) (scope K : List ℕ)
-    → compile (joined code x y) b scope K ≡ silent ∷ (compile x (suc b) scope (afterFirst code y (suc b + commands x) K) ++ compile y (suc b + commands x) scope K)
+    → compile (joined code x y) b scope K ≡ silent ∷ (compile x (suc b) scope (afterFirst code y (suc b + unfolded x) K) ++ compile y (suc b + unfolded x) scope K)
 compile-joined code b x y scope K = go (eqb code 0x24)
   where
-    go : (t : Bool) → compile (cond t (either x y) (then x y)) b scope K ≡ silent ∷ (compile x (suc b) scope (cond t K (enter y (suc b + commands x) K)) ++ compile y (suc b + commands x) scope K)
+    go : (t : Bool) → compile (cond t (either x y) (then x y)) b scope K ≡ silent ∷ (compile x (suc b) scope (cond t K (enter y (suc b + unfolded x) K)) ++ compile y (suc b + unfolded x) scope K)
     go true = refl
     go false = refl
 

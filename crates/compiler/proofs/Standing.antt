@@ -6,7 +6,7 @@ use native.Mathlib.Nat.{add-zero, zero-add}
 use native.Mathlib.Omega.{arith}
 use native.Mathlib.Decide.{decLt}
 use lib.ListN.{length, getD}
-use Rattle.meaning.specs.Pattern.{Pattern, commands}
+use Rattle.meaning.specs.Pattern.{Pattern, unfolded}
 use Rattle.automaton.specs.Automaton.{Node, silent, nodes, nodeAt}
 use Rattle.automaton.specs.Placed.{nodes-length, end-silent}
 use Rattle.positions.specs.Program as Program
@@ -69,14 +69,14 @@ written-both {b} {m} ns ms {mid = mid} {now = now} e v w = record {
 -- ---- a whole automaton and its end
 
 module _ (p : Pattern) {x : Entry} {before mid now : List ℕ} where
-  pub whole-says : Written 0 (nodes p []) before mid → Put (commands p) x mid now → Says x silent
-      → (k : ℕ) → k ≤ commands p → Says (entryAt now k) (nodeAt (nodes p []) k)
-  whole-says w e s k l = go (decLt k (commands p))
+  pub whole-says : Written 0 (nodes p []) before mid → Put (unfolded p) x mid now → Says x silent
+      → (k : ℕ) → k ≤ unfolded p → Says (entryAt now k) (nodeAt (nodes p []) k)
+  whole-says w e s k l = go (decLt k (unfolded p))
     where
-      go : Dec (k < commands p) → Says (entryAt now k) (nodeAt (nodes p []) k)
+      go : Dec (k < unfolded p) → Says (entryAt now k) (nodeAt (nodes p []) k)
       go (yes h) =
           subst (λ y. Says y (nodeAt (nodes p []) k)) (sym (e .elsewhere k (λ z. omega (arith, h, z))))
           (subst (λ i. Says (entryAt mid i) (nodeAt (nodes p []) k)) (zero-add k) (stand-at (nodes p []) mid 0 k (omega (arith, h, nodes-length p [])) (w .nodes)))
       go (no h) =
-          let last : k ≡ commands p = omega arith in
+          let last : k ≡ unfolded p = omega arith in
           subst₂ Says (sym (ap (entryAt now) last ∙ e .here)) (sym (end-silent p [] k (omega arith))) s

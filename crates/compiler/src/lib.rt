@@ -1,11 +1,15 @@
 // The compiler: from a pattern's bytes to its position automaton, written into a program.
-// Two passes over the bytes, both by recursion: what a pattern begins with, and with that the entries of its positions.
-ghost use Prim.Native.Nat.{_<_};
+// Two passes over the bytes, both by recursion: what a pattern begins with, and with that the entries of its positions. A counted
+// pattern has the positions of its inside as often as it may come, one round after the other.
+ghost use Prim.Native.Nat.{_<_, _≤_};
 ghost use mathlib.Core.Path.{_≡_};
+ghost use mathlib.Core.Bool.{_||_};
 ghost use mathlib.Core.List.{[], _∷_};
-ghost use Rattle.automaton.specs.Automaton.{silent};
+ghost use lib.Dec.{eqb};
+ghost use Rattle.meaning.specs.Pattern.{nothing};
+ghost use Rattle.automaton.specs.Automaton.{silent, before};
 ghost use Rattle.positions.specs.Masks.{Marks};
-ghost use Rattle.compiler.specs.Compiling.{Passes, Reads, Commands, StepAt, leafOf, Begins, BeginsAt, BeginsAround, BeginsJoined, Entered, Ready, Allowed, AfterFirst, Inner, First, Second, Says, Small, Put, askedRule, TakingSaid, LeafSaid, AroundSaid, CompiledAt, CompiledFrom, SmallUpTo};
+ghost use Rattle.compiler.specs.Compiling.{Passes, Stands, EndsAt, Reads, Commands, StepAt, leafOf, skips, rounded, Begins, BeginsAt, Surrounds, BeginsAround, BeginsJoined, Entered, RoundFrom, OneMore, HeadsOf, BeginsCounted, AfterRound, Ready, ReadyRounds, Allowed, AfterFirst, AfterInner, Inner, First, Second, Counts, NextRound, Rest, Says, Small, Put, askedRule, TakingSaid, LeafSaid, AroundSaid, CompiledAt, RoundsCompiled, CompiledFrom, SmallUpTo};
 use pattern::Shape;
 use positions::Row;
 use positions::Rule;
@@ -23,15 +27,19 @@ const OTHER: u8 = 0x23;
 
 const EITHER: u8 = 0x24;
 
+const REPEAT: u8 = 0x26;
+
 const KEEP: u8 = 0x27;
 
 const SISTER: u8 = 0x28;
 
-// A command that passed its questions: its byte, its operands, the count of patterns after it, the place after it.
+const COUNTED: u8 = 0x2A;
+
+// A command that passed its questions: its byte, its two operands, the count of patterns after it, the place after it.
 pub struct Step {
     pub code: u8,
-    pub kind: u8,
-    pub slot: u8,
+    pub first: u8,
+    pub second: u8,
     pub patterns: usize,
     pub next: usize,
 }
@@ -45,22 +53,59 @@ fn step_at(src: &[u8], at: usize) -> Step
     let Shape::Is { operands, patterns } = pattern::shape_of(code) else {
         return Step {
             code,
-            kind: 0,
-            slot: 0,
+            first: 0,
+            second: 0,
             patterns: 0,
             next: at,
         };
     };
-    let kind = pattern::operand_at(src, at, operands, 0);
-    let slot = pattern::operand_at(src, at, operands, 1);
+    let first = pattern::operand_at(src, at, operands, 0);
+    let second = pattern::operand_at(src, at, operands, 1);
     let next = at + 1 + operands;
     Step {
         code,
-        kind,
-        slot,
+        first,
+        second,
         patterns,
         next,
     }
+}
+
+// The place after the pattern at a place: it is passed over, and gets no position.
+fn place_after(src: &[u8], at: usize) -> usize
+    requires { ⌜ Stands (now src) at ⌝ }
+    ensures { λ r. ⌜ EndsAt (now (src .entry)) at r ⌝ }
+{
+    let c = step_at(src, at);
+    if c.patterns == 0 {
+        return c.next;
+    }
+    let then = place_after(src, c.next);
+    if c.patterns == 1 {
+        return then;
+    }
+    place_after(src, then)
+}
+
+// A counted pattern that may come no time: what is inside gets no position.
+fn left_out(c: Step) -> bool
+    ensures { λ r. ⌜ r ≡ skips (c .code) (c .second) ⌝ }
+{
+    if c.code == COUNTED {
+        return c.second == 0;
+    }
+    false
+}
+
+// A counted pattern whose rounds are compiled one by one. One that comes once at most is compiled as a repeat is, so that whatever nests
+// deeply takes one call for each command.
+fn in_rounds(c: Step) -> bool
+    ensures { λ r. ⌜ r ≡ rounded (c .code) (c .second) ⌝ }
+{
+    if c.code == COUNTED {
+        return c.second != 1;
+    }
+    false
 }
 
 // ---- what a pattern begins with
@@ -91,18 +136,26 @@ fn entered(p: Begin, after: u64) -> u64
     p.heads
 }
 
+// One position and the empty word alone: nothing, and what may come no time.
+fn begin_nothing(next: usize, base: usize) -> Begin
+    requires { ⌜ base < 63 ⌝ }
+    ensures { λ r. ⌜ Begins nothing base next r ⌝ }
+{
+    Begin {
+        next,
+        after: base + 1,
+        heads: 0,
+        nullable: true,
+    }
+}
+
 // A command without patterns.
 fn begin_leaf(c: Step, base: usize) -> Begin
     requires { ⌜ base < 63 ⌝ }
     ensures { λ r. ⌜ Begins (leafOf c) base (c .next) r ⌝ }
 {
     if c.code == NOTHING {
-        return Begin {
-            next: c.next,
-            after: base + 1,
-            heads: 0,
-            nullable: true,
-        };
+        return begin_nothing(c.next, base);
     }
     let heads = bit(base);
     Begin {
@@ -113,11 +166,88 @@ fn begin_leaf(c: Step, base: usize) -> Begin
     }
 }
 
-// A repeat or keep, and the pattern in it.
+// ---- the rounds of a counted pattern
+
+// One round: the positions of its first letters, whether it may be empty, and how many positions it has.
+pub struct Round {
+    pub heads: u64,
+    pub nullable: bool,
+    pub width: usize,
+}
+
+// The round that begins with p at a position.
+fn round_of(p: Begin, base: usize) -> Round
+    requires { ⌜ base ≤ p .after ⌝ }
+    ensures { λ r. ⌜ RoundFrom p base r ⌝ }
+{
+    Round {
+        heads: p.heads,
+        nullable: p.nullable,
+        width: p.after - base,
+    }
+}
+
+// A round before others; `later` are the positions of their first letters if they stood in its place.
+fn one_more(round: Round, later: u64) -> u64
+    requires { ⌜ round .width < 64 ⌝ }
+    ensures { λ r. ⌜ OneMore round later r ⌝ }
+{
+    if round.nullable {
+        return round.heads | (later << round.width);
+    }
+    round.heads
+}
+
+// The positions of the first letters of so many rounds.
+fn heads_of(round: Round, rounds: usize) -> u64
+    requires { ⌜ round .width < 64 ⌝ }
+    ensures { λ r. ⌜ HeadsOf round rounds r ⌝ }
+{
+    let mut heads = 0;
+    let mut k = 0;
+    while k < rounds {
+        heads = one_more(round, heads);
+        k = k + 1;
+    }
+    heads
+}
+
+// May rounds end here: are none needed, or may they be empty?
+fn may_end(lowest: usize, nullable: bool) -> bool
+    ensures { λ r. ⌜ r ≡ (eqb lowest 0 || nullable) ⌝ }
+{
+    if lowest == 0 {
+        return true;
+    }
+    nullable
+}
+
+// A counted pattern; its first round begins with p.
+fn begin_counted(c: Step, base: usize, p: Begin) -> Begin
+    requires { ⌜ Surrounds c base p ⌝ }
+    ensures { λ r. ⌜ BeginsCounted c base p r ⌝ }
+{
+    let round = round_of(p, base + 1);
+    let rounds = c.second as usize;
+    let heads = heads_of(round, rounds);
+    let after = base + 1 + rounds * round.width;
+    let nullable = may_end(c.first as usize, p.nullable);
+    Begin {
+        next: p.next,
+        after,
+        heads,
+        nullable,
+    }
+}
+
+// A repeat, keep or counted pattern, and the pattern in it.
 fn begin_around(c: Step, base: usize, p: Begin) -> Begin
-    requires { ⌜ base < 63 ⌝ }
+    requires { ⌜ Surrounds c base p ⌝ }
     ensures { λ r. ⌜ BeginsAround c base p r ⌝ }
 {
+    if c.code == COUNTED {
+        return begin_counted(c, base, p);
+    }
     if c.code == KEEP {
         let heads = bit(base);
         return Begin {
@@ -164,6 +294,10 @@ fn begin_at(src: &[u8], at: usize, base: usize) -> Begin
     if c.patterns == 0 {
         return begin_leaf(c, base);
     }
+    if left_out(c) {
+        let next = place_after(src, c.next);
+        return begin_nothing(next, base);
+    }
     let p = begin_at(src, c.next, base + 1);
     if c.patterns == 1 {
         return begin_around(c, base, p);
@@ -184,21 +318,32 @@ pub struct Task {
     pub after: u64,
 }
 
-// The pattern in a repeat or keep; a turn of a repeat may be followed by another.
+// What may come after the pattern in a repeat, keep or counted pattern: a turn of a repeat may be followed by another.
+fn after_inner(c: Step, task: Task, p: Begin) -> u64
+    ensures { λ r. ⌜ AfterInner c task p r ⌝ }
+{
+    if c.code == REPEAT {
+        return p.heads | task.after;
+    }
+    task.after
+}
+
+// The pattern in a repeat or keep, or in a counted pattern that comes once at most.
 fn inner_task(c: Step, task: Task, p: Begin) -> Task
     requires { ⌜ Allowed c task ⌝ }
     ensures { λ r. ⌜ Inner c task p r ⌝ }
 {
     let base = task.base + 1;
     let mut levels = task.levels;
+    let after = after_inner(c, task, p);
     if c.code == KEEP {
-        levels[c.slot as usize] = task.depth + 1;
+        levels[c.second as usize] = task.depth + 1;
         return Task {
             at: c.next,
             base,
             levels,
             depth: task.depth + 1,
-            after: task.after,
+            after,
         };
     }
     Task {
@@ -206,7 +351,7 @@ fn inner_task(c: Step, task: Task, p: Begin) -> Task
         base,
         levels,
         depth: task.depth,
-        after: p.heads | task.after,
+        after,
     }
 }
 
@@ -250,6 +395,96 @@ fn second_task(task: Task, p: Begin) -> Task
     }
 }
 
+// Rounds of a counted pattern that are to be compiled: the task of the next one, except that `after` is what may come after the last;
+// how many of them are needed, and how many there are.
+pub struct Rounds {
+    pub task: Task,
+    pub lowest: usize,
+    pub left: usize,
+}
+
+// The rounds of a counted pattern.
+fn all_rounds(c: Step, task: Task) -> Rounds
+    requires { ⌜ task .base < 63 ⌝ }
+    ensures { λ r. ⌜ Counts c task r ⌝ }
+{
+    let levels = task.levels;
+    let inner = Task {
+        at: c.next,
+        base: task.base + 1,
+        levels,
+        depth: task.depth,
+        after: task.after,
+    };
+    Rounds {
+        task: inner,
+        lowest: c.first as usize,
+        left: c.second as usize,
+    }
+}
+
+// One round less is needed.
+fn one_less(lowest: usize) -> usize
+    ensures { λ r. ⌜ r ≡ before lowest ⌝ }
+{
+    if lowest == 0 {
+        return 0;
+    }
+    lowest - 1
+}
+
+// What may come after the next round: what the others begin with and, where they may end, what comes after the last.
+fn after_round(rounds: Rounds, round: Round) -> u64
+    requires { ⌜ (0 < rounds .left) × (round .width < 64) ⌝ }
+    ensures { λ r. ⌜ AfterRound rounds round r ⌝ }
+{
+    let heads = heads_of(round, rounds.left - 1) << round.width;
+    if may_end(one_less(rounds.lowest), round.nullable) {
+        return heads | rounds.task.after;
+    }
+    heads
+}
+
+// The next round; p is what it begins with.
+fn next_round(rounds: Rounds, p: Begin) -> Task
+    requires { ⌜ (0 < rounds .left) × (rounds .task .base ≤ p .after) × (p .after < 64) ⌝ }
+    ensures { λ r. ⌜ NextRound rounds p r ⌝ }
+{
+    let task = rounds.task;
+    let levels = task.levels;
+    let round = round_of(p, task.base);
+    let after = after_round(rounds, round);
+    Task {
+        at: task.at,
+        base: task.base,
+        levels,
+        depth: task.depth,
+        after,
+    }
+}
+
+// The rounds after it.
+fn rest(rounds: Rounds, p: Begin) -> Rounds
+    requires { ⌜ 0 < rounds .left ⌝ }
+    ensures { λ r. ⌜ Rest rounds p r ⌝ }
+{
+    let task = rounds.task;
+    let levels = task.levels;
+    let inner = Task {
+        at: task.at,
+        base: p.after,
+        levels,
+        depth: task.depth,
+        after: task.after,
+    };
+    let lowest = one_less(rounds.lowest);
+    Rounds {
+        task: inner,
+        lowest,
+        left: rounds.left - 1,
+    }
+}
+
 // ---- the entries of a position
 
 // What the program gets at one position.
@@ -278,7 +513,7 @@ fn taking_entry(c: Step, task: Task, rule: Rule, level: u8) -> Entry
     ensures { λ r. ⌜ TakingSaid c task rule level r ⌝ }
 {
     let row = Row {
-        kind: c.kind,
+        kind: c.first,
         rule,
         level,
         depth: task.depth,
@@ -317,14 +552,14 @@ fn leaf_entry(c: Step, task: Task) -> Entry
     if c.code == LINE {
         return taking_entry(c, task, Rule::Always, 0);
     }
-    let level = task.levels[c.slot as usize];
+    let level = task.levels[c.second as usize];
     if level == 0 {
         return taking_entry(c, task, Rule::Never, 0);
     }
     taking_entry(c, task, rule_of(c.code), level - 1)
 }
 
-// A repeat or keep: a keep takes a letter and pushes its boat.
+// A command around a pattern: a keep takes a letter and pushes its boat, the others take none.
 fn around_entry(c: Step, task: Task, p: Begin) -> Entry
     requires { ⌜ Allowed c task ⌝ }
     ensures { λ r. ⌜ AroundSaid c task p r ⌝ }
@@ -332,7 +567,7 @@ fn around_entry(c: Step, task: Task, p: Begin) -> Entry
     if c.code == KEEP {
         let follow = entered(p, task.after);
         let row = Row {
-            kind: c.kind,
+            kind: c.first,
             rule: Rule::Always,
             level: 0,
             depth: task.depth,
@@ -360,6 +595,13 @@ fn compile_at(src: &[u8], task: Task, program: &mut [u64; 128])
     ensures { λ _. ⌜ CompiledAt (now (src .entry)) task (now (program .entry)) (now (program .exit)) ⌝ }
 {
     let c = step_at(src, task.at);
+    if in_rounds(c) {
+        let x = silent_entry();
+        put(program, task.base, x);
+        let rounds = all_rounds(c, task);
+        compile_rounds(src, rounds, program);
+        return;
+    }
     if c.patterns == 0 {
         let x = leaf_entry(c, task);
         put(program, task.base, x);
@@ -380,6 +622,21 @@ fn compile_at(src: &[u8], task: Task, program: &mut [u64; 128])
     compile_at(src, first, program);
     let second = second_task(task, p);
     compile_at(src, second, program);
+}
+
+// Rounds of a counted pattern, one after the other: their positions' entries, and none before them.
+fn compile_rounds(src: &[u8], rounds: Rounds, program: &mut [u64; 128])
+    requires { ⌜ ReadyRounds (now src) rounds ⌝ }
+    ensures { λ _. ⌜ RoundsCompiled (now (src .entry)) rounds (now (program .entry)) (now (program .exit)) ⌝ }
+{
+    if rounds.left == 0 {
+        return;
+    }
+    let p = begin_at(src, rounds.task.at, rounds.task.base);
+    let task = next_round(rounds, p);
+    compile_at(src, task, program);
+    let later = rest(rounds, p);
+    compile_rounds(src, later, program);
 }
 
 // A pattern that passes its questions: its automaton as a program, the end's position included, and the mask of where runs begin.

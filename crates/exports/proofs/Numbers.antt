@@ -57,6 +57,17 @@ set-two [] a b h = absurd (omega (arith, h))
 set-two (x ∷ []) a b h = absurd (omega (arith, h))
 set-two (x ∷ y ∷ rest) a b h = refl
 
+pub two-long : (words : List ℕ) (a b : ℕ) → 2 ≤ length words → length (a ∷ b ∷ drop 2 words) ≡ length words
+two-long [] a b h = absurd (omega (arith, h))
+two-long (x ∷ []) a b h = absurd (omega (arith, h))
+two-long (x ∷ y ∷ rest) a b h = refl
+
+pub set-third : (words : List ℕ) (a b c : ℕ) → 3 ≤ length words → set (a ∷ b ∷ drop 2 words) 2 c ≡ a ∷ b ∷ c ∷ drop 3 words
+set-third [] a b c h = absurd (omega (arith, h))
+set-third (x ∷ []) a b c h = absurd (omega (arith, h))
+set-third (x ∷ y ∷ []) a b c h = absurd (omega (arith, h))
+set-third (x ∷ y ∷ z ∷ rest) a b c h = refl
+
 -- ---- yes and no
 
 pub check-refused : (o : Outcome Bool) (number second : ℕ) → refusal number second ≡ told o → number * 4294967296 + 0 ≡ checkNumber (told o)

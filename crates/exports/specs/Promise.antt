@@ -37,19 +37,22 @@ readAfter (passed l) fields = cond (leb 5 (length fields)) (fieldsOf l ++ drop 5
 
 -- ---- a pattern's counts in a lent list of words
 
--- commands, and the deepest nesting of keeps
-abbrev pub countsOf : Counts → List ℕ
-countsOf c = c .commands ∷ c .keeps ∷ []
+-- commands, the deepest nesting of keeps, and the unfolded count
+abbrev pub countWords : Counts → List ℕ
+countWords c = c .commands ∷ c .keeps ∷ c .unfolded ∷ []
 
--- 2 where the list has room for the two counts, else 0
+-- how many of them a list of so many words gets: all three, or the first two; none where it has not two words
+abbrev pub countsTold : ℕ → ℕ
+countsTold room = cond (leb 3 room) 3 (cond (leb 2 room) 2 0)
+
 abbrev pub patternNumber : Outcome Counts → ℕ → ℕ
 patternNumber (refused number) room = number * 4294967296
-patternNumber (passed c) room = cond (leb 2 room) 2 0
+patternNumber (passed c) room = countsTold room
 
--- the counts at the front, or nothing written
+-- so many counts at the front
 abbrev pub patternAfter : Outcome Counts → List ℕ → List ℕ
 patternAfter (refused number) counts = counts
-patternAfter (passed c) counts = cond (leb 2 (length counts)) (countsOf c ++ drop 2 counts) counts
+patternAfter (passed c) counts = let n = countsTold (length counts) in take n (countWords c) ++ drop n counts
 
 -- ---- yes and no
 

@@ -3,14 +3,14 @@
 ghost use mathlib.Core.Path.{_≡_};
 ghost use mathlib.Core.List.{_∷_, _++_};
 ghost use Prim.Native.Nat.{_+_, _*_, _<_, _≤_};
-ghost use lib.ListN.{length, drop};
+ghost use lib.ListN.{length, drop, set};
 ghost use Rattle.meaning.specs.Outcome.{told};
 ghost use Rattle.meaning.specs.Writing.{beginOf, beginAfter, addOf, addAfter, readOf};
 ghost use Rattle.meaning.specs.Pattern.{readPattern, noneGiven};
 ghost use Rattle.meaning.specs.Request.{wordsOf, askRequest, workAfter};
 ghost use Rattle.checker.specs.Promise.{checkOf};
 ghost use Rattle.finder.specs.Promise.{findOf, said, outAfter};
-ghost use Rattle.pattern.specs.Promise.{counted};
+ghost use Rattle.pattern.specs.Promise.{countsOf};
 ghost use Rattle.record.specs.Promise.{lineShown};
 ghost use Rattle.writing.specs.Promise.{writeReply};
 ghost use Rattle.exports.specs.Promise.{numberOf, fieldsOf, readNumber, readAfter, patternNumber, patternAfter, checkNumber, Membership, findNumber, FirstShortest, versionNumber};
@@ -136,21 +136,37 @@ fn put_counts(counts: &mut [u32], commands: usize, keeps: usize)
     counts[1] = keeps as u32;
 }
 
-// Reads a pattern: its commands and its deepest nesting of keeps into the first two words of a list; value: 2, or 0 where the list
-// is shorter.
+// Puts its unfolded count after them.
+fn put_unfolded(counts: &mut [u32], unfolded: usize)
+    requires { ⌜ (3 ≤ length (now counts)) × (unfolded ≤ 63) ⌝ }
+    ensures { λ _. ⌜ now (counts .exit) ≡ set (now (counts .entry)) 2 unfolded ⌝ }
+{
+    counts[2] = unfolded as u32;
+}
+
+// Reads a pattern: its commands, its deepest nesting of keeps and its unfolded count into the first three words of a list; value: 3, or
+// 2 where the list has two words, which get the first two counts, or 0 where it is shorter.
 #[no_mangle]
 pub extern "C" fn chains_pattern(pat: &[u8], counts: &mut [u32]) -> u64
-    ensures reply { λ r. ⌜ r ≡ patternNumber (counted (readPattern noneGiven (now (pat .entry)))) (length (now (counts .entry))) ⌝ }
-    ensures words { λ _. ⌜ now (counts .exit) ≡ patternAfter (counted (readPattern noneGiven (now (pat .entry)))) (now (counts .entry)) ⌝ }
+    ensures reply { λ r. ⌜ r ≡ patternNumber (countsOf (readPattern noneGiven (now (pat .entry)))) (length (now (counts .entry))) ⌝ }
+    ensures words { λ _. ⌜ now (counts .exit) ≡ patternAfter (countsOf (readPattern noneGiven (now (pat .entry)))) (now (counts .entry)) ⌝ }
 {
     match pattern::read_pattern(pat) {
         PatternReply::Refused(q, _) => refusal(q, 0),
-        PatternReply::Pattern { commands, keeps } => {
+        PatternReply::Pattern {
+            commands,
+            unfolded,
+            keeps,
+        } => {
             if counts.len() < 2 {
                 return 0;
             }
             put_counts(counts, commands, keeps);
-            2
+            if counts.len() < 3 {
+                return 2;
+            }
+            put_unfolded(counts, unfolded);
+            3
         }
     }
 }

@@ -71,5 +71,5 @@ pub first-states : (program : List ℕ) (plan : Plan) (area : ℕ) → Laid plan
     → firstStates plan begin a ≡ starting (settingIn program plan g) a (members begin)
 unfolding firstStates
 first-states program plan area laid g begin a low =
-    ap (λ ks. map (λ k. stateIn plan a k 0) ks) (members-low begin (plan .done) (laid .few-commands) low)
+    ap (λ ks. map (λ k. stateIn plan a k 0) ks) (members-low begin (plan .done) (laid .few-positions) low)
     ∙ starting-in program plan area laid g a (members begin)

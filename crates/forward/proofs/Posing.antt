@@ -8,7 +8,7 @@ use lib.ListN.{length, getD, take, drop, length-append, length-take, length-drop
 use lib.Seq.{take-at, drop-at, take-take}
 use Rattle.meaning.specs.Record.{Line, boats}
 use Rattle.meaning.specs.Writing.{lineAt}
-use Rattle.meaning.specs.Pattern.{Pattern, commands}
+use Rattle.meaning.specs.Pattern.{Pattern, unfolded}
 use Rattle.meaning.specs.Request.{Asked, askRequest}
 use Rattle.record.specs.Fit.{record-fits}
 use Rattle.record.specs.Whole.{linesIn, linesOf}
@@ -77,7 +77,7 @@ module _ {q : Asked} {pat : List ℕ} {plan : Plan} {from to : ℕ} {w : List �
   pub posed-tables : tables plan (front plan w) ≡ loadedOf (plan .keeps) lines
   posed-tables = ap (drop (plan .boats)) (take-take (plan .base) (plan .base) w (omega arith)) ∙ posed .loaded
 
-  module _ {program : List ℕ} {begin : ℕ} (compiled : Compiled tree program begin) (small : (k : ℕ) → k ≤ commands tree → Small (rowAt program k)) where
+  module _ {program : List ℕ} {begin : ℕ} (compiled : Compiled tree program begin) (small : (k : ℕ) → k ≤ unfolded tree → Small (rowAt program k)) where
     -- the tables' lines are the request's
     line-is : (i : ℕ) → i < plan .lines → (fromIn (wordAt plan (front plan w) i) < plan .places) × (toIn (wordAt plan (front plan w) i) < plan .places)
     unfolding settingIn setting
@@ -101,7 +101,7 @@ module _ {q : Asked} {pat : List ℕ} {plan : Plan} {from to : ℕ} {w : List �
     pub posed-fit : Fit plan program w
     posed-fit =
         let keeps-are = posed .planned .keeps-are in
-        let low : (c : ℕ) → c ≤ plan .done → c ≤ commands tree = λ c h. omega (arith, posed .planned .done-is) in
+        let low : (c : ℕ) → c ≤ plan .done → c ≤ unfolded tree = λ c h. omega (arith, posed .planned .done-is) in
         record {
           laid = posed .laid;
           starts = λ i h. line-is i h .0;

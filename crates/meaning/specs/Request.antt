@@ -7,11 +7,11 @@ use lib.Dec.{ltb, leb}
 use lib.ListN.{length, replicate}
 use Rattle.meaning.specs.Outcome.{Outcome, refused, passed, ask, andThen}
 use Rattle.meaning.specs.Record.{Line, Day, boats, readRecord}
-use Rattle.meaning.specs.Pattern.{Pattern, commands, keeps, readPattern, noneGiven}
+use Rattle.meaning.specs.Pattern.{Pattern, unfolded, keeps, readPattern, noneGiven}
 
--- places × (commands + 1) × (boats + 1) to the power of keeps
+-- places × (unfolded count + 1) × (boats + 1) to the power of keeps
 unfoldable pub searchSize : List Line → ℕ → Pattern → ℕ
-searchSize lines places p = places * suc (commands p) * suc (length (boats lines)) ^ keeps p
+searchSize lines places p = places * suc (unfolded p) * suc (length (boats lines)) ^ keeps p
 
 -- the words that a search of that size needs
 abbrev pub need : ℕ → ℕ
@@ -29,7 +29,7 @@ sizeOf q = searchSize (q .day .lines) (q .day .places) (q .pattern)
 abbrev pub askBoth : List ℕ → List ℕ → Outcome Asked
 askBoth rec pat = andThen (readRecord rec) (λ day. andThen (readPattern noneGiven pat) (λ p. passed (record { day = day; pattern = p })))
 
--- questions 1 to 17, for a work area of so many words
+-- questions 1 to 17, 24 and 25, for a work area of so many words
 unfoldable pub askRequest : List ℕ → List ℕ → ℕ → ℕ → ℕ → Outcome Asked
 askRequest rec pat from to words =
     andThen (askBoth rec pat) (λ q.
@@ -38,7 +38,7 @@ askRequest rec pat from to words =
     (ask (leb (need (sizeOf q)) words) 17
     (passed q))))
 
--- how many words a record and a pattern need: questions 1 to 14 and 16
+-- how many words a record and a pattern need: questions 1 to 14, 24, 25 and 16
 unfoldable pub wordsOf : List ℕ → List ℕ → Outcome ℕ
 wordsOf rec pat = andThen (askBoth rec pat) (λ q. ask (leb (sizeOf q) 1048576) 16 (passed (need (sizeOf q))))
 

@@ -3,12 +3,12 @@
 use mathlib.Core.Path.{_≡_, refl}
 use mathlib.Core.Bool.{Bool, true, false}
 use mathlib.Core.List.{List, [], _∷_, _++_, map}
-use Prim.Native.Nat.{ℕ}
+use Prim.Native.Nat.{ℕ, zero, suc}
 use lib.ListN.{take, replicate}
 use Rattle.meaning.specs.Outcome.{Outcome, refused, passed}
 use Rattle.meaning.specs.Record.{Boat, Line, bytesOf, boats, boatsAfter, entryAt, linesFrom, readRecord}
 use Rattle.meaning.specs.Writing.{emptyRecord, beginOf, beginAfter, addOf, addAfter, readOf}
-use Rattle.meaning.specs.Pattern.{Rule, Pattern, nothing, line, test, same, other, sister, foreign, either, then, repeat, keep, commands, keeps, readPattern, readAt, commandAt, shapeOf, noneGiven}
+use Rattle.meaning.specs.Pattern.{Rule, Pattern, nothing, line, test, same, other, sister, foreign, either, then, repeat, keep, counted, commands, unfolded, keeps, readPattern, readAt, commandAt, shapeOf, noneGiven}
 use Rattle.meaning.specs.Language.{compared, meets}
 
 -- the number of the question that was answered no, or 0
@@ -177,6 +177,11 @@ S = keep 1 0 (then (keep 1 0 (test other 1 0)) (test same 1 0))
 repeats : ℕ → List ℕ → List ℕ
 repeats n rest = replicate n 0x26 ++ rest
 
+-- so many times "twenty times", each in the one before, and what follows
+twenties : ℕ → List ℕ → List ℕ
+twenties zero rest = rest
+twenties (suc n) rest = 0x2A ∷ 20 ∷ 20 ∷ twenties n rest
+
 -- three keeps, each in the one before, and what follows
 threeKeeps : List ℕ → List ℕ
 threeKeeps rest = 0x27 ∷ 1 ∷ 0 ∷ 0x27 ∷ 1 ∷ 1 ∷ 0x27 ∷ 1 ∷ 2 ∷ rest
@@ -193,12 +198,11 @@ patternRows =
     ∷ row (repeats 63 (0x20 ∷ [])) 9
     ∷ row bytesP 0
     ∷ row bytesS 0
-    -- a byte is a command by the table: 20 to 29
+    -- a byte is a command by the table: 20 to 2A
     ∷ row (0x1F ∷ []) 8
     ∷ row (0x28 ∷ []) 10
     ∷ row (0x29 ∷ []) 10
-    ∷ row (0x2A ∷ []) 8
-    ∷ row (0x2A ∷ 1 ∷ 0 ∷ []) 8
+    ∷ row (0x2A ∷ []) 10
     ∷ row (0x2B ∷ []) 8
     ∷ row (0x2C ∷ []) 8
     ∷ row (0x2D ∷ []) 8
@@ -242,6 +246,38 @@ patternRows =
     ∷ row (0x27 ∷ 1 ∷ 0 ∷ 0x28 ∷ 1 ∷ 1 ∷ []) 12
     ∷ row (0x27 ∷ 1 ∷ 0 ∷ 0x29 ∷ 1 ∷ 1 ∷ []) 12
     ∷ row (0x27 ∷ 1 ∷ 0 ∷ 0x28 ∷ 1 ∷ 0 ∷ 0x29 ∷ []) 14
+    -- 2A: 24 wants lowest ≤ highest ≤ 20, after 9 and 10 and before anything inside is read; 11 asks it nothing
+    ∷ row (0x2A ∷ 1 ∷ []) 10
+    ∷ row (0x2A ∷ 1 ∷ 0 ∷ []) 24
+    ∷ row (0x2A ∷ 0 ∷ 21 ∷ 255 ∷ []) 24
+    ∷ row (0x2A ∷ 21 ∷ 21 ∷ 0x20 ∷ []) 24
+    ∷ row (0x2A ∷ 255 ∷ 0 ∷ 0x20 ∷ []) 24
+    ∷ row (0x2A ∷ 0 ∷ 0 ∷ []) 8
+    ∷ row (0x2A ∷ 20 ∷ 20 ∷ 0x20 ∷ []) 0
+    ∷ row (0x2A ∷ 16 ∷ 16 ∷ 0x21 ∷ 3 ∷ []) 0
+    ∷ row (0x2A ∷ 2 ∷ 5 ∷ 0x21 ∷ 0 ∷ []) 11
+    ∷ row (repeats 63 (0x2A ∷ 1 ∷ 0 ∷ [])) 9
+    ∷ row (repeats 62 (0x2A ∷ 1 ∷ [])) 10
+    ∷ row (repeats 62 (0x2A ∷ 1 ∷ 0 ∷ [])) 24
+    -- it keeps nothing, and hides nothing that is kept around it; what is kept inside is kept inside only
+    ∷ row (0x2A ∷ 0 ∷ 2 ∷ 0x22 ∷ 1 ∷ 0 ∷ []) 12
+    ∷ row (0x27 ∷ 1 ∷ 0 ∷ 0x2A ∷ 0 ∷ 2 ∷ 0x22 ∷ 1 ∷ 0 ∷ []) 0
+    ∷ row (0x25 ∷ 0x2A ∷ 1 ∷ 1 ∷ 0x27 ∷ 1 ∷ 0 ∷ 0x20 ∷ 0x22 ∷ 1 ∷ 0 ∷ []) 12
+    ∷ row (threeKeeps (0x2A ∷ 0 ∷ 1 ∷ 0x20 ∷ [])) 0
+    ∷ row (threeKeeps (0x2A ∷ 0 ∷ 0 ∷ 0x27 ∷ 1 ∷ 0 ∷ 0x20 ∷ [])) 13
+    -- 9 counts commands as written: a round is written once, whatever its count
+    ∷ row (0x25 ∷ 0x2A ∷ 0 ∷ 20 ∷ 0x20 ∷ repeats 43 (0x20 ∷ [])) 25
+    ∷ row (0x25 ∷ 0x2A ∷ 0 ∷ 0 ∷ repeats 30 (0x20 ∷ repeats 29 (0x20 ∷ []))) 0
+    ∷ row (0x25 ∷ 0x2A ∷ 0 ∷ 0 ∷ repeats 30 (0x20 ∷ repeats 30 (0x20 ∷ []))) 9
+    -- 25 counts what is counted as often as it may come, after 14
+    ∷ row (repeats 2 (0x2A ∷ 0 ∷ 20 ∷ 0x24 ∷ 0x20 ∷ 0x20 ∷ [])) 0
+    ∷ row (repeats 3 (0x2A ∷ 0 ∷ 20 ∷ 0x24 ∷ 0x20 ∷ 0x20 ∷ [])) 25
+    ∷ row (repeats 3 (0x2A ∷ 0 ∷ 20 ∷ 0x24 ∷ 0x20 ∷ 0x20 ∷ 0x20 ∷ [])) 14
+    ∷ row (twenties 40 (0x20 ∷ [])) 25
+    ∷ row (twenties 40 (0x20 ∷ 0x20 ∷ [])) 14
+    ∷ row (0x2A ∷ 0 ∷ 0 ∷ twenties 40 (0x20 ∷ [])) 0
+    ∷ row (0x2A ∷ 0 ∷ 0 ∷ twenties 61 (0x20 ∷ [])) 0
+    ∷ row (0x2A ∷ 0 ∷ 0 ∷ twenties 62 (0x20 ∷ [])) 9
     -- 12 wants a keep around: one to the left, or of another slot, is none
     ∷ row (0x25 ∷ 0x27 ∷ 1 ∷ 0 ∷ 0x20 ∷ 0x22 ∷ 1 ∷ 0 ∷ []) 12
     ∷ row (0x27 ∷ 1 ∷ 0 ∷ 0x25 ∷ 0x27 ∷ 1 ∷ 1 ∷ 0x20 ∷ 0x22 ∷ 1 ∷ 1 ∷ []) 12
@@ -256,7 +292,7 @@ patternRows =
     ∷ []
 
 patterns-asked : map (λ r. number (readPattern noneGiven (r .bytes))) patternRows ≡ map (λ r. r .gives) patternRows
-unfolding patternRows bytesP bytesS repeats threeKeeps readPattern readAt commandAt shapeOf
+unfolding patternRows bytesP bytesS repeats twenties threeKeeps readPattern readAt commandAt shapeOf
 patterns-asked = refl
 
 -- P and S are these trees
@@ -265,8 +301,8 @@ unfolding bytesP bytesS P S readPattern readAt commandAt shapeOf
 patterns-read = refl
 
 -- every command once
-all-commands : readPattern noneGiven (0x27 ∷ 5 ∷ 2 ∷ 0x24 ∷ 0x25 ∷ 0x20 ∷ 0x21 ∷ 1 ∷ 0x26 ∷ 0x24 ∷ 0x24 ∷ 0x22 ∷ 2 ∷ 2 ∷ 0x23 ∷ 3 ∷ 2 ∷ 0x24 ∷ 0x28 ∷ 4 ∷ 2 ∷ 0x29 ∷ 6 ∷ 2 ∷ [])
-    ≡ passed (keep 5 2 (either (then nothing (line 1)) (repeat (either (either (test same 2 2) (test other 3 2)) (either (test sister 4 2) (test foreign 6 2))))))
+all-commands : readPattern noneGiven (0x27 ∷ 5 ∷ 2 ∷ 0x24 ∷ 0x25 ∷ 0x20 ∷ 0x21 ∷ 1 ∷ 0x26 ∷ 0x24 ∷ 0x24 ∷ 0x22 ∷ 2 ∷ 2 ∷ 0x23 ∷ 3 ∷ 2 ∷ 0x24 ∷ 0x28 ∷ 4 ∷ 2 ∷ 0x2A ∷ 7 ∷ 8 ∷ 0x29 ∷ 6 ∷ 2 ∷ [])
+    ≡ passed (keep 5 2 (either (then nothing (line 1)) (repeat (either (either (test same 2 2) (test other 3 2)) (either (test sister 4 2) (counted 7 8 (test foreign 6 2)))))))
 unfolding readPattern readAt commandAt shapeOf
 all-commands = refl
 
@@ -274,6 +310,12 @@ all-commands = refl
 patterns-counted : map commands (P ∷ S ∷ either P S ∷ []) ++ map keeps (P ∷ S ∷ either P S ∷ then P S ∷ []) ≡ 7 ∷ 5 ∷ 13 ∷ 1 ∷ 2 ∷ 2 ∷ 2 ∷ []
 unfolding P S
 patterns-counted = refl
+
+-- so many rounds of a pattern: their commands, their unfolded counts and their keeps; without rounds the two counts are one
+rounds-counted : map commands (counted 2 5 P ∷ counted 0 0 P ∷ then (counted 1 3 S) P ∷ P ∷ []) ++ (map unfolded (counted 2 5 P ∷ counted 0 0 P ∷ then (counted 1 3 S) P ∷ P ∷ []) ++ map keeps (counted 2 5 P ∷ counted 0 0 S ∷ []))
+    ≡ 8 ∷ 8 ∷ 14 ∷ 7 ∷ 36 ∷ 1 ∷ 24 ∷ 7 ∷ 1 ∷ 2 ∷ []
+unfolding P S
+rounds-counted = refl
 
 -- slot 3 given from outside
 slot-given : readPattern (0 ∷ 0 ∷ 0 ∷ 1 ∷ []) (0x22 ∷ 1 ∷ 3 ∷ []) ≡ passed (test same 1 3)

@@ -8,8 +8,8 @@ use Prim.Native.Nat.{ℕ, zero, suc}
 use native.Mathlib.Omega.{arith}
 use lib.ListN.{length, length-append}
 use Rattle.meaning.specs.Record.{Line}
-use Rattle.meaning.specs.Pattern.{line, same, repeat, keep}
-use Rattle.meaning.specs.Language.{Letter, compared, meets, stop, more}
+use Rattle.meaning.specs.Pattern.{line, test, same, repeat, keep, counted}
+use Rattle.meaning.specs.Language.{Letter, Word, compared, meets, unbound, stop, more, Power, L}
 use Rattle.meaning.specs.Chain.{Exist, exist, Leads, word, Accepted, Before, First}
 use Rattle.meaning.specs.Rows.{line-of, linesR, P, S}
 
@@ -121,6 +121,53 @@ repeated-T = (
   (omega arith, (omega arith, tt)),
   (refl, (refl, refl)),
   more (letter 1 1 2 ∷ []) (letter 1 1 1 ∷ []) refl (letter 1 1 2, refl, refl) (more (letter 1 1 1 ∷ []) [] refl (letter 1 1 1, refl, refl) (stop refl)),
+)
+
+-- one round of a line, then two: so many and no more
+counted-T : Accepted linesT (counted 1 2 (line 1)) 0 0 (1 ∷ []) × Accepted linesT (counted 1 2 (line 1)) 0 0 (1 ∷ 0 ∷ [])
+unfolding linesT line-of letter
+counted-T = (
+  ((omega arith, tt), (refl, refl), (1, omega arith, omega arith, (letter 1 1 2 ∷ [], [], refl, (letter 1 1 2, refl, refl), refl))),
+  (
+    (omega arith, (omega arith, tt)),
+    (refl, (refl, refl)),
+    (2, omega arith, omega arith, (letter 1 1 2 ∷ [], letter 1 1 1 ∷ [], refl, (letter 1 1 2, refl, refl), (letter 1 1 1 ∷ [], [], refl, (letter 1 1 1, refl, refl), refl))),
+  ),
+)
+
+-- not none and not three, where a round is a line: it has as many letters as there are rounds
+lines-long : (n : ℕ) (w : Word) → Power (L (line 1) unbound) n w → length w ≡ n
+lines-long zero w e = ap length e
+lines-long (suc n) w (u, v, e, (a, f, k), x) = omega (arith, ap length e, length-append u v, ap length f, lines-long n v x)
+
+not-none-T : Accepted linesT (counted 1 2 (line 1)) 0 0 [] → ⊥
+not-none-T (exists, leads, (n, low, high, x)) = omega (arith, low, lines-long n [] x)
+
+not-three-T : Accepted linesT (counted 1 2 (line 1)) 0 0 (1 ∷ 0 ∷ 1 ∷ []) → ⊥
+not-three-T (exists, leads, (n, low, high, x)) = omega (arith, high, lines-long n (word linesT (1 ∷ 0 ∷ 1 ∷ [])) x)
+
+-- a round may be empty
+empty-rounds-T : Accepted linesT (counted 1 3 (repeat (line 1))) 0 0 []
+empty-rounds-T = (tt, refl, (1, omega arith, omega arith, ([], [], refl, stop refl, refl)))
+
+-- each round keeps a boat of its own
+own-boats-T : Accepted linesT (counted 2 2 (keep 1 0 (test same 1 0))) 0 0 (0 ∷ 0 ∷ 1 ∷ 1 ∷ [])
+unfolding linesT line-of letter
+own-boats-T = (
+  (omega arith, (omega arith, (omega arith, (omega arith, tt)))),
+  (refl, (refl, (refl, (refl, refl)))),
+  (
+    2,
+    omega arith,
+    omega arith,
+    (
+      letter 1 1 1 ∷ letter 1 1 1 ∷ [],
+      letter 1 1 2 ∷ letter 1 1 2 ∷ [],
+      refl,
+      (letter 1 1 1, letter 1 1 1 ∷ [], refl, refl, (letter 1 1 1, refl, refl, refl)),
+      (letter 1 1 2 ∷ letter 1 1 2 ∷ [], [], refl, (letter 1 1 2, letter 1 1 2 ∷ [], refl, refl, (letter 1 1 2, refl, refl, refl)), refl),
+    ),
+  ),
 )
 
 -- an unread number is kept, and a line with one is taken where nothing is compared

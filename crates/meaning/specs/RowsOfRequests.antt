@@ -6,13 +6,14 @@ use Prim.Native.Nat.{ℕ, zero, suc}
 use lib.ListN.{replicate}
 use Rattle.meaning.specs.Outcome.{refused, passed}
 use Rattle.meaning.specs.Record.{Line, boatsAfter, entryAt, linesFrom, readRecord}
-use Rattle.meaning.specs.Pattern.{nothing, readPattern, readAt, commandAt, shapeOf}
+use Rattle.meaning.specs.Pattern.{nothing, counted, readPattern, readAt, commandAt, shapeOf}
 use Rattle.meaning.specs.Request.{searchSize, need, Asked, askRequest, wordsOf, workAfter}
 use Rattle.meaning.specs.Rows.{number, line-of, linesR, written-out, bytesR, bytesP, P, S}
 
 -- ---- the search size and the words
 
-sizes : map (searchSize linesR 4) (P ∷ S ∷ nothing ∷ []) ≡ 128 ∷ 384 ∷ 8 ∷ []
+-- the size of rounds is that of their unfolded count, and keeps count where no round comes
+sizes : map (searchSize linesR 4) (P ∷ S ∷ nothing ∷ counted 2 3 nothing ∷ counted 0 0 S ∷ []) ≡ 128 ∷ 384 ∷ 8 ∷ 20 ∷ 128 ∷ []
 unfolding searchSize boatsAfter linesR line-of P S
 sizes = refl
 

@@ -38,13 +38,13 @@ padded (x ∷ l) n zero = refl
 padded (x ∷ l) n (suc i) = padded l n i
 
 abbrev pub operands : List ℕ
-operands = 0 ∷ 1 ∷ 2 ∷ 2 ∷ 0 ∷ 0 ∷ 0 ∷ 2 ∷ 2 ∷ 2 ∷ 0 ∷ 0 ∷ 0 ∷ 0 ∷ 0 ∷ 0 ∷ []
+operands = 0 ∷ 1 ∷ 2 ∷ 2 ∷ 0 ∷ 0 ∷ 0 ∷ 2 ∷ 2 ∷ 2 ∷ 2 ∷ 0 ∷ 0 ∷ 0 ∷ 0 ∷ 0 ∷ []
 
 abbrev pub patterns : List ℕ
-patterns = 0 ∷ 0 ∷ 0 ∷ 0 ∷ 2 ∷ 2 ∷ 1 ∷ 1 ∷ 0 ∷ 0 ∷ 3 ∷ 3 ∷ 3 ∷ 3 ∷ 3 ∷ 3 ∷ []
+patterns = 0 ∷ 0 ∷ 0 ∷ 0 ∷ 2 ∷ 2 ∷ 1 ∷ 1 ∷ 0 ∷ 0 ∷ 1 ∷ 3 ∷ 3 ∷ 3 ∷ 3 ∷ 3 ∷ []
 
--- the arrays are the table and six free rows
-arrays : rows operands patterns ≡ table ++ replicate 6 none
+-- the arrays are the table and five free rows
+arrays : rows operands patterns ≡ table ++ replicate 5 none
 unfolding rows
 arrays = refl
 
@@ -57,7 +57,7 @@ module _ (b : ℕ) (low : 0x20 ≤ b) where
     row-is : shapeOf b ≡ rowOf (getD operands (b - 0x20) 0) (getD patterns (b - 0x20) 0)
     row-is =
         in-table
-        ∙ (sym (padded table 6 (b - 0x20))
+        ∙ (sym (padded table 5 (b - 0x20))
         ∙ (ap (λ l. getD l (b - 0x20) none) (sym arrays)
         ∙ row-at operands patterns (b - 0x20) (omega arith) (omega arith)))
 

@@ -5,7 +5,8 @@ use mathlib.Core.Bool.{Bool, true, false}
 use mathlib.Core.List.{List, [], _∷_, _++_, map, List·Memᴰ, List·Memᴰ·head, List·Memᴰ·tail, head-eq-of-cons-eq, tail-eq-of-cons-eq}
 use mathlib.Core.Logic.{_↔_}
 use Prim.Native.Nat.{ℕ}
-use Rattle.meaning.specs.Pattern.{Pattern, nothing, line, test, same, other, sister, foreign, either, then, repeat, keep}
+use lib.ListN.{replicate}
+use Rattle.meaning.specs.Pattern.{Pattern, nothing, line, test, same, other, sister, foreign, either, then, repeat, keep, counted}
 use Rattle.meaning.specs.Language.{Letter, Word, unbound, L}
 use Rattle.pattern.specs.Membership.{member, member-sound, member-complete}
 
@@ -112,10 +113,51 @@ plain =
     ++ rows (either (line 1) (line 2)) (kinds (1 ∷ []) ∷ kinds (2 ∷ []) ∷ []) ([] ∷ kinds (3 ∷ []) ∷ kinds (1 ∷ 2 ∷ []) ∷ [])
     ++ rows (then (line 1) (line 2)) (kinds (1 ∷ 2 ∷ []) ∷ []) (kinds (2 ∷ 1 ∷ []) ∷ kinds (1 ∷ []) ∷ [])
 
+-- ---- document 02's request Three
+
+-- so many lines of kind 3
+abbrev threes : ℕ → Word
+threes n = replicate n (letter 3 1 1)
+
+-- from the lowest count to the highest, both allowed; no round is the empty word; counts in a row add
+abbrev counts : List Row
+counts =
+    rows (counted 2 5 (line 3)) (map threes (2 ∷ 3 ∷ 4 ∷ 5 ∷ [])) (map threes (0 ∷ 1 ∷ 6 ∷ 7 ∷ []) ++ (kinds (3 ∷ 3 ∷ 4 ∷ []) ∷ []))
+    ++ rows (counted 0 0 (line 3)) ([] ∷ []) (map threes (1 ∷ 2 ∷ []))
+    ++ rows (counted 1 1 (line 3)) (threes 1 ∷ []) (map threes (0 ∷ 2 ∷ []))
+    ++ rows (counted 20 20 (line 3)) (threes 20 ∷ []) (map threes (19 ∷ 21 ∷ []))
+    ++ rows (counted 2 1 (line 3)) [] (map threes (0 ∷ 1 ∷ 2 ∷ []))
+    ++ rows (then (counted 2 5 (line 3)) (counted 3 3 (line 3))) (map threes (5 ∷ 6 ∷ 7 ∷ 8 ∷ [])) (map threes (0 ∷ 3 ∷ 4 ∷ 9 ∷ []))
+
+-- a round may be empty, and counts as one
+abbrev countsOfNothing : List Row
+countsOfNothing =
+    rows (counted 1 3 nothing) ([] ∷ []) (map threes (1 ∷ 3 ∷ []))
+    ++ rows (counted 1 3 (repeat (line 3))) (map threes (0 ∷ 1 ∷ 4 ∷ 9 ∷ [])) (kinds (3 ∷ 1 ∷ []) ∷ [])
+    ++ rows (counted 2 3 (either nothing (line 3))) (map threes (0 ∷ 1 ∷ 2 ∷ 3 ∷ [])) (threes 4 ∷ [])
+
+-- rounds of rounds, and rounds of two lines
+abbrev countsInCounts : List Row
+countsInCounts =
+    rows (counted 2 3 (counted 2 2 (line 3))) (map threes (4 ∷ 6 ∷ [])) (map threes (0 ∷ 2 ∷ 3 ∷ 5 ∷ 7 ∷ 8 ∷ []))
+    ++ rows (counted 0 2 (counted 3 4 (line 3))) (map threes (0 ∷ 3 ∷ 4 ∷ 6 ∷ 7 ∷ 8 ∷ [])) (map threes (1 ∷ 2 ∷ 5 ∷ 9 ∷ []))
+    ++ rows (counted 1 2 (then (line 1) (line 2))) (kinds (1 ∷ 2 ∷ []) ∷ kinds (1 ∷ 2 ∷ 1 ∷ 2 ∷ []) ∷ []) (kinds (1 ∷ 1 ∷ 2 ∷ 2 ∷ []) ∷ kinds (1 ∷ 2 ∷ 1 ∷ []) ∷ [])
+
+-- each round keeps a boat of its own, and no other round sees it; a boat that is kept around them all of them see
+abbrev countsOfKeeps : List Row
+countsOfKeeps =
+    rows (counted 2 2 (keep 1 0 (test same 1 0)))
+    (sails (1 ∷ 1 ∷ 2 ∷ 2 ∷ []) ∷ sails (1 ∷ 1 ∷ 1 ∷ 1 ∷ []) ∷ [])
+    (sails (1 ∷ 2 ∷ 1 ∷ 2 ∷ []) ∷ sails (1 ∷ 2 ∷ 2 ∷ 1 ∷ []) ∷ sails (1 ∷ 1 ∷ []) ∷ [])
+    ++ rows (counted 2 2 (either (keep 2 0 nothing) (test same 1 0))) (kinds (2 ∷ 2 ∷ []) ∷ []) (kinds (2 ∷ 1 ∷ []) ∷ kinds (1 ∷ 2 ∷ []) ∷ kinds (1 ∷ 1 ∷ []) ∷ [])
+    ++ rows (then (counted 1 2 (keep 1 0 nothing)) (test same 1 0)) [] (sails (1 ∷ 1 ∷ []) ∷ sails (1 ∷ 1 ∷ 1 ∷ []) ∷ [])
+    ++ rows (keep 1 0 (counted 2 2 (test same 1 0))) (sails (1 ∷ 1 ∷ 1 ∷ []) ∷ []) (sails (1 ∷ 1 ∷ 2 ∷ []) ∷ sails (1 ∷ 2 ∷ 2 ∷ []) ∷ [])
+    ++ rows (keep 1 0 (counted 2 2 (keep 1 0 (test other 1 0)))) (sails (1 ∷ 1 ∷ 2 ∷ 1 ∷ 2 ∷ []) ∷ []) (sails (1 ∷ 2 ∷ 2 ∷ 1 ∷ 2 ∷ []) ∷ [])
+
 -- ---- the table
 
 abbrev pub table : List Row
-table = firstAlone ++ firstAsLast ++ twoTheSame ++ patternP ++ patternS ++ emptyRounds ++ tests ++ slots ++ plain
+table = firstAlone ++ firstAsLast ++ twoTheSame ++ patternP ++ patternS ++ emptyRounds ++ tests ++ slots ++ plain ++ counts ++ countsOfNothing ++ countsInCounts ++ countsOfKeeps
 
 pub examples-computed : map (λ row. member (row .pattern) unbound (row .word)) table ≡ map (λ row. row .expected) table
 examples-computed = refl

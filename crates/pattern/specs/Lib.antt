@@ -1,9 +1,11 @@
 pub mod Promise
+pub mod Capped
 pub mod Reading
 pub mod Passed
 pub mod Bound
 pub mod Membership
 pub mod Wordings
+pub mod Rounds
 pub mod Examples
 pub mod Unread
 pub mod Classes

@@ -3,7 +3,7 @@
 use mathlib.Core.Path.{_≡_, refl, ap}
 use mathlib.Core.Bool.{Bool, true, false, So, _&&_, _||_, false≢true, and-eq-true-iff}
 use mathlib.Core.List.{[], _∷_, _++_, cons≢nil}
-use mathlib.Core.Logic.{_⊎_, inl, inr, ⊎-elim, _↔_}
+use mathlib.Core.Logic.{_⊎_, inl, inr, ⊎-elim, ⊎-map, _↔_}
 use mathlib.Core.Option.{Option, none, some}
 use Prim.Native.Nat.{ℕ, zero, suc, _≤_}
 use native.Mathlib.Nat.{le-refl}
@@ -12,8 +12,9 @@ use lib.Dec.{eqb}
 use lib.ListN.{length, length-append}
 use borrow.Author.Tests.{eqb-true, eq-eqb}
 use Rattle.meaning.specs.Record.{Boat}
-use Rattle.meaning.specs.Pattern.{Rule, Pattern, nothing, line, test, either, then, repeat, keep}
-use Rattle.meaning.specs.Language.{Letter, Word, Valuation, bind, compared, meets, Meets, Star, stop, more, L}
+use Rattle.meaning.specs.Pattern.{Rule, Pattern, nothing, line, test, either, then, repeat, keep, counted}
+use Rattle.meaning.specs.Language.{Letter, Word, Valuation, bind, compared, meets, Meets, Star, stop, more, Times, L}
+use Rattle.pattern.specs.Rounds.{times-none, times-more, times-maybe}
 
 -- ---- the tests (what a `let` binds is computed only where it is asked for)
 
@@ -44,6 +45,13 @@ rounds zero f w = empty w
 rounds (suc n) f [] = true
 rounds (suc n) f (a ∷ w) = cuts (λ u. f (a ∷ u)) (λ v. rounds n f v) w
 
+-- from the first number to the second of words of f, which may be empty
+abbrev pub counts : ℕ → ℕ → (Word → Bool) → Word → Bool
+counts zero zero f w = empty w
+counts (suc low) zero f w = false
+counts zero (suc high) f w = let later = cuts f (λ v. counts zero high f v) w in empty w || later
+counts (suc low) (suc high) f w = cuts f (λ v. counts low high f v) w
+
 -- a line's boat against what a slot has
 abbrev pub passes : Rule → Option Boat → Boat → Bool
 passes r none b = false
@@ -57,6 +65,7 @@ member (either p q) ν w = let right = member q ν w in member p ν w || right
 member (then p q) ν w = cuts (λ u. member p ν u) (λ v. member q ν v) w
 member (repeat p) ν w = rounds (length w) (λ u. member p ν u) w
 member (keep k s p) ν w = begins (λ a u. let inside = member p (bind ν s (a .boat)) u in eqb (a .kind) k && inside) w
+member (counted low high p) ν w = counts low high (λ u. member p ν u) w
 
 -- ---- what each test says
 
@@ -122,6 +131,35 @@ module _ (f : Word → Bool) (P : Word → Type 0) where
   rounds-complete is (more (a ∷ u) v e x s) (suc n) l =
       rw e (cuts-complete (λ t. f (a ∷ t)) (λ t. rounds n f t) u v (is (a ∷ u) x) (rounds-complete is s n (omega (arith, ap length e, length-append u v))))
 
+-- ---- the rounds of a counted pattern
+
+module _ (f : Word → Bool) (P : Word → Type 0) where
+  counts-sound : ((u : Word) → So (f u) → P u) → (low high : ℕ) (w : Word) → So (counts low high f w) → Times P low high w
+  counts-sound is zero zero w h = times-none P w .1 (empty-says w .0 h)
+  counts-sound is (suc low) zero w h = absurd (false≢true h)
+  counts-sound is zero (suc high) w h =
+      times-maybe P high w .1
+      (⊎-map
+      (empty-says w .0)
+      (λ c. let (u, v, e, x, y) = cuts-sound f (λ v. counts zero high f v) w c in (u, v, e, is u x, counts-sound is zero high v y))
+      (or-says (empty w) (cuts f (λ v. counts zero high f v) w) .0 h))
+  counts-sound is (suc low) (suc high) w h =
+      let (u, v, e, x, y) = cuts-sound f (λ v. counts low high f v) w h in
+      times-more P low high w .1 (u, v, e, is u x, counts-sound is low high v y)
+
+  counts-complete : ((u : Word) → P u → So (f u)) → (low high : ℕ) (w : Word) → Times P low high w → So (counts low high f w)
+  counts-complete is zero zero w t = empty-says w .1 (times-none P w .0 t)
+  counts-complete is (suc low) zero w (n, l, h, x) = absurd (omega (arith, l, h))
+  counts-complete is zero (suc high) w t =
+      or-says (empty w) (cuts f (λ v. counts zero high f v) w) .1
+      (⊎-map
+      (empty-says w .1)
+      (λ (u, v, e, x, y). rw e (cuts-complete f (λ v. counts zero high f v) u v (is u x) (counts-complete is zero high v y)))
+      (times-maybe P high w .0 t))
+  counts-complete is (suc low) (suc high) w t =
+      let (u, v, e, x, y) = times-more P low high w .0 t in
+      rw e (cuts-complete f (λ v. counts low high f v) u v (is u x) (counts-complete is low high v y))
+
 -- ---- the answer is right
 
 pub member-sound : (p : Pattern) (ν : Valuation) (w : Word) → member p ν w ≡ true → L p ν w
@@ -140,6 +178,7 @@ member-sound (keep k s p) ν w h =
     let (a, u, e, b) = begins-says (λ a u. eqb (a .kind) k && member p (bind ν s (a .boat)) u) w .0 h in
     let (x, y) = and-eq-true-iff (eqb (a .kind) k) (member p (bind ν s (a .boat)) u) .0 b in
     (a, u, e, eqb-true (a .kind) k x, member-sound p (bind ν s (a .boat)) u y)
+member-sound (counted low high p) ν w h = counts-sound (λ u. member p ν u) (L p ν) (member-sound p ν) low high w h
 
 pub member-complete : (p : Pattern) (ν : Valuation) (w : Word) → L p ν w → member p ν w ≡ true
 member-complete nothing ν w h = empty-says w .1 h
@@ -153,6 +192,7 @@ member-complete (repeat p) ν w h = rounds-complete (λ u. member p ν u) (L p �
 member-complete (keep k s p) ν w (a, u, e, x, y) =
     begins-says (λ a u. eqb (a .kind) k && member p (bind ν s (a .boat)) u) w .1
     (a, u, e, and-eq-true-iff (eqb (a .kind) k) _ .1 (eq-eqb (a .kind) k x, member-complete p (bind ν s (a .boat)) u y))
+member-complete (counted low high p) ν w h = counts-complete (λ u. member p ν u) (L p ν) (member-complete p ν) low high w h
 
 pub member-says : (p : Pattern) (ν : Valuation) (w : Word) → (member p ν w ≡ true) ↔ L p ν w
 member-says p ν w = (member-sound p ν w, member-complete p ν w)

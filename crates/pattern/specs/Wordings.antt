@@ -1,12 +1,12 @@
 -- Two patterns are alike when they have the same words, whatever the slots hold.
--- Claimed: swapping and regrouping an either, regrouping a then, doubling a repeat and putting nothing before a pattern
+-- Claimed: swapping and regrouping an either, regrouping a then, doubling a repeat and putting nothing before or after a pattern
 -- give a pattern that is alike, and patterns made of alike ones are alike. Used where two wordings must get one reply.
 use mathlib.Core.Path.{_≡_, refl, sym, ap, _∙_}
 use mathlib.Core.List.{[], _++_, append-assoc, append-nil}
 use mathlib.Core.Logic.{_⊎_, inl, inr, ⊎-elim, ⊎-swap, ⊎-map, _↔_, Iff·rfl, Iff·symm, Iff·trans}
-use Prim.Native.Nat.{ℕ}
-use Rattle.meaning.specs.Pattern.{Pattern, nothing, either, then, repeat, keep}
-use Rattle.meaning.specs.Language.{Word, Valuation, bind, Star, stop, more, L}
+use Prim.Native.Nat.{ℕ, zero, suc}
+use Rattle.meaning.specs.Pattern.{Pattern, nothing, either, then, repeat, keep, counted}
+use Rattle.meaning.specs.Language.{Word, Valuation, bind, Star, stop, more, Power, Times, L}
 
 pub record Alike (p q : Pattern) : Type 0 where
   pub words : (ν : Valuation) (w : Word) → L p ν w ↔ L q ν w
@@ -39,6 +39,16 @@ star-flat (more u v e s t) = rw e (star-append s (star-flat t))
 star-once : {P : Word → Type 0} {w : Word} → P w → Star P w
 star-once {w} x = more w [] (sym (append-nil w)) x (stop refl)
 
+-- ---- so many words, one after the other
+
+module _ {P Q : Word → Type 0} (f : (u : Word) → P u → Q u) where
+  power-map : (n : ℕ) (w : Word) → Power P n w → Power Q n w
+  power-map zero w e = e
+  power-map (suc n) w (u, v, e, x, y) = (u, v, e, f u x, power-map n v y)
+
+  times-map : (low high : ℕ) (w : Word) → Times P low high w → Times Q low high w
+  times-map low high w (n, l, h, x) = (n, l, h, power-map n w x)
+
 -- ---- wordings
 
 pub either-swapped : (p q : Pattern) → Alike (either p q) (either q p)
@@ -66,6 +76,14 @@ repeat-doubled p = record { words = λ ν w. (star-flat, star-once) }
 pub nothing-before : (p : Pattern) → Alike (then nothing p) p
 nothing-before p = record { words = λ ν w. (λ (u, v, e, f, x). let g : w ≡ v = e ∙ ap (_++ v) f in rw g x, λ x. ([], w, refl, refl, x)) }
 
+pub nothing-after : (p : Pattern) → Alike (then p nothing) p
+nothing-after p = record {
+  words = λ ν w. (
+    λ (u, v, e, x, f). let g : w ≡ u = e ∙ (ap (u ++_) f ∙ append-nil u) in rw g x,
+    λ x. (w, [], sym (append-nil w), x, refl),
+  );
+}
+
 -- ---- inside any pattern
 
 pub alike-either : {p p′ q q′ : Pattern} → Alike p p′ → Alike q q′ → Alike (either p q) (either p′ q′)
@@ -89,3 +107,6 @@ alike-keep k s a = record {
     λ (b, u, e, f, x). (b, u, e, f, a .words (bind ν s (b .boat)) u .1 x),
   );
 }
+
+pub alike-counted : {p p′ : Pattern} (low high : ℕ) → Alike p p′ → Alike (counted low high p) (counted low high p′)
+alike-counted low high a = record { words = λ ν w. (times-map (λ u. a .words ν u .0) low high w, times-map (λ u. a .words ν u .1) low high w) }

@@ -1,13 +1,13 @@
-// Reading a pattern: its bytes are asked questions 8 to 14 of document 01, command by command.
+// Reading a pattern: its bytes are asked questions 8 to 13 and 24 command by command, then questions 14 and 25 (documents 01 and 02).
 ghost use mathlib.Core.Path.{_≡_};
-ghost use mathlib.Core.Bool.{not, _||_};
+ghost use mathlib.Core.Bool.{true};
 ghost use Prim.Native.Nat.{_+_, _<_, _≤_, max};
-ghost use lib.Dec.{ltb};
-ghost use lib.ListN.{length, getD};
+ghost use lib.ListN.{length};
 ghost use Rattle.meaning.specs.Outcome.{told};
-ghost use Rattle.meaning.specs.Pattern.{shapeOf, operand, operandsAllowed, isTest, isKeep, commandAt, keptIn, depthIn, readPattern, noneGiven};
-ghost use Rattle.pattern.specs.Reading.{shapeShown, commandShown, readingShown, numberOf, extentAt, aroundExtent, joinedExtent, Few};
-ghost use Rattle.pattern.specs.Promise.{patternReply, counted, Small};
+ghost use Rattle.meaning.specs.Pattern.{shapeOf, operand, operandsAllowed, countsAllowed, slotKnown, keepFits, isTest, isKeep, commandAt, outermost, inside, readPattern, noneGiven};
+ghost use Rattle.pattern.specs.Capped.{capped};
+ghost use Rattle.pattern.specs.Reading.{shapeShown, outsideShown, commandShown, readingShown, numberOf, extentAt, unfoldedAround, keepsAround, aroundExtent, joinedExtent, Few};
+ghost use Rattle.pattern.specs.Promise.{patternReply, countsOf, Small};
 
 // ---- the command table
 
@@ -20,12 +20,12 @@ pub enum Shape {
 // The mark of a byte that is no command, in place of its count of patterns.
 const NO_COMMAND: usize = 3;
 
-// The rows stand by byte - 0x20: nothing, line, same, other, either, then, repeat, keep, sister, foreign, and six that are free.
-const OPERANDS: [usize; 16] = [0, 1, 2, 2, 0, 0, 0, 2, 2, 2, 0, 0, 0, 0, 0, 0];
+// The rows stand by byte - 0x20: nothing, line, same, other, either, then, repeat, keep, sister, foreign, counted, and five that are free.
+const OPERANDS: [usize; 16] = [0, 1, 2, 2, 0, 0, 0, 2, 2, 2, 2, 0, 0, 0, 0, 0];
 
-const PATTERNS: [usize; 16] = [0, 0, 0, 0, 2, 2, 1, 1, 0, 0, 3, 3, 3, 3, 3, 3];
+const PATTERNS: [usize; 16] = [0, 0, 0, 0, 2, 2, 1, 1, 0, 0, 1, 3, 3, 3, 3, 3];
 
-// A byte as an index.
+// A byte as a number that indexes and counts.
 fn wide(b: u8) -> usize
     ensures { λ r. ⌜ r ≡ b ⌝ }
 {
@@ -64,18 +64,28 @@ const SISTER: u8 = 0x28;
 
 const FOREIGN: u8 = 0x29;
 
+const COUNTED: u8 = 0x2A;
+
 // ---- one command
 
-// What stands at one place of the bytes, questions 8 to 13 asked of it.
+// What stands at one place of the bytes, questions 8 to 13 and 24 asked of it. The two operands are 0 where the command has none.
 pub enum Command {
     Is {
         code: u8,
-        kind: u8,
-        slot: u8,
+        first: u8,
+        second: u8,
         patterns: usize,
         next: usize,
     },
     Refused(u8),
+}
+
+// What stands around a pattern: `kept` has 1 for each slot that a keep around it, or the caller, gives a boat, `given` for each slot
+// that the caller does, and `depth` is how many keeps there are. `given` is apart from `kept` for what is read without the keeps around it.
+pub struct Outside {
+    pub kept: [u8; 4],
+    pub given: [u8; 4],
+    pub depth: usize,
 }
 
 // Operand i of the command at a place; 0 where the command has none.
@@ -89,23 +99,39 @@ pub fn operand_at(src: &[u8], at: usize, operands: usize, i: usize) -> u8
     0
 }
 
-// Question 11: a kind is 1 to 15, a slot 0 to 3.
-fn in_range(operands: usize, kind: u8, slot: u8) -> bool
-    ensures { λ r. ⌜ r ≡ operandsAllowed operands kind slot ⌝ }
+// Question 11: a kind is 1 to 15, a slot 0 to 3. The two counts of 2A are neither.
+fn in_range(code: u8, operands: usize, first: u8, second: u8) -> bool
+    ensures { λ r. ⌜ r ≡ operandsAllowed code operands first second ⌝ }
 {
+    if code == COUNTED {
+        return true;
+    }
     if operands == 0 {
         return true;
     }
-    if kind == 0 {
+    if first == 0 {
         return false;
     }
-    if 15 < kind {
+    if 15 < first {
         return false;
     }
     if operands == 1 {
         return true;
     }
-    slot < 4
+    second < 4
+}
+
+// Question 24: of the two counts of 2A the lowest is at most the highest, and that at most 20.
+fn counts_fit(code: u8, low: u8, high: u8) -> bool
+    ensures { λ r. ⌜ r ≡ countsAllowed code low high ⌝ }
+{
+    if code == COUNTED {
+        if low <= high {
+            return high <= 20;
+        }
+        return false;
+    }
+    true
 }
 
 // Is it a test of a slot's boat?
@@ -124,10 +150,10 @@ fn is_test(code: u8) -> bool
     code == FOREIGN
 }
 
-// Question 12: a tested slot is kept by a keep around it, or given.
+// Question 12: a tested slot is kept by a keep around it, or given. What another command has in a slot's place is no index.
 fn slot_known(code: u8, slot: u8, kept: [u8; 4]) -> bool
-    requires { ⌜ slot < 4 ⌝ }
-    ensures { λ r. ⌜ r ≡ (not (isTest code) || ltb 0 (getD kept slot 0)) ⌝ }
+    requires { ⌜ (isTest code ≡ true → slot < 4) ⌝ }
+    ensures { λ r. ⌜ r ≡ slotKnown code slot kept ⌝ }
 {
     if is_test(code) {
         return 0 < kept[slot as usize];
@@ -137,7 +163,7 @@ fn slot_known(code: u8, slot: u8, kept: [u8; 4]) -> bool
 
 // Question 13: a keep has at most two keeps around it.
 fn keep_fits(code: u8, depth: usize) -> bool
-    ensures { λ r. ⌜ r ≡ (not (isKeep code) || ltb depth 3) ⌝ }
+    ensures { λ r. ⌜ r ≡ keepFits code depth ⌝ }
 {
     if code == KEEP {
         return depth < 3;
@@ -145,10 +171,9 @@ fn keep_fits(code: u8, depth: usize) -> bool
     true
 }
 
-// Questions 8 to 13 of the command at a place: `before` commands stand before it and `depth` keeps around it,
-// and `kept` has 1 for each slot that a keep around it, or the caller, gives a boat.
-pub fn command_at(src: &[u8], at: usize, before: usize, kept: [u8; 4], depth: usize) -> Command
-    ensures { λ r. ⌜ commandShown r ≡ commandAt (now (src .entry)) at before kept depth ⌝ }
+// Questions 8 to 13 and 24 of the command at a place: `before` commands stand before it and `o` around it.
+pub fn command_at(src: &[u8], at: usize, before: usize, o: Outside) -> Command
+    ensures { λ r. ⌜ commandShown r ≡ commandAt (now (src .entry)) at before (outsideShown o) ⌝ }
 {
     if src.len() <= at {
         return Command::Refused(8);
@@ -163,22 +188,26 @@ pub fn command_at(src: &[u8], at: usize, before: usize, kept: [u8; 4], depth: us
     if src.len() - (at + 1) < operands {
         return Command::Refused(10);
     }
-    let kind = operand_at(src, at, operands, 0);
-    let slot = operand_at(src, at, operands, 1);
-    if !in_range(operands, kind, slot) {
+    let first = operand_at(src, at, operands, 0);
+    let second = operand_at(src, at, operands, 1);
+    if !in_range(code, operands, first, second) {
         return Command::Refused(11);
     }
-    if !slot_known(code, slot, kept) {
+    if !counts_fit(code, first, second) {
+        return Command::Refused(24);
+    }
+    let kept = o.kept;
+    if !slot_known(code, second, kept) {
         return Command::Refused(12);
     }
-    if !keep_fits(code, depth) {
+    if !keep_fits(code, o.depth) {
         return Command::Refused(13);
     }
     let next = at + 1 + operands;
     Command::Is {
         code,
-        kind,
-        slot,
+        first,
+        second,
         patterns,
         next,
     }
@@ -200,17 +229,17 @@ pub fn begin_at<'a>(src: &'a [u8], at: usize) -> Reader<'a>
 }
 
 // The command at the reader's place, asked what `command_at` asks.
-pub fn next_command<'a>(r: Reader<'a>, before: usize, kept: [u8; 4], depth: usize) -> Command
-    ensures { λ c. ⌜ commandShown c ≡ commandAt (now (r .entry .src)) (r .entry .at) before kept depth ⌝ }
+pub fn next_command<'a>(r: Reader<'a>, before: usize, o: Outside) -> Command
+    ensures { λ c. ⌜ commandShown c ≡ commandAt (now (r .entry .src)) (r .entry .at) before (outsideShown o) ⌝ }
 {
-    command_at(r.src, r.at, before, kept, depth)
+    command_at(r.src, r.at, before, o)
 }
 
 // The command at a place, by a reader that begins there: `read_at` reads every command so.
-pub fn command_from(src: &[u8], at: usize, before: usize, kept: [u8; 4], depth: usize) -> Command
-    ensures { λ r. ⌜ commandShown r ≡ commandAt (now (src .entry)) at before kept depth ⌝ }
+pub fn command_from(src: &[u8], at: usize, before: usize, o: Outside) -> Command
+    ensures { λ r. ⌜ commandShown r ≡ commandAt (now (src .entry)) at before (outsideShown o) ⌝ }
 {
-    next_command(begin_at(src, at), before, kept, depth)
+    next_command(begin_at(src, at), before, o)
 }
 
 // The number of the question that a command was refused at.
@@ -220,8 +249,8 @@ fn command_number(c: Command) -> u8
     match c {
         Command::Is {
             code: _,
-            kind: _,
-            slot: _,
+            first: _,
+            second: _,
             patterns: _,
             next: _,
         } => 0,
@@ -231,38 +260,78 @@ fn command_number(c: Command) -> u8
 
 // ---- a pattern
 
-// A whole pattern: the place after it, its commands, its deepest nesting of keeps.
+// Around a whole pattern: the slots that have a boat from outside, and no keep.
+pub fn outermost(given: [u8; 4]) -> Outside
+    ensures { λ r. ⌜ outsideShown r ≡ outermost given ⌝ }
+{
+    let kept = given;
+    Outside {
+        kept,
+        given,
+        depth: 0,
+    }
+}
+
+// Around the inside of a command: a keep gives its slot a boat there, and is one keep more.
+pub fn inside(code: u8, slot: u8, o: Outside) -> Outside
+    requires { ⌜ (isKeep code ≡ true → slot < 4) × (o .depth ≤ 3) ⌝ }
+    ensures { λ r. ⌜ outsideShown r ≡ inside code slot (outsideShown o) ⌝ }
+{
+    if code == KEEP {
+        let mut kept = o.kept;
+        kept[slot as usize] = 1;
+        let given = o.given;
+        let depth = o.depth + 1;
+        return Outside { kept, given, depth };
+    }
+    o
+}
+
+// What is told of a pattern that was read: the place after it, its commands as written, its unfolded count as `capped` counts,
+// its deepest nesting of keeps.
+pub struct Extent {
+    pub next: usize,
+    pub commands: usize,
+    pub unfolded: usize,
+    pub keeps: usize,
+}
+
+// A pattern that was read, or the number of the question that refused it.
 pub enum Reading {
-    Read {
-        next: usize,
-        commands: usize,
-        keeps: usize,
-    },
+    Read(Extent),
     Refused(u8),
 }
 
-// What is kept inside a command.
-fn kept_in(code: u8, slot: u8, kept: [u8; 4]) -> [u8; 4]
-    requires { ⌜ slot < 4 ⌝ }
-    ensures { λ r. ⌜ r ≡ keptIn code slot kept ⌝ }
+// An unfolded count, where every count that is too large for question 25 is 64: no sum or product of counts is then large.
+fn capped(n: usize) -> usize
+    ensures { λ r. ⌜ r ≡ capped n ⌝ }
 {
-    let mut inside = kept;
-    if code == KEEP {
-        inside[slot as usize] = 1;
-        return inside;
+    if n < 64 {
+        return n;
     }
-    inside
+    64
 }
 
-// The depth inside a command.
-fn depth_in(code: u8, depth: usize) -> usize
-    requires { ⌜ depth ≤ 3 ⌝ }
-    ensures { λ r. ⌜ r ≡ depthIn code depth ⌝ }
+// The unfolded count of a command and the pattern after it: what is counted counts as often as it may come.
+fn unfolded_around(code: u8, high: u8, inner: usize) -> usize
+    requires { ⌜ inner ≤ 64 ⌝ }
+    ensures { λ r. ⌜ r ≡ unfoldedAround code high inner ⌝ }
+{
+    if code == COUNTED {
+        return capped(wide(high) * inner + 1);
+    }
+    capped(inner + 1)
+}
+
+// The keeps of a command and the pattern after it.
+fn keeps_around(code: u8, keeps: usize) -> usize
+    requires { ⌜ keeps ≤ 3 ⌝ }
+    ensures { λ r. ⌜ r ≡ keepsAround code keeps ⌝ }
 {
     if code == KEEP {
-        return depth + 1;
+        return keeps + 1;
     }
-    depth
+    keeps
 }
 
 fn larger(a: usize, b: usize) -> usize
@@ -274,24 +343,21 @@ fn larger(a: usize, b: usize) -> usize
     a
 }
 
-// A command around the pattern that was read after it.
-fn around(code: u8, inside: Reading) -> Reading
+// A command around the pattern that was read after it; `high` is its second operand.
+fn around(code: u8, high: u8, inside: Reading) -> Reading
     requires { ⌜ Few inside ⌝ }
-    ensures { λ r. ⌜ readingShown r ≡ aroundExtent code (readingShown inside) ⌝ }
+    ensures { λ r. ⌜ readingShown r ≡ aroundExtent code high (readingShown inside) ⌝ }
 {
-    let Reading::Read {
-        next,
-        commands,
-        keeps,
-    } = inside
-    else {
+    let Reading::Read(e) = inside else {
         return inside;
     };
-    Reading::Read {
-        next,
-        commands: commands + 1,
-        keeps: depth_in(code, keeps),
-    }
+    let commands = e.commands + 1;
+    Reading::Read(Extent {
+        next: e.next,
+        commands,
+        unfolded: unfolded_around(code, high, e.unfolded),
+        keeps: keeps_around(code, e.keeps),
+    })
 }
 
 // A command and the two patterns that were read after it.
@@ -299,39 +365,31 @@ fn joined(first: Reading, second: Reading) -> Reading
     requires { ⌜ Few first × Few second ⌝ }
     ensures { λ r. ⌜ readingShown r ≡ joinedExtent (readingShown first) (readingShown second) ⌝ }
 {
-    let Reading::Read {
-        next: _,
-        commands: c1,
-        keeps: k1,
-    } = first
-    else {
+    let Reading::Read(e) = first else {
         return first;
     };
-    let Reading::Read {
-        next,
-        commands: c2,
-        keeps: k2,
-    } = second
-    else {
+    let Reading::Read(f) = second else {
         return second;
     };
-    Reading::Read {
-        next,
-        commands: c1 + c2 + 1,
-        keeps: larger(k1, k2),
-    }
+    let commands = e.commands + f.commands + 1;
+    Reading::Read(Extent {
+        next: f.next,
+        commands,
+        unfolded: capped(e.unfolded + f.unfolded + 1),
+        keeps: larger(e.keeps, f.keeps),
+    })
 }
 
 // The pattern at a place, by recursion on the bytes left.
-pub fn read_at(src: &[u8], at: usize, before: usize, kept: [u8; 4], depth: usize) -> Reading
-    requires { ⌜ depth ≤ 3 ⌝ }
-    ensures { λ r. ⌜ readingShown r ≡ extentAt (now (src .entry)) at before kept depth ⌝ }
+pub fn read_at(src: &[u8], at: usize, before: usize, o: Outside) -> Reading
+    requires { ⌜ o .depth ≤ 3 ⌝ }
+    ensures { λ r. ⌜ readingShown r ≡ extentAt (now (src .entry)) at before (outsideShown o) ⌝ }
 {
-    let c = command_from(src, at, before, kept, depth);
+    let c = command_from(src, at, before, o);
     let Command::Is {
         code,
-        kind: _,
-        slot,
+        first: _,
+        second,
         patterns,
         next,
     } = c
@@ -339,27 +397,22 @@ pub fn read_at(src: &[u8], at: usize, before: usize, kept: [u8; 4], depth: usize
         return Reading::Refused(command_number(c));
     };
     if patterns == 0 {
-        return Reading::Read {
+        return Reading::Read(Extent {
             next,
             commands: 1,
+            unfolded: 1,
             keeps: 0,
-        };
+        });
     }
     if patterns == 1 {
-        let inside = kept_in(code, slot, kept);
-        let p = read_at(src, next, before + 1, inside, depth_in(code, depth));
-        return around(code, p);
+        let p = read_at(src, next, before + 1, inside(code, second, o));
+        return around(code, second, p);
     }
-    let p = read_at(src, next, before + 1, kept, depth);
-    let Reading::Read {
-        next: then,
-        commands,
-        keeps: _,
-    } = p
-    else {
+    let p = read_at(src, next, before + 1, o);
+    let Reading::Read(e) = p else {
         return p;
     };
-    let q = read_at(src, then, before + 1 + commands, kept, depth);
+    let q = read_at(src, e.next, before + 1 + e.commands, o);
     joined(p, q)
 }
 
@@ -368,11 +421,7 @@ fn reading_number(r: Reading) -> u8
     ensures { λ n. ⌜ n ≡ numberOf (readingShown r) ⌝ }
 {
     match r {
-        Reading::Read {
-            next: _,
-            commands: _,
-            keeps: _,
-        } => 0,
+        Reading::Read(_) => 0,
         Reading::Refused(number) => number,
     }
 }
@@ -381,33 +430,39 @@ fn reading_number(r: Reading) -> u8
 
 // What a caller is told of a pattern.
 pub enum PatternReply {
-    Pattern { commands: usize, keeps: usize },
+    Pattern {
+        commands: usize,
+        unfolded: usize,
+        keeps: usize,
+    },
     Refused(u8, usize),
 }
 
-// Questions 8 to 14, where `given` has 1 for each slot that has a boat from outside.
+// Questions 8 to 14, 24 and 25, where `given` has 1 for each slot that has a boat from outside.
 pub fn read_given(pattern: &[u8], given: [u8; 4]) -> PatternReply
-    ensures reply { λ r. ⌜ patternReply r ≡ told (counted (readPattern given (now (pattern .entry)))) ⌝ }
+    ensures reply { λ r. ⌜ patternReply r ≡ told (countsOf (readPattern given (now (pattern .entry)))) ⌝ }
     ensures small { λ r. ⌜ Small r ⌝ }
 {
-    let whole = read_at(pattern, 0, 0, given, 0);
-    let Reading::Read {
-        next,
-        commands,
-        keeps,
-    } = whole
-    else {
+    let whole = read_at(pattern, 0, 0, outermost(given));
+    let Reading::Read(e) = whole else {
         return PatternReply::Refused(reading_number(whole), 0);
     };
-    if next == pattern.len() {
-        return PatternReply::Pattern { commands, keeps };
+    if e.next != pattern.len() {
+        return PatternReply::Refused(14, 0);
     }
-    PatternReply::Refused(14, 0)
+    if 63 < e.unfolded {
+        return PatternReply::Refused(25, 0);
+    }
+    PatternReply::Pattern {
+        commands: e.commands,
+        unfolded: e.unfolded,
+        keeps: e.keeps,
+    }
 }
 
-// Questions 8 to 14, no slot having a boat from outside.
+// Questions 8 to 14, 24 and 25, no slot having a boat from outside.
 pub fn read_pattern(pattern: &[u8]) -> PatternReply
-    ensures reply { λ r. ⌜ patternReply r ≡ told (counted (readPattern noneGiven (now (pattern .entry)))) ⌝ }
+    ensures reply { λ r. ⌜ patternReply r ≡ told (countsOf (readPattern noneGiven (now (pattern .entry)))) ⌝ }
     ensures small { λ r. ⌜ Small r ⌝ }
 {
     read_given(pattern, [0, 0, 0, 0])

@@ -7,7 +7,7 @@ use mathlib.Core.List.{List, []}
 use Prim.Native.Nat.{ℕ, _≤_}
 use native.Mathlib.Nat.{zero-add, le-of-eq}
 use native.Mathlib.Omega.{arith}
-use Rattle.meaning.specs.Pattern.{Pattern, commands, keeps}
+use Rattle.meaning.specs.Pattern.{Pattern, unfolded, keeps}
 use Rattle.lists.specs.Listed.{_∈_}
 use Rattle.automaton.specs.Automaton.{Node, nodes, nodeAt}
 use Rattle.automaton.specs.Shape.{Shape, deeper, leaves, shape, start-within}
@@ -24,10 +24,10 @@ module _ {p : Pattern} {a : List ℕ} {begin : ℕ} (h : Compiled p a begin) whe
   abbrev node : ℕ → Node
   node = nodeAt (nodes p [])
 
-  shaped : Shape (nodeAt (nodes p [])) (commands p) (keeps p)
+  shaped : Shape (nodeAt (nodes p [])) (unfolded p) (keeps p)
   shaped = shape p [] (le-of-eq (zero-add (keeps p)))
 
-  module _ (c : ℕ) (l : c ≤ commands p) where
+  module _ (c : ℕ) (l : c ≤ unfolded p) where
     depth-is : depthAt a c ≡ node c .depth
     unfolding nodeIn
     depth-is = h .nodes-are c l .depth
@@ -41,5 +41,5 @@ module _ {p : Pattern} {a : List ℕ} {begin : ℕ} (h : Compiled p a begin) whe
     compiled-depth = (omega (arith, depth-is, depth-leaves (node c), shaped .depth c), omega (arith, leaves-are, shaped .depth c))
 
   -- runs begin at positions outside of every keep
-  pub compiled-start : (k : ℕ) → k ∈ members begin → (k ≤ commands p) × (depthAt a k ≡ 0)
+  pub compiled-start : (k : ℕ) → k ∈ members begin → (k ≤ unfolded p) × (depthAt a k ≡ 0)
   compiled-start k m = let w = start-within p [] .at k (h .start-is k .0 m) in (w .0, omega (arith, depth-is k (w .0), w .1))

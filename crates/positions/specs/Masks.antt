@@ -2,15 +2,15 @@
 -- The compiler's contracts say `Marks`; a code that tests a bit of a mask goes by `members-bit`. Assumes nothing.
 use mathlib.Core.Path.{_≡_, refl, sym, ap, _∙_, subst}
 use mathlib.Core.Bool.{Bool, true, false, cond}
-use mathlib.Core.List.{List, [], _∷_, _++_, append-nil, List·Memᴰ·head, List·Memᴰ·tail, List·Memᴰ·cases-cons, List·Memᴰ·append-cases, List·Memᴰ·eq-of-singleton, Memᴰ·append-left, Memᴰ·append-right}
+use mathlib.Core.List.{List, [], _∷_, _++_, append-nil, List·Memᴰ·head, List·Memᴰ·tail, List·Memᴰ·cases-cons, List·Memᴰ·append-cases, List·Memᴰ·eq-of-singleton, Memᴰ·append-left, Memᴰ·append-right, map, Memᴰ·map, Memᴰ·of-map}
 use mathlib.Core.Logic.{_↔_, _⊎_, inl, inr, ⊎-elim}
-use Prim.Native.Nat.{ℕ, zero, suc, _+_, _-_, _*_, _<_, _≤_, _^_, _/_, max}
-use native.Mathlib.Nat.{div-eq-of-lt, div-self}
+use Prim.Native.Nat.{ℕ, zero, suc, _+_, _-_, _*_, _<_, _≤_, _^_, _/_, _%_, max}
+use native.Mathlib.Nat.{div-eq-of-lt, div-self, mul-assoc, one-mul}
 use native.Mathlib.Omega.{arith}
 use native.Mathlib.Decide.{decLt}
-use lib.Bits.{bitOr, or-shr, or-step}
+use lib.Bits.{bitOr, or-shr, or-step, shifted-even}
 use lib.Dec.{eqb}
-use lib.Pow.{pow-pos, pow-lt, pow-add, shl-shr}
+use lib.Pow.{pow-pos, pow-lt, pow-add, shl-shr, shr-shr, mod-mod-pow, field}
 use borrow.Author.Tests.{eqb-true, eqb-false}
 use Rattle.lists.specs.Listed.{_∈_, none-in, when}
 use Rattle.positions.specs.Program.{bitOf, members, membersFrom}
@@ -26,16 +26,33 @@ bit-zero k = rw (div-eq-of-lt (pow-pos k))
 bit-same : (i : ℕ) → bitOf (2 ^ i) i ≡ 1
 bit-same i = rw (div-self (pow-pos i))
 
+-- moved up by d bits: each bit is d places further up, and below them there is none
+bit-moved : (m d k : ℕ) → bitOf (m * 2 ^ d) (k + d) ≡ bitOf m k
+bit-moved m d k =
+    let at : k + d ≡ d + k = omega arith in
+    ap (bitOf (m * 2 ^ d)) at ∙ ap (λ n. n % 2) (sym (shr-shr (m * 2 ^ d) d k) ∙ ap (λ n. n / 2 ^ k) (shl-shr m d))
+
+bit-below : (m d k : ℕ) → k < d → bitOf (m * 2 ^ d) k ≡ 0
+bit-below m d k h =
+    let c : ℕ = d - suc k in
+    let e : d ≡ suc c + k = omega arith in
+    let p : m * 2 ^ d ≡ m * 2 ^ suc c * 2 ^ k = ap (λ (n : ℕ). m * 2 ^ n) e ∙ (ap (m *_) (pow-add 2 (suc c) k) ∙ sym (mul-assoc m (2 ^ suc c) (2 ^ k))) in
+    rw (p, shl-shr) (shifted-even m c)
+
 bit-other : (i k : ℕ) → (k ≡ i → ⊥) → bitOf (2 ^ i) k ≡ 0
 bit-other i k ne = go (decLt i k)
   where
     go : Dec (i < k) → bitOf (2 ^ i) k ≡ 0
     go (yes h) = rw (div-eq-of-lt (pow-lt h))
-    go (no h) =
-        let d : ℕ = i - k - 1 in
-        let e : i ≡ d + 1 + k = omega arith in
-        let p : 2 ^ i ≡ 2 ^ (d + 1) * 2 ^ k = ap (λ (n : ℕ). 2 ^ n) e ∙ pow-add 2 (d + 1) k in
-        rw (p, shl-shr) (omega (arith, pow-add 2 d 1))
+    go (no h) = ap (λ n. bitOf n k) (sym (one-mul (2 ^ i))) ∙ bit-below 1 i k (omega arith)
+
+-- the lowest 64 bits stay where those above them are left off
+bit-kept : (n k : ℕ) → k < 64 → bitOf (n % 18446744073709551616) k ≡ bitOf n k
+bit-kept n k h =
+    let j : ℕ = 63 - k in
+    let e : 64 ≡ j + 1 + k = omega arith in
+    let p : n % 18446744073709551616 / 2 ^ k ≡ n / 2 ^ k % 2 ^ (j + 1) = ap (λ (i : ℕ). n % 2 ^ i / 2 ^ k) e ∙ field n (j + 1) k in
+    ap (λ i. i % 2) p ∙ mod-mod-pow (n / 2 ^ k) j 1
 
 -- ---- the members of a mask
 
@@ -121,3 +138,24 @@ module _ {m n : ℕ} {K L : List ℕ} (f : Marks m K) (g : Marks n L) where
   pub marks-when : (e : Bool) → Marks (cond e (bitOr m n) m) (K ++ when e L)
   marks-when true = marks-append
   marks-when false = subst (Marks m) (sym (append-nil K)) f
+
+-- a mask that is shifted up by d bits in a word of 64 marks the positions d further on, as long as none of them falls out
+pub marks-moved : (m d : ℕ) (K : List ℕ) → Marks m K → ((k : ℕ) → k ∈ K → k + d < 64) → Marks ((m * 2 ^ d) % 18446744073709551616) (map (λ k. k + d) K)
+marks-moved m d K f small = record { has = λ k. (λ i. let (low, b) = members-bit mask k .0 i in sound k low (decLt k d) (sym (bit-kept (m * 2 ^ d) k low) ∙ b), complete k) }
+  where
+    mask : ℕ
+    mask = (m * 2 ^ d) % 18446744073709551616
+
+    sound : (k : ℕ) → k < 64 → Dec (k < d) → bitOf (m * 2 ^ d) k ≡ 1 → k ∈ map (λ j. j + d) K
+    sound k low (yes h) b = absurd (omega (arith, b, bit-below m d k h))
+    sound k low (no h) b =
+        let j : ℕ = k - d in
+        let e : j + d ≡ k = omega arith in
+        let i : j ∈ members m = members-bit m j .1 (omega arith, sym (bit-moved m d j) ∙ (ap (bitOf (m * 2 ^ d)) e ∙ b)) in
+        subst (_∈ map (λ j. j + d) K) e (Memᴰ·map (λ j. j + d) (f .has j .0 i))
+
+    complete : (k : ℕ) → k ∈ map (λ j. j + d) K → k ∈ members mask
+    complete k i =
+        let (j, mj, e) = Memᴰ·of-map (λ j. j + d) K i in
+        let (low, b) = members-bit m j .0 (f .has j .1 mj) in
+        subst (_∈ members mask) e (members-bit mask (j + d) .1 (small j mj, bit-kept (m * 2 ^ d) (j + d) (small j mj) ∙ (bit-moved m d j ∙ b)))

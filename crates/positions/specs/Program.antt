@@ -10,7 +10,7 @@ use native.Mathlib.Omega.{arith}
 use lib.Dec.{eqb}
 use lib.ListN.{length, getD, set, length-set}
 use lib.Seq.{getD-set-same, getD-set-other}
-use Rattle.meaning.specs.Pattern.{Pattern, same, other, sister, foreign, commands}
+use Rattle.meaning.specs.Pattern.{Pattern, same, other, sister, foreign, unfolded}
 use Rattle.lists.specs.Listed.{_∈_}
 use Rattle.automaton.specs.Automaton.{Node, Test, never, always, against, nodes, nodeAt, start}
 use Rattle.automaton.specs.Shape.{deeper}
@@ -199,5 +199,5 @@ pub record Alike (n m : Node) : Type 0 where
 
 -- the program says the automaton of p up to its end, and the mask its start
 pub record Compiled (p : Pattern) (a : List ℕ) (begin : ℕ) : Type 0 where
-  pub nodes-are : (c : ℕ) → c ≤ commands p → Alike (nodeIn a c) (nodeAt (nodes p []) c)
+  pub nodes-are : (c : ℕ) → c ≤ unfolded p → Alike (nodeIn a c) (nodeAt (nodes p []) c)
   pub start-is : (k : ℕ) → (k ∈ members begin) ↔ (k ∈ start p)

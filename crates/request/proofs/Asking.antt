@@ -9,11 +9,11 @@ use lib.ListN.{length}
 use native.Mathlib.Omega.{arith}
 use Rattle.meaning.specs.Outcome.{Outcome, refused, passed, told}
 use Rattle.meaning.specs.Record.{Line, Day, boats, readRecord}
-use Rattle.meaning.specs.Pattern.{Pattern, commands, keeps, readPattern, noneGiven}
+use Rattle.meaning.specs.Pattern.{Pattern, commands, unfolded, keeps, readPattern, noneGiven}
 use Rattle.meaning.specs.Request.{Asked, sizeOf, searchSize, need, askBoth, askRequest, wordsOf}
 use Rattle.record.specs.Outcomes.{passed-inj, andThen-passed}
 use Rattle.record.specs.Whole.{linesIn, linesOf}
-use Rattle.pattern.specs.Promise.{Counts, patternReply, counted}
+use Rattle.pattern.specs.Promise.{Counts, patternReply, countsOf}
 use Rattle.pattern.specs.declared.PatternReply.the-variants as Said
 use Rattle.request.specs.Layout.{largest}
 use Rattle.request.specs.Asking.{bothTold, sizingTold, measuredTold}
@@ -22,15 +22,15 @@ use Rattle.request.specs.declared.Measured.the-variants as Measured
 use Rattle.request.specs.declared.Sizing.the-variants as Sizing
 use borrow.Author.Tests.{le-ltb, lt-ltb, le-leb, lt-leb, leb-true}
 
-pub tree-refused : (o : Outcome Pattern) (number second : ℕ) → patternReply (Said.Refused number second) ≡ told (counted o) → o ≡ refused number
+pub tree-refused : (o : Outcome Pattern) (number second : ℕ) → patternReply (Said.Refused number second) ≡ told (countsOf o) → o ≡ refused number
 tree-refused (refused q) number second h = ap refused cc
 tree-refused (passed p) number second h = absurd (let z : _≡_ {A = ℕ} 0 1 = cc in omega arith)
 
-pub tree-passed : (o : Outcome Pattern) (c k : ℕ) → patternReply (Said.Pattern c k) ≡ told (counted o) → (p : Pattern) × (o ≡ passed p) × (c ≡ commands p) × (k ≡ keeps p)
-tree-passed (refused q) c k h = absurd (let z : _≡_ {A = ℕ} 0 1 = cc in omega arith)
-tree-passed (passed p) c k h =
-    let counts : _≡_ {A = Counts} (record { commands = c; keeps = k }) (record { commands = commands p; keeps = keeps p }) = cc in
-    (p, refl, ap (λ (x : Counts). x .commands) counts, ap (λ (x : Counts). x .keeps) counts)
+pub tree-passed : (o : Outcome Pattern) (c u k : ℕ) → patternReply (Said.Pattern c u k) ≡ told (countsOf o) → (p : Pattern) × (o ≡ passed p) × (u ≡ unfolded p) × (k ≡ keeps p)
+tree-passed (refused q) c u k h = absurd (let z : _≡_ {A = ℕ} 0 1 = cc in omega arith)
+tree-passed (passed p) c u k h =
+    let counts : _≡_ {A = Counts} (record { commands = c; unfolded = u; keeps = k }) (record { commands = commands p; unfolded = unfolded p; keeps = keeps p }) = cc in
+    (p, refl, ap (λ (x : Counts). x .unfolded) counts, ap (λ (x : Counts). x .keeps) counts)
 
 -- ---- the record, then the pattern
 
@@ -55,7 +55,7 @@ pub record Counted (rec pat : List ℕ) (places lines c k : ℕ) : Type 0 where
   pub both : askBoth rec pat ≡ passed asked
   pub places-are : places ≡ asked .day .places
   pub lines-are : lines ≡ length (asked .day .lines)
-  pub commands-are : c ≡ commands (asked .pattern)
+  pub unfolded-is : c ≡ unfolded (asked .pattern)
   pub keeps-are : k ≡ keeps (asked .pattern)
   pub lines-of : linesOf rec ≡ asked .day .lines
 
@@ -68,7 +68,7 @@ both-counted rec pat places lines c k h = go (askBoth rec pat) refl h
         let (day, r, f) = andThen-passed (readRecord rec) _ q e in
         let (p, s, g) = andThen-passed (readPattern noneGiven pat) _ q f in
         let same : day ≡ q .day = ap (λ (x : Asked). x .day) (passed-inj g) in
-        record { asked = q; both = e; places-are = cc; lines-are = cc; commands-are = cc; keeps-are = cc; lines-of = ap linesIn r ∙ ap (λ (x : Day). x .lines) same }
+        record { asked = q; both = e; places-are = cc; lines-are = cc; unfolded-is = cc; keeps-are = cc; lines-of = ap linesIn r ∙ ap (λ (x : Day). x .lines) same }
 
 -- ---- question 16
 
@@ -116,7 +116,7 @@ module _ (lines : List Line) (places c k b : ℕ) (e : b ≡ length (boats lines
 -- the size of what passed, by its counts
 pub counted-size : (rec pat : List ℕ) (places lines c k : ℕ) (h : Counted rec pat places lines c k) → places * suc c * suc (length (boats (linesOf rec))) ^ k ≡ sizeOf (h .asked)
 unfolding searchSize
-counted-size rec pat places lines c k h = cc (h .places-are, h .commands-are, h .keeps-are, h .lines-of)
+counted-size rec pat places lines c k h = cc (h .places-are, h .unfolded-is, h .keeps-are, h .lines-of)
 
 module _ (rec pat : List ℕ) (from to area : ℕ) (q : Asked) (e : askBoth rec pat ≡ passed q) where
   pub asked-from : q .day .places ≤ from → askRequest rec pat from to area ≡ refused 15

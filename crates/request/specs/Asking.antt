@@ -8,7 +8,7 @@ use lib.Dec.{leb}
 use lib.ListN.{length, take}
 use Rattle.meaning.specs.Outcome.{Outcome, refused, passed}
 use Rattle.meaning.specs.Record.{Line, boats}
-use Rattle.meaning.specs.Pattern.{commands, keeps}
+use Rattle.meaning.specs.Pattern.{unfolded, keeps}
 use Rattle.meaning.specs.Request.{Asked}
 use Rattle.boats.specs.Codes.{codes}
 use Rattle.pattern.specs.declared.PatternReply.{PatternReply}
@@ -28,14 +28,14 @@ use Rattle.request.specs.declared.Sizing.the-variants.{Size, Above}
 
 abbrev pub bothTold : Outcome Asked → Both
 bothTold (refused number) = Both.Refused number
-bothTold (passed q) = Both.Read (q .day .places) (length (q .day .lines)) (commands (q .pattern)) (keeps (q .pattern))
+bothTold (passed q) = Both.Read (q .day .places) (length (q .day .lines)) (unfolded (q .pattern)) (keeps (q .pattern))
 
 abbrev pub bothNumber : Both → ℕ
 bothNumber (Both.Read places lines c k) = 0
 bothNumber (Both.Refused number) = number
 
 abbrev pub patternNumber : PatternReply → ℕ
-patternNumber (Pattern.Pattern c k) = 0
+patternNumber (Pattern.Pattern c u k) = 0
 patternNumber (Pattern.Refused number second) = number
 
 -- the counts of what passes are small
@@ -48,7 +48,7 @@ Small (Both.Refused number) = Unit {0}
 abbrev pub sizingTold : ℕ → Sizing
 sizingTold n = cond (leb n largest) (Size n) Above
 
--- of so many places and commands, keeps so deep, and the boats of these lines
+-- of so many places and positions before the end, keeps so deep, and the boats of these lines
 abbrev pub measuredTold : List Line → ℕ → ℕ → ℕ → Measured
 measuredTold lines places c k =
     let n = places * suc c * suc (length (boats lines)) ^ k in

@@ -7,7 +7,7 @@ use native.Mathlib.Omega.{arith}
 use lib.Dec.{leb}
 use lib.ListN.{length, length-map}
 use Rattle.meaning.specs.Record.{Line, boats}
-use Rattle.meaning.specs.Pattern.{commands, keeps}
+use Rattle.meaning.specs.Pattern.{unfolded, keeps}
 use Rattle.meaning.specs.Request.{Asked}
 use Rattle.boats.specs.Boats.{asNumber}
 use Rattle.boats.specs.Codes.{codes}
@@ -53,7 +53,7 @@ pub record Laid (plan : Plan) (area : ℕ) : Type 0 where
   pub some-place : 0 < plan .places
   pub few-places : plan .places ≤ 1024
   pub few-lines : plan .lines ≤ 4096
-  pub few-commands : plan .done ≤ 63
+  pub few-positions : plan .done ≤ 63
   pub few-keeps : plan .keeps ≤ 3
   pub some-radix : 0 < plan .radix
   pub few-boats : plan .radix ≤ 4097
@@ -84,7 +84,7 @@ pub record Fitting (places lines done keeps radix size at area : ℕ) : Type 0 w
   pub some-place : 0 < places
   pub few-places : places ≤ 1024
   pub few-lines : lines ≤ 4096
-  pub few-commands : done ≤ 63
+  pub few-positions : done ≤ 63
   pub few-keeps : keeps ≤ 3
   pub some-radix : 0 < radix
   pub few-boats : radix ≤ 4097
@@ -97,7 +97,7 @@ pub record Fitting (places lines done keeps radix size at area : ℕ) : Type 0 w
 pub record Planned (q : Asked) (plan : Plan) : Type 0 where
   pub places-are : plan .places ≡ q .day .places
   pub lines-are : plan .lines ≡ length (q .day .lines)
-  pub done-is : plan .done ≡ commands (q .pattern)
+  pub done-is : plan .done ≡ unfolded (q .pattern)
   pub keeps-are : plan .keeps ≡ keeps (q .pattern)
   pub radix-is : plan .radix ≡ suc (length (boats (q .day .lines)))
 

@@ -31,7 +31,7 @@ pub const SCALE: usize = 4398046511104;
 pub struct Plan {
     pub places: usize,
     pub lines: usize,
-    // The pattern's commands: positions are 0 up to this one, the end.
+    // The pattern's unfolded count: positions are 0 up to this one, the end.
     pub done: usize,
     // The different boats and one.
     pub radix: usize,
@@ -65,12 +65,12 @@ pub struct Plan {
 
 // ---- the questions
 
-// A record and a pattern that pass questions 1 to 14, by their counts.
+// A record and a pattern that pass their questions, 1 to 14, 24 and 25, by their counts.
 pub enum Both {
     Read {
         places: usize,
         lines: usize,
-        commands: usize,
+        unfolded: usize,
         keeps: usize,
     },
     Refused(u8),
@@ -85,7 +85,7 @@ impl Both {
             Both::Read {
                 places: _,
                 lines: _,
-                commands: _,
+                unfolded: _,
                 keeps: _,
             } => 0,
             Both::Refused(q) => q,
@@ -99,13 +99,14 @@ fn pattern_number(r: PatternReply) -> u8
     match r {
         PatternReply::Pattern {
             commands: _,
+            unfolded: _,
             keeps: _,
         } => 0,
         PatternReply::Refused(q, _) => q,
     }
 }
 
-// Questions 1 to 14.
+// Questions 1 to 14, 24 and 25.
 fn ask_both(day: &[u8], pattern: &[u8]) -> Both
     ensures both { λ r. ⌜ r ≡ bothTold (askBoth (now (day .entry)) (now (pattern .entry))) ⌝ }
     ensures small { λ r. ⌜ Small r ⌝ }
@@ -115,13 +116,18 @@ fn ask_both(day: &[u8], pattern: &[u8]) -> Both
         return Both::Refused(whole.number());
     };
     let tree = pattern::read_pattern(pattern);
-    let PatternReply::Pattern { commands, keeps } = tree else {
+    let PatternReply::Pattern {
+        commands: _,
+        unfolded,
+        keeps,
+    } = tree
+    else {
         return Both::Refused(pattern_number(tree));
     };
     Both::Read {
         places,
         lines,
-        commands,
+        unfolded,
         keeps,
     }
 }
@@ -132,12 +138,12 @@ pub enum Sizing {
     Above,
 }
 
-// places × (commands + 1) × radix to the power of keeps, step by step.
-fn size_of(places: usize, commands: usize, radix: usize, keeps: usize) -> Sizing
-    requires { ⌜ (places ≤ 1024) × (commands ≤ 63) × (0 < radix) × (radix ≤ 4097) ⌝ }
-    ensures { λ r. ⌜ r ≡ sizingTold (places * suc commands * radix ^ keeps) ⌝ }
+// places × (unfolded count + 1) × radix to the power of keeps, step by step.
+fn size_of(places: usize, unfolded: usize, radix: usize, keeps: usize) -> Sizing
+    requires { ⌜ (places ≤ 1024) × (unfolded ≤ 63) × (0 < radix) × (radix ≤ 4097) ⌝ }
+    ensures { λ r. ⌜ r ≡ sizingTold (places * suc unfolded * radix ^ keeps) ⌝ }
 {
-    let mut size = places * (commands + 1);
+    let mut size = places * (unfolded + 1);
     let mut k: usize = 0;
     while k < keeps {
         size = size * radix;
@@ -160,16 +166,16 @@ fn measure(
     day: &[u8],
     places: usize,
     lines: usize,
-    commands: usize,
+    unfolded: usize,
     keeps: usize,
     numbers: &mut [u16; 4096],
 ) -> Measured
-    requires { ⌜ (lines ≡ length (linesOf (now day))) × (places ≤ 1024) × (commands ≤ 63) ⌝ }
-    ensures size { λ r. ⌜ r ≡ measuredTold (linesOf (now (day .entry))) places commands keeps ⌝ }
+    requires { ⌜ (lines ≡ length (linesOf (now day))) × (places ≤ 1024) × (unfolded ≤ 63) ⌝ }
+    ensures size { λ r. ⌜ r ≡ measuredTold (linesOf (now (day .entry))) places unfolded keeps ⌝ }
     ensures numbered { λ _. ⌜ take lines (now (numbers .exit)) ≡ codes (linesOf (now (day .entry))) ⌝ }
 {
     let boats = boats::number_boats(day, lines, numbers);
-    let sizing = size_of(places, commands, boats + 1, keeps);
+    let sizing = size_of(places, unfolded, boats + 1, keeps);
     let Sizing::Size(size) = sizing else {
         return Measured::Above;
     };
@@ -287,7 +293,7 @@ pub fn ask_request(
     let Both::Read {
         places,
         lines,
-        commands,
+        unfolded,
         keeps,
     } = both
     else {
@@ -299,14 +305,14 @@ pub fn ask_request(
     if places <= to as usize {
         return Request::Refused(15);
     }
-    let measured = measure(day, places, lines, commands, keeps, numbers);
+    let measured = measure(day, places, lines, unfolded, keeps, numbers);
     let Measured::Size { boats, size } = measured else {
         return Request::Refused(16);
     };
     if area < words_for(size) {
         return Request::Refused(17);
     }
-    let plan = planned(places, lines, commands, keeps, boats + 1, size, 0, area);
+    let plan = planned(places, lines, unfolded, keeps, boats + 1, size, 0, area);
     Request::Asked(plan)
 }
 
@@ -316,7 +322,7 @@ pub enum WordsReply {
     Refused(u8, usize),
 }
 
-// The words that a record and a pattern need, whatever places are asked about: questions 1 to 14 and 16.
+// The words that a record and a pattern need, whatever places are asked about: questions 1 to 14, 24, 25 and 16.
 pub fn words_needed(day: &[u8], pattern: &[u8]) -> WordsReply
     ensures { λ r. ⌜ wordsReply r ≡ told (wordsOf (now (day .entry)) (now (pattern .entry))) ⌝ }
 {
@@ -324,14 +330,14 @@ pub fn words_needed(day: &[u8], pattern: &[u8]) -> WordsReply
     let Both::Read {
         places,
         lines,
-        commands,
+        unfolded,
         keeps,
     } = both
     else {
         return WordsReply::Refused(both.number(), 0);
     };
     let mut numbers: [u16; 4096] = [0; 4096];
-    let measured = measure(day, places, lines, commands, keeps, &mut numbers);
+    let measured = measure(day, places, lines, unfolded, keeps, &mut numbers);
     let Measured::Size { boats: _, size } = measured else {
         return WordsReply::Refused(16, 0);
     };

@@ -1,24 +1,37 @@
-// Rows about patterns: document 01's, and many others. Each row prints its text, then commands and keeps, or the refusal's two numbers.
+// Rows about patterns: document 01's, and many others. Each row prints its text, then commands, unfolded count and keeps, or the refusal's
+// two numbers.
 use crate::file;
 use crate::print;
 use pattern::PatternReply;
 
-fn two_numbers(word: &[u8], a: usize, b: usize) {
-    print::text(word);
-    print::number(a);
+fn one_more(n: usize) {
     print::text(b" ");
-    print::number(b);
+    print::number(n);
+}
+
+fn counted(commands: usize, unfolded: usize, keeps: usize) {
+    print::text(b"pattern");
+    one_more(commands);
+    one_more(unfolded);
+    one_more(keeps);
+    print::text(b"\n");
+}
+
+fn refused(number: usize, second: usize) {
+    print::text(b"refused");
+    one_more(number);
+    one_more(second);
     print::text(b"\n");
 }
 
 fn reply(r: PatternReply) {
     match r {
-        PatternReply::Pattern { commands, keeps } => {
-            two_numbers(b"pattern ", commands as usize, keeps as usize);
-        }
-        PatternReply::Refused(number, second) => {
-            two_numbers(b"refused ", number as usize, second as usize);
-        }
+        PatternReply::Pattern {
+            commands,
+            unfolded,
+            keeps,
+        } => counted(commands as usize, unfolded as usize, keeps as usize),
+        PatternReply::Refused(number, second) => refused(number as usize, second as usize),
     }
 }
 
@@ -27,6 +40,7 @@ fn number_of(r: PatternReply) -> u8 {
     match r {
         PatternReply::Pattern {
             commands: _,
+            unfolded: _,
             keeps: _,
         } => 0,
         PatternReply::Refused(number, _) => number,

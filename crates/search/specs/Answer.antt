@@ -10,7 +10,7 @@ use native.Mathlib.Omega.{arith}
 use lib.ListN.{length, getD}
 use Rattle.meaning.specs.Record.{Line, boats}
 use Rattle.meaning.specs.Writing.{lineAt}
-use Rattle.meaning.specs.Pattern.{Pattern, commands, keeps}
+use Rattle.meaning.specs.Pattern.{Pattern, unfolded, keeps}
 use Rattle.meaning.specs.Chain.{word, Accepted, LowerAtFirstDifference, Before, First}
 use Rattle.meaning.specs.Request.{searchSize}
 use Rattle.lists.specs.Listed.{_∈_}
@@ -35,7 +35,7 @@ setting lines p =
     let bs = boats lines in
     let cs = codes lines in
     let ns = nodes p [] in
-    record { lines = lines; code = λ i. getD cs i 0; tells = telling bs; node = nodeAt ns; done = commands p; radix = suc (length bs); deepest = keeps p }
+    record { lines = lines; code = λ i. getD cs i 0; tells = telling bs; node = nodeAt ns; done = unfolded p; radix = suc (length bs); deepest = keeps p }
 
 -- where the chains from place a begin
 unfoldable pub starts : Setting → Pattern → ℕ → List ℕ
@@ -50,7 +50,7 @@ answer lines places p a b =
 -- ---- its states are valid
 
 module _ (lines : List Line) (places : ℕ) (p : Pattern) where
-  ok-at : (q k : ℕ) → q < places → k ≤ commands p → Ok (setting lines p) places (state (setting lines p) q k 0)
+  ok-at : (q k : ℕ) → q < places → k ≤ unfolded p → Ok (setting lines p) places (state (setting lines p) q k 0)
   unfolding setting
   ok-at q k hq hk = record { place = q; pos = k; stack = 0; is = refl; place-low = hq; pos-low = hk; stack-low = pow-pos (suc (length (boats lines))) (omega arith) _ }
 
@@ -62,7 +62,7 @@ module _ (lines : List Line) (places : ℕ) (p : Pattern) where
 
   pub goal-ok : (b : ℕ) → b < places → (s : ℕ) → s ∈ (goal (setting lines p) b ∷ []) → Ok (setting lines p) places s
   unfolding setting
-  goal-ok b hb s m = subst (Ok (setting lines p) places) (sym (List·Memᴰ·eq-of-singleton m)) (ok-at b (commands p) hb (omega arith))
+  goal-ok b hb s m = subst (Ok (setting lines p) places) (sym (List·Memᴰ·eq-of-singleton m)) (ok-at b (unfolded p) hb (omega arith))
 
 -- every line goes between two of the places
 abbrev pub LinesWithin : List Line → ℕ → Type 0

@@ -13,7 +13,7 @@ use lib.Seq.{getD-append-add}
 use borrow.Author.Tests.{lt-ltb}
 use Rattle.meaning.specs.Record.{Line, boats}
 use Rattle.meaning.specs.Writing.{noLine, lineAt}
-use Rattle.meaning.specs.Pattern.{Pattern, commands, keeps}
+use Rattle.meaning.specs.Pattern.{Pattern, unfolded, keeps}
 use Rattle.meaning.specs.Language.{Compared, unread, same-boat, same-class, other-class, meets}
 use Rattle.meaning.specs.Request.{Asked, searchSize}
 use Rattle.meaning.specs.Chain.{exist}
@@ -68,7 +68,7 @@ module _ (q : Asked) (plan : Plan) (area : ℕ) (planned : Planned q plan) (laid
   pub size-asked : plan .size ≡ searchSize lines places p
   unfolding searchSize
   size-asked =
-      let positions : plan .done + 1 ≡ suc (commands p) = omega (arith, planned .done-is) in
+      let positions : plan .done + 1 ≡ suc (unfolded p) = omega (arith, planned .done-is) in
       let stacks : plan .stacks ≡ suc (length (boats lines)) ^ keeps p = laid .stacks-is ∙ (λ t. planned .radix-is t ^ planned .keeps-are t) in
       laid .size-is ∙ (λ t. planned .places-are t * positions t * stacks t)
 

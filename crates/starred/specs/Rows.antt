@@ -145,6 +145,14 @@ C =
 entered : ℕ → List ℕ
 entered b = 0x27 ∷ 1 ∷ 0 ∷ b ∷ 2 ∷ 0 ∷ []
 
+-- one place, and one line that leads from it to itself
+lap : List ℕ
+lap = 0x01 ∷ 0 ∷ 1 ∷ (line-bytes 0 3 1 1 0 ++ (0x00 ∷ []))
+
+-- so many rounds, and what follows
+laps : ℕ → ℕ → List ℕ → List ℕ
+laps low high rest = 0x2A ∷ low ∷ high ∷ rest
+
 more : List Row
 more =
     -- an output that is one entry short, and one that just holds the chain
@@ -168,14 +176,31 @@ more =
     ∷ finds C (entered 0x23) 0 2 16 (chain (0 ∷ 1 ∷ []))
     ∷ finds C (entered 0x28) 0 2 16 (chain (0 ∷ 4 ∷ []))
     ∷ finds C (entered 0x29) 0 2 16 (chain (0 ∷ 1 ∷ []))
-    ∷ finds C (entered 0x2A) 0 2 16 (stopped 8)
+    ∷ finds C (entered 0x2B) 0 2 16 (stopped 8)
     ∷ finds C (0x28 ∷ 2 ∷ 0 ∷ []) 0 2 16 (stopped 12)
     ∷ finds C (0x29 ∷ 2 ∷ 0 ∷ []) 0 2 16 (stopped 12)
     ∷ checks C (entered 0x28) 0 2 (0 ∷ 3 ∷ []) (passed false)
     ∷ checks C (entered 0x29) 0 2 (0 ∷ 4 ∷ []) (passed false)
     ∷ checks C (entered 0x29) 0 2 (0 ∷ 5 ∷ []) (passed true)
+    -- so many laps and no more: the lowest count, none, empty ones, two counts in a row, the highest count and one above it
+    ∷ finds lap (laps 2 5 (0x21 ∷ 3 ∷ [])) 0 0 16 (chain (0 ∷ 0 ∷ []))
+    ∷ finds lap (laps 2 5 (0x21 ∷ 3 ∷ [])) 0 0 1 (too-long 2)
+    ∷ finds lap (laps 0 0 (0x21 ∷ 3 ∷ [])) 0 0 16 (chain [])
+    ∷ finds lap (laps 1 3 (0x20 ∷ [])) 0 0 16 (chain [])
+    ∷ finds lap (0x25 ∷ laps 2 5 (0x21 ∷ 3 ∷ laps 3 3 (0x21 ∷ 3 ∷ []))) 0 0 16 (chain (0 ∷ 0 ∷ 0 ∷ 0 ∷ 0 ∷ []))
+    ∷ checks lap (laps 2 5 (0x21 ∷ 3 ∷ [])) 0 0 (0 ∷ []) (passed false)
+    ∷ checks lap (laps 2 5 (0x21 ∷ 3 ∷ [])) 0 0 (0 ∷ 0 ∷ 0 ∷ 0 ∷ 0 ∷ []) (passed true)
+    ∷ checks lap (laps 2 5 (0x21 ∷ 3 ∷ [])) 0 0 (0 ∷ 0 ∷ 0 ∷ 0 ∷ 0 ∷ 0 ∷ []) (passed false)
+    -- each round keeps a boat of its own
+    ∷ checks T (laps 2 2 (0x27 ∷ 1 ∷ 0 ∷ 0x22 ∷ 1 ∷ 0 ∷ [])) 0 0 (0 ∷ 0 ∷ 1 ∷ 1 ∷ []) (passed true)
+    ∷ checks T (laps 2 2 (0x27 ∷ 1 ∷ 0 ∷ 0x22 ∷ 1 ∷ 0 ∷ [])) 0 0 (0 ∷ 1 ∷ 1 ∷ 0 ∷ []) (passed false)
+    -- 24 before what is inside, 25 after 14 and before 15, and counted as often as it may come
+    ∷ finds lap (0x2A ∷ 1 ∷ 0 ∷ []) 0 9 16 (stopped 24)
+    ∷ finds lap (0x26 ∷ 0x26 ∷ laps 0 20 (0x24 ∷ 0x20 ∷ 0x20 ∷ [])) 0 0 16 (chain [])
+    ∷ finds lap (0x26 ∷ 0x26 ∷ 0x26 ∷ laps 0 20 (0x24 ∷ 0x20 ∷ 0x20 ∷ [])) 0 9 16 (stopped 25)
+    ∷ finds lap (0x26 ∷ 0x26 ∷ 0x26 ∷ laps 0 20 (0x24 ∷ 0x20 ∷ 0x20 ∷ 0x20 ∷ [])) 0 9 16 (stopped 14)
     ∷ []
 
 more-right : allRight more ≡ true
-unfolding allRight right sameCheck agrees sameFinding isStopped isNowhere isChain isLong sameChain more C entered R R-more R-less head-R line-bytes T E P S findOf checkOf askRequest readRecord linesFrom entryAt readPattern readAt commandAt shapeOf searchSize boatsAfter codes solve found news look bfs chosen pick first next level nearest lesser isAt memb nub filt flat count stacks state placeOf posOf stackOf succs preds setting starts answer exist moved check
+unfolding allRight right sameCheck agrees sameFinding isStopped isNowhere isChain isLong sameChain more C entered lap laps R R-more R-less head-R line-bytes T E P S findOf checkOf askRequest readRecord linesFrom entryAt readPattern readAt commandAt shapeOf searchSize boatsAfter codes solve found news look bfs chosen pick first next level nearest lesser isAt memb nub filt flat count stacks state placeOf posOf stackOf succs preds setting starts answer exist moved check
 more-right = refl

@@ -1,11 +1,11 @@
 //! This program once more behind the seven functions, with one fault in it.
 
-use super::reading::{self, asked_of_line, misread, nesting, places_pass};
+use super::reading::{self, asked_of_line, fits_machine, misread, places_pass};
 use super::searching;
 use super::Fault::{self, *};
 use crate::chains::{search, Asked};
 use crate::library::{Ask, Library};
-use crate::pattern::{Pattern, DEEPEST};
+use crate::pattern::{Pattern, MOST_COMMANDS};
 use crate::record::{Line, Record, LONGEST, MOST_LINES, SAIL_LIMIT, UNREAD};
 use crate::request::{refused, search_size, LARGEST, NO_CHAIN};
 
@@ -25,10 +25,12 @@ impl Faulty {
     fn size(&self, record: &Record, pattern: &Pattern, pattern_bytes: usize) -> u128 {
         let right = search_size(record, pattern);
         let power = |base: usize| (base as u128).pow(pattern.keeps as u32);
-        let spots = record.places as u128 * (pattern.commands as u128 + 1);
+        let spots = record.places as u128 * (pattern.unfolded as u128 + 1);
+        let by = |count: usize| right / (pattern.unfolded as u128 + 1) * (count as u128 + 1);
         match self.0 {
             SizeByLines => spots * power(record.lines.len() + 1),
-            SizeByBytes => right / (pattern.commands as u128 + 1) * (pattern_bytes as u128 + 1),
+            SizeByBytes => by(pattern_bytes),
+            SizeAsWritten => by(pattern.commands),
             SizeWithoutOne => spots * power(boats(record)),
             SizeWithoutUnread => {
                 let unread = record.lines.iter().any(|line| line.boat() == UNREAD);
@@ -39,9 +41,12 @@ impl Faulty {
         }
     }
 
-    /// Questions 1 to 17.
+    /// Questions 1 to 17, 24 and 25.
     fn ask(&self, ask: Ask, work: &mut [u32]) -> Result<Asked, u8> {
-        let (mut record, mut pattern) = self.both(ask.rec, ask.pat)?;
+        let mut record = reading::read_record(self.0, ask.rec)?;
+        let later = self.is(Asks25After15);
+        let reader = if later { Asks25AsWritten } else { self.0 };
+        let mut pattern = reading::read_pattern(reader, ask.pat)?;
         let size = self.size(&record, &pattern, ask.pat.len());
         let order = match self.0 {
             Asks16Before15 => [16, 15, 17],
@@ -51,9 +56,11 @@ impl Faulty {
         };
         let fails = |question: &u8| match question {
             15 => ask.from >= record.places || ask.to >= record.places,
+            25 => later && pattern.unfolded > MOST_COMMANDS,
             16 => size > LARGEST,
             _ => (work.len() as u128) < 4 * size + 8_192,
         };
+        let order = [order[0], 25, order[1], order[2]];
         if let Some(number) = order.into_iter().find(fails) {
             match (self.0, number) {
                 (ClearsAt16, 16) | (ClearsAt17, 17) => work.fill(0),
@@ -104,7 +111,7 @@ impl Faulty {
             _ => {}
         }
         let accepted = match self.0 {
-            _ if nesting(&asked.pattern.root) > DEEPEST => false,
+            _ if !fits_machine(&asked.pattern.root) => false,
             TrustsArea if dirty => false,
             OneStateChecked => searching::one_state_checked(&asked, chain),
             fault if searching::of_tests(fault) => searching::checked(&asked, fault, chain),
@@ -116,7 +123,7 @@ impl Faulty {
     fn first(&self, asked: &Asked, dirty: bool) -> Option<Vec<u16>> {
         let no_longer = |most: usize| search(asked).filter(|chain| chain.len() <= most);
         match self.0 {
-            _ if nesting(&asked.pattern.root) > DEEPEST => None,
+            _ if !fits_machine(&asked.pattern.root) => None,
             TrustsArea if dirty => None,
             MarksWithoutBoats => {
                 searching::marked_by(asked, self.0, |(place, state)| (*place, state.spot))
@@ -315,17 +322,22 @@ impl Library for Faulty {
         if counts.len() < 2 && !self.is(ShortCounts) {
             return 0;
         }
-        let mut values = [pattern.commands as u32, pattern.keeps as u32];
-        if self.is(CountsSwapped) {
-            values.swap(0, 1);
+        let mut values = [pattern.commands, pattern.keeps, pattern.unfolded].map(|n| n as u32);
+        let mut written = counts.len().min(values.len());
+        match self.0 {
+            CountsSwapped => values.swap(0, 1),
+            UnfoldedBeforeKeeps => values.swap(1, 2),
+            UnfoldedAsWritten => values[2] = values[0],
+            TwoCounts => written = written.min(2),
+            // The comparison lends a part of a longer buffer, so the word exists.
+            ThirdOfTwo if counts.len() == 2 => unsafe { *counts.as_mut_ptr().add(2) = values[2] },
+            _ => {}
         }
-        for (count, value) in counts.iter_mut().zip(values) {
-            *count = value;
-        }
+        counts[..written].copy_from_slice(&values[..written]);
         if counts.len() < 2 {
             0
         } else {
-            2
+            written as u64
         }
     }
 

@@ -1,7 +1,7 @@
 //! Records and patterns read as this program reads them, but for the planted fault.
 
 use super::Fault::{self, *};
-use crate::pattern::{Node, Pattern, Rule, DEEPEST, MOST_COMMANDS};
+use crate::pattern::{Node, Pattern, Rule, DEEPEST, MOST_COMMANDS, MOST_ROUNDS};
 use crate::record::{Line, Record, LONGEST, MOST_PLACES};
 use std::collections::BTreeSet;
 
@@ -100,19 +100,76 @@ pub fn read_pattern(fault: Fault, bytes: &[u8]) -> Result<Pattern, u8> {
     if fault == NineAfterTheEnd && reader.commands + more > MOST_COMMANDS {
         return Err(9);
     }
+    let unfolded = unfolded(fault, &root);
+    let most = most_commands(fault) as u128;
+    match fault {
+        Asks9Unfolded if unfolded > most => return Err(9),
+        Asks25Before14 if unfolded > most => return Err(25),
+        _ => {}
+    }
     if more > 0 && fault != NeverAsks14 {
         return Err(14);
+    }
+    if unfolded > most && fault != Asks25AsWritten {
+        return Err(25);
     }
     let keeps = match fault {
         SizeByAllKeeps => reader.kept.len(),
         SizeBySlots => different(&reader.kept),
+        SizeByKeepsOfRounds => keeps_of_rounds(&root),
         _ => reader.deepest,
     };
     Ok(Pattern {
         root,
         commands: reader.commands,
+        // A count that should have been refused may be any number.
+        unfolded: unfolded.min(u32::MAX as u128) as usize,
         keeps,
     })
+}
+
+/// The limit of questions 9 and 25.
+fn most_commands(fault: Fault) -> usize {
+    MOST_COMMANDS + (fault == SixtyFourPass) as usize
+}
+
+/// The unfolded count, by what the fault takes it for.
+fn unfolded(fault: Fault, node: &Node) -> u128 {
+    let inside = match node {
+        Node::Either(one, two) | Node::Then(one, two) => {
+            unfolded(fault, one).saturating_add(unfolded(fault, two))
+        }
+        Node::Repeat(inner) | Node::Keep { inner, .. } => unfolded(fault, inner),
+        Node::Counted { highest, inner, .. } => {
+            let times = (*highest).max((fault == CountsNoRounds) as u8);
+            unfolded(fault, inner).saturating_mul(times as u128)
+        }
+        _ => 0,
+    };
+    let count = inside.saturating_add(1);
+    match fault {
+        CountIn8Bits => count as u8 as u128,
+        CountIn32Bits => count as u32 as u128,
+        CountIn64Bits => count as u64 as u128,
+        _ => count,
+    }
+}
+
+/// The nesting of keeps, each round's being nested in those of the round before.
+fn keeps_of_rounds(node: &Node) -> usize {
+    match node {
+        Node::Either(one, two) | Node::Then(one, two) => {
+            keeps_of_rounds(one).max(keeps_of_rounds(two))
+        }
+        Node::Repeat(inner) => keeps_of_rounds(inner),
+        Node::Keep { inner, .. } => 1 + keeps_of_rounds(inner),
+        Node::Counted { highest, inner, .. } => {
+            let once = keeps_of_rounds(inner);
+            // More are as wrong as these.
+            (once * (*highest).max(1) as usize).min(DEEPEST)
+        }
+        _ => 0,
+    }
 }
 
 fn different(slots: &[u8]) -> usize {
@@ -131,13 +188,13 @@ struct Reader<'a> {
 
 impl Reader<'_> {
     fn node(&mut self, around: &[u8]) -> Result<Node, u8> {
-        let most = MOST_COMMANDS + (self.fault == SixtyFourPass) as usize;
+        let most = most_commands(self.fault);
         if self.fault == Asks9Before8 && self.commands >= most {
             return Err(9);
         }
         let command = match self.bytes.get(self.at) {
-            Some(&command @ 0x20..=0x29) => command,
-            Some(&command @ 0x2A..=0x2F) if self.fault == SixteenCommands => command,
+            Some(&command @ 0x20..=0x2A) => command,
+            Some(&command @ 0x2B..=0x2F) if self.fault == SixteenCommands => command,
             _ => return Err(8),
         };
         self.commands += 1;
@@ -146,9 +203,15 @@ impl Reader<'_> {
         }
         let width = match command {
             0x21 => 1,
-            0x22 | 0x23 | 0x27 | 0x28 | 0x29 => 2,
+            0x22 | 0x23 | 0x27..=0x2A => 2,
             _ => 0,
         };
+        if command == 0x2A {
+            if self.fault == CountsAsOperands {
+                self.operands(width)?;
+            }
+            return self.counted(around);
+        }
         let (kind, slot) = self.operands(width)?;
         self.at += 1 + width;
         let boxed = |node: Node| Box::new(node);
@@ -179,6 +242,37 @@ impl Reader<'_> {
                 Node::Keep { kind, slot, inner }
             }
             _ => Node::Nothing,
+        })
+    }
+
+    /// Questions 10 and 24 of a counted pattern, and what stands inside.
+    fn counted(&mut self, around: &[u8]) -> Result<Node, u8> {
+        let Some(&[lowest, highest]) = self.bytes.get(self.at + 1..self.at + 3) else {
+            return Err(10);
+        };
+        let most = MOST_ROUNDS + (self.fault == TwentyOneRounds) as u8;
+        let allowed = match self.fault {
+            EqualCountsRefused => lowest < highest,
+            LowestAbove => true,
+            _ => lowest <= highest,
+        };
+        let refused = !allowed || highest > most;
+        if refused && self.fault != Asks24Inside {
+            return Err(24);
+        }
+        self.at += 3;
+        let deepest = self.deepest;
+        let inner = Box::new(self.node(around)?);
+        if refused {
+            return Err(24);
+        }
+        if highest == 0 && self.fault == KeepsOfNoRounds {
+            self.deepest = deepest;
+        }
+        Ok(Node::Counted {
+            lowest,
+            highest,
+            inner,
         })
     }
 
@@ -221,12 +315,20 @@ impl Reader<'_> {
 /// the machine is left as it is: the fault shows with smaller ones.
 pub fn misread(fault: Fault, root: Node) -> Node {
     let other = rewritten(fault, root.clone());
-    if nesting(&other) <= DEEPEST && commands(&other) <= MOST_COMMANDS {
+    if fits_machine(&other) {
         other
     } else {
         root
     }
 }
+
+/// Is the pattern small enough for the machine? What passes the questions is.
+pub fn fits_machine(node: &Node) -> bool {
+    nesting(node) <= DEEPEST && node.unfolded() <= MOST_COMMANDS as u128
+}
+
+/// A pattern that accepts no word: no line is of this kind.
+const NEVER: Node = Node::Line { kind: 0 };
 
 fn rewritten(fault: Fault, node: Node) -> Node {
     let inside = |node: Box<Node>| Box::new(rewritten(fault, *node));
@@ -270,33 +372,138 @@ fn rewritten(fault: Fault, node: Node) -> Node {
             slot,
             inner: inside(inner),
         },
+        Node::Counted {
+            lowest,
+            highest,
+            inner,
+        } => rounds(fault, lowest, highest, inside(inner)),
         leaf => leaf,
     }
 }
 
+/// What the fault takes so many rounds for. Where rounds stand in rounds, those faults that write
+/// a round more than once leave the outer ones as they are.
+fn rounds(fault: Fault, lowest: u8, highest: u8, inner: Box<Node>) -> Node {
+    let counted = |lowest: u8, highest: u8, inner: &Node| Node::Counted {
+        lowest,
+        highest,
+        inner: Box::new(inner.clone()),
+    };
+    let innermost = !has_rounds(&inner);
+    match fault {
+        LowestNotWanted => counted(0, highest, &inner),
+        HighestExcluded if lowest == highest => NEVER,
+        HighestExcluded => counted(lowest, highest - 1, &inner),
+        OneRoundMore => counted(lowest, highest + 1, &inner),
+        HighestLeftOut if innermost => Node::Then(
+            Box::new(counted(lowest, lowest, &inner)),
+            Box::new(Node::Repeat(inner)),
+        ),
+        EndsOnly if innermost => Node::Either(
+            Box::new(counted(lowest, lowest, &inner)),
+            Box::new(counted(highest, highest, &inner)),
+        ),
+        EmptyRoundsLeftOut if innermost => match with_lines(&inner) {
+            Some(inner) => counted(lowest, highest, &inner),
+            None if lowest == 0 => Node::Nothing,
+            None => NEVER,
+        },
+        // More rounds nest deeper than the machine goes.
+        RoundBoatStays if innermost && highest <= DEEPEST as u8 => {
+            in_a_row(lowest, highest, &inner)
+        }
+        _ => counted(lowest, highest, &inner),
+    }
+}
+
+/// The words of a pattern without rounds that are not empty, where there are any.
+fn with_lines(node: &Node) -> Option<Node> {
+    let either = |one: Option<Node>, two: Option<Node>| match (one, two) {
+        (Some(one), Some(two)) => Some(Node::Either(Box::new(one), Box::new(two))),
+        (one, two) => one.or(two),
+    };
+    let then = |first: Option<Node>, second: &Node| {
+        first.map(|first| Node::Then(Box::new(first), Box::new(second.clone())))
+    };
+    match node {
+        Node::Nothing => None,
+        Node::Either(one, two) => either(with_lines(one), with_lines(two)),
+        Node::Then(first, second) => either(
+            then(with_lines(first), second),
+            with_lines(second).filter(|_| takes_none(first)),
+        ),
+        Node::Repeat(body) => then(with_lines(body), node),
+        other => Some(other.clone()),
+    }
+}
+
+/// Does a pattern without rounds accept the empty word?
+fn takes_none(node: &Node) -> bool {
+    match node {
+        Node::Nothing | Node::Repeat(_) => true,
+        Node::Either(one, two) => takes_none(one) || takes_none(two),
+        Node::Then(first, second) => takes_none(first) && takes_none(second),
+        _ => false,
+    }
+}
+
+/// Rounds one after the other, each read as if it stood inside the keeps of the one before.
+fn in_a_row(lowest: u8, highest: u8, inner: &Node) -> Node {
+    if highest == 0 {
+        return Node::Nothing;
+    }
+    let more = in_a_row(lowest.saturating_sub(1), highest - 1, inner);
+    let row = kept_on(inner.clone(), more);
+    if lowest == 0 {
+        Node::Either(Box::new(Node::Nothing), Box::new(row))
+    } else {
+        row
+    }
+}
+
+/// The first and then the second, which stands inside the keep that the first ends with.
+fn kept_on(first: Node, second: Node) -> Node {
+    match first {
+        Node::Keep { kind, slot, inner } => Node::Keep {
+            kind,
+            slot,
+            inner: Box::new(kept_on(*inner, second)),
+        },
+        Node::Then(one, two) => Node::Then(one, Box::new(kept_on(*two, second))),
+        Node::Either(one, two) => Node::Either(
+            Box::new(kept_on(*one, second.clone())),
+            Box::new(kept_on(*two, second)),
+        ),
+        first => Node::Then(Box::new(first), Box::new(second)),
+    }
+}
+
 /// How deep keeps are nested.
-pub fn nesting(node: &Node) -> usize {
+fn nesting(node: &Node) -> usize {
     match node {
         Node::Either(one, two) | Node::Then(one, two) => nesting(one).max(nesting(two)),
-        Node::Repeat(body) => nesting(body),
+        Node::Repeat(inner) | Node::Counted { inner, .. } => nesting(inner),
         Node::Keep { inner, .. } => 1 + nesting(inner),
         _ => 0,
     }
 }
 
-fn commands(node: &Node) -> usize {
-    match node {
-        Node::Either(one, two) | Node::Then(one, two) => 1 + commands(one) + commands(two),
-        Node::Repeat(inner) | Node::Keep { inner, .. } => 1 + commands(inner),
-        _ => 1,
-    }
+/// Is there such a command in it?
+fn has(node: &Node, is: fn(&Node) -> bool) -> bool {
+    is(node)
+        || match node {
+            Node::Either(one, two) | Node::Then(one, two) => has(one, is) || has(two, is),
+            Node::Repeat(inner) | Node::Keep { inner, .. } | Node::Counted { inner, .. } => {
+                has(inner, is)
+            }
+            _ => false,
+        }
 }
 
 fn repeats(node: &Node) -> bool {
-    match node {
-        Node::Either(one, two) | Node::Then(one, two) => repeats(one) || repeats(two),
-        Node::Repeat(_) => true,
-        Node::Keep { inner, .. } => repeats(inner),
-        _ => false,
-    }
+    has(node, |node| matches!(node, Node::Repeat(_)))
+}
+
+fn has_rounds(node: &Node) -> bool {
+    has(node, |node| matches!(node, Node::Counted { .. }))
 }

@@ -53,15 +53,16 @@ impl Course<'_> {
 
     /// The standings after a line.
     fn after(&self, standing: Standing, number: u16) -> Vec<Standing> {
-        let (_, State { spot, stack }) = standing;
-        let Spot::Take { test, next } = self.machine.spots[spot as usize] else {
+        let (_, state) = standing;
+        let Spot::Take { test, next } = self.machine.spots[state.spot as usize] else {
             return Vec::new();
         };
-        let Some(stack) = self.passed(test, stack, number) else {
+        let Some(stack) = self.passed(test, state.stack, number) else {
             return Vec::new();
         };
         let mut states = Vec::new();
-        self.machine.settle(next, stack, &mut states);
+        self.machine
+            .settle(State { stack, ..state }.at(next), &mut states);
         let line = &self.asked.record.lines[number as usize];
         states.into_iter().map(|state| (line.to, state)).collect()
     }
@@ -301,34 +302,30 @@ pub fn silent_steps_queued(asked: &Asked) -> Option<Vec<u16>> {
     let course = Course::of(asked);
     let mut chains = Chains::new();
     let mut met: HashSet<Standing> = HashSet::new();
-    let at = |spot: usize, stack| State {
-        spot: spot as u8,
-        stack,
-    };
-    let start = at(course.machine.start, Default::default());
-    let mut waiting = VecDeque::from([(0, (asked.from, start))]);
+    let mut waiting = VecDeque::from([(0, (asked.from, course.machine.start()))]);
     while let Some((chain, standing)) = waiting.pop_front() {
         if !met.insert(standing) {
             continue;
         }
-        let (place, State { spot, stack }) = standing;
-        match course.machine.spots[spot as usize] {
-            Spot::Fork { one, two } => {
-                waiting.push_back((chain, (place, at(one, stack))));
-                waiting.push_back((chain, (place, at(two, stack))));
-            }
-            Spot::Leave { next } => waiting.push_back((chain, (place, at(next, stack.popped())))),
-            Spot::Done if place == asked.to => return Some(chains.written_out(chain)),
-            Spot::Done => {}
-            Spot::Take { test, next } => {
-                for &number in course.lines_at(place) {
-                    let line = &asked.record.lines[number as usize];
-                    let boat = course.boats[number as usize];
-                    if let Some(stack) = test.passed(stack, line, boat) {
-                        let longer = chains.longer(chain, number);
-                        waiting.push_back((longer, (line.to, at(next, stack))));
-                    }
-                }
+        let (place, state) = standing;
+        if let Some(next) = course.machine.silent(state) {
+            let next = next.into_iter().flatten();
+            waiting.extend(next.map(|state| (chain, (place, state))));
+            continue;
+        }
+        if course.accepting(&standing) {
+            return Some(chains.written_out(chain));
+        }
+        let Spot::Take { test, next } = course.machine.spots[state.spot as usize] else {
+            continue;
+        };
+        for &number in course.lines_at(place) {
+            let line = &asked.record.lines[number as usize];
+            let boat = course.boats[number as usize];
+            if let Some(stack) = test.passed(state.stack, line, boat) {
+                let longer = chains.longer(chain, number);
+                let after = State { stack, ..state }.at(next);
+                waiting.push_back((longer, (line.to, after)));
             }
         }
     }

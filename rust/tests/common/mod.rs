@@ -69,6 +69,16 @@ pub fn repeats(count: usize, then: &[u8]) -> Vec<u8> {
     bytes
 }
 
+/// From `lowest` to `highest` rounds of a pattern.
+pub fn rounds(lowest: u8, highest: u8, inner: &[u8]) -> Vec<u8> {
+    [&[0x2A, lowest, highest], inner].concat()
+}
+
+/// So many times "twenty times", each in the one before, and then these bytes.
+pub fn twenties(count: usize, then: &[u8]) -> Vec<u8> {
+    [&[0x2A, 20, 20].repeat(count)[..], then].concat()
+}
+
 /// 1,024 places and so many boats, to be asked about with [`fifteen_commands`].
 pub fn boats(count: u32) -> Record {
     let lines: Vec<Line> = (0..count)

@@ -28,7 +28,7 @@ clear-stretch-requires : tie.Need-clear-stretch-requires
 clear-stretch-requires c κs = omega (arith, room (c .before .before))
 
 state-at-requires : tie.Need-state-at-requires
-state-at-requires c κs = let laid = fit (c .before .before .before .before .before .before) .laid in ((laid .size-is, laid .small, laid .few-commands), (c .before .before .before .before .before .before .pre .1 .1, omega arith, stacks-pos laid))
+state-at-requires c κs = let laid = fit (c .before .before .before .before .before .before) .laid in ((laid .size-is, laid .small, laid .few-positions), (c .before .before .before .before .before .before .pre .1 .1, omega arith, stacks-pos laid))
 
 push-if-new-requires : tie.Need-push-if-new-requires
 push-if-new-requires c κs =

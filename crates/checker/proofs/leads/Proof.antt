@@ -65,7 +65,7 @@ state-at-requires : tie.Need-state-at-requires
 state-at-requires c κs =
     let a = c .before .before .before .before .before .before .before .before .before .before .before .before .before .before in
     let l = a .pre .0 .laid in
-    ((l .size-is, l .small, l .few-commands), (omega (arith, a .pre .1 .1 .0, a .pre .1 .1 .1), omega arith, stacks-pos l))
+    ((l .size-is, l .small, l .few-positions), (omega (arith, a .pre .1 .1 .0, a .pre .1 .1 .1), omega arith, stacks-pos l))
 
 dist-at-requires : tie.Need-dist-at-requires
 dist-at-requires c κs = (c .before .before .before .before .run-chain .ensures .alive .ready, c .before .state-at .ensures .1)

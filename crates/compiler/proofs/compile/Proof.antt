@@ -4,12 +4,12 @@ use mathlib.Core.Path.{refl}
 use native.Mathlib.Omega.{arith}
 use borrow.Author.Needs.{needs}
 use Rattle.compiler.proofs.Tasks.{no-levels}
-use Rattle.compiler.proofs.Compilation.{whole-reads, end-low, whole-compiled}
+use Rattle.compiler.proofs.Compilation.{whole-reads, whole-ready, end-low, whole-compiled}
 use Rattle.compiler.proofs.compile.Statement.{statement}
 use Rattle.compiler.proofs.compile.Tie as tie
 
 begin-at-requires : tie.Need-begin-at-requires
-begin-at-requires c κs = record { depth = 0; reads = whole-reads (c .before .pre) }
+begin-at-requires c κs = whole-reads (c .before .pre)
 
 bit-requires : tie.Need-bit-requires
 bit-requires c κs = end-low (c .before .before .pre) (c .begin-at .ensures)
@@ -17,7 +17,7 @@ bit-requires c κs = end-low (c .before .before .pre) (c .begin-at .ensures)
 compile-at-requires : tie.Need-compile-at-requires
 compile-at-requires c κs =
     let begin = c .before .before in
-    record { reads = whole-reads (begin .before .before .pre); shallow = omega arith }
+    whole-ready (begin .before .before .pre) refl refl refl
 
 silent-entry-requires : tie.Need-silent-entry-requires
 silent-entry-requires c κs = search needs
@@ -38,7 +38,7 @@ returns c =
     let compiled = silent .before in
     let end = compiled .before .before in
     let begin = end .before in
-    whole-compiled (begin .begin-at .ensures) (compiled .compile-at .ensures) refl refl refl (λ K m. record { depth-is = refl; levels-are = no-levels; after-marks = m })
+    whole-compiled (begin .begin-at .ensures) (compiled .compile-at .ensures) refl refl (λ K m. record { depth-is = refl; levels-are = no-levels; after-marks = m })
     (end .bit .ensures) (put .put .ensures (silent .silent-entry .ensures .small)) (silent .silent-entry .ensures) (c .entered .ensures)
 
 pub compile-spec : {M : Type 1} → statement M

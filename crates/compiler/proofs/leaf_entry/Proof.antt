@@ -21,7 +21,7 @@ silent-entry-requires c κs = search needs
 returns : tie.Need-returns
 returns c scope K f =
     let a = c .before .before .before .args in
-    says-as (ap (λ p. firstNode p (a .t2 .base) scope K) (leaf-nothing (a .c .kind) (a .c .slot) (c .before .if1 .taken))) (c .silent-entry .ensures)
+    says-as (ap (λ p. firstNode p (a .t2 .base) scope K) (leaf-nothing (a .c .first) (a .c .second) (c .before .if1 .taken))) (c .silent-entry .ensures)
 
 taking-entry-requires : tie.Need-taking-entry-requires
 taking-entry-requires c κs = search needs
@@ -29,7 +29,7 @@ taking-entry-requires c κs = search needs
 returns-2 : tie.Need-returns-2
 returns-2 c scope K f =
     let a = c .before .before .before .before .before .args in
-    says-as (node-line (a .c .kind) (a .c .slot) (a .t2 .base) scope K (c .before .if2 .taken)) (c .taking-entry .ensures scope K always f refl (omega arith))
+    says-as (node-line (a .c .first) (a .c .second) (a .t2 .base) scope K (c .before .if2 .taken)) (c .taking-entry .ensures scope K always f refl (omega arith))
 
 cast-level : tie.Need-cast-level
 cast-level c = search needs
@@ -46,9 +46,9 @@ returns-3 : tie.Need-returns-3
 returns-3 c scope K f =
     let start = c .before .before .before .before .before .before .before .before in
     let a = start .args in
-    let none : mark (levelOf (a .c .slot) scope) ≡ 0 = sym (f .levels-are (a .c .slot) (start .pre .slot)) ∙ c .before .if3 .taken in
-    says-as (node-test (a .c .kind) (a .c .slot) (a .t2 .base) scope K (c .before .before .before .before .before .before .if1 .left) (c .before .before .before .before .if2 .left))
-    (c .taking-entry2 .ensures scope K (testOf (testRule (a .c .code)) (levelOf (a .c .slot) scope)) f (level-none (testRule (a .c .code)) (levelOf (a .c .slot) scope) none) (omega arith))
+    let none : mark (levelOf (a .c .second) scope) ≡ 0 = sym (f .levels-are (a .c .second) (start .pre .slot)) ∙ c .before .if3 .taken in
+    says-as (node-test (a .c .first) (a .c .second) (a .t2 .base) scope K (c .before .before .before .before .before .before .if1 .left) (c .before .before .before .before .if2 .left))
+    (c .taking-entry2 .ensures scope K (testOf (testRule (a .c .code)) (levelOf (a .c .second) scope)) f (level-none (testRule (a .c .code)) (levelOf (a .c .second) scope) none) (omega arith))
 
 rule-of-requires : tie.Need-rule-of-requires
 rule-of-requires c κs = search needs
@@ -63,14 +63,14 @@ returns-4 : tie.Need-returns-4
 returns-4 c scope K f =
     let start = c .before .before .before .before .before .before .before .before .before in
     let a = start .args in
-    let slot = a .c .slot in
+    let slot = a .c .second in
     let level = getD (a .t2 .levels) slot 0 in
     let is : level ≡ mark (levelOf slot scope) = f .levels-are slot (start .pre .slot) in
     let low : level - 1 ≤ a .t2 .depth = omega (arith, is, level-fits slot scope, f .depth-is) in
     let code : testIn (c .before .rule-of .result) (level - 1) ≡ testOf (testRule (a .c .code)) (levelOf slot scope) =
     ap (λ (x : Rule). testIn x (level - 1)) (c .before .rule-of .ensures)
     ∙ (ap (λ (x : ℕ). testIn (askedRule (a .c .code)) (x - 1)) is ∙ level-some (a .c .code) (levelOf slot scope) (λ e. c .before .before .if3 .left (is ∙ e))) in
-    says-as (node-test (a .c .kind) slot (a .t2 .base) scope K (c .before .before .before .before .before .before .before .if1 .left) (c .before .before .before .before .before .if2 .left))
+    says-as (node-test (a .c .first) slot (a .t2 .base) scope K (c .before .before .before .before .before .before .before .if1 .left) (c .before .before .before .before .before .if2 .left))
     (c .taking-entry3 .ensures scope K (testOf (testRule (a .c .code)) (levelOf slot scope)) f code low)
 
 pub leaf-entry-spec : {M : Type 1} → statement M

@@ -62,9 +62,9 @@ add-next-2 c = search (needs, fits (c .before .before))
 returns-2 : tie.Need-returns-2
 returns-2 c =
     let h = c .before .before in
-    let kind = c .before .operand-at .ensures in
-    let slot = c .operand-at2 .ensures in
-    step-is (row h) (shaped h) _ (λ i. record { code = byte (src h) (at h); kind = kind i; slot = slot i; patterns = row h .patterns; next = at h + 1 + row h .operands })
+    let first = c .before .operand-at .ensures in
+    let second = c .operand-at2 .ensures in
+    step-is (row h) (shaped h) _ (λ i. record { code = byte (src h) (at h); first = first i; second = second i; patterns = row h .patterns; next = at h + 1 + row h .operands })
 
 pub step-at-spec : {M : Type 1} → statement M
 step-at-spec =

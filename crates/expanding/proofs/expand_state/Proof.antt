@@ -35,7 +35,7 @@ target-of-requires : tie.Need-target-of-requires Inv-loop μ-loop
 target-of-requires c κs =
     let f = fit (c .before) in
     let laid = f .laid in
-    ((stacks-pos laid, laid .some-radix, laid .few-commands, λ k h. power-small laid _ (f .depths-low k h)), (omega (arith, stacks-small laid, laid .small), omega (arith, c .before .pre .1 .1 .2, laid .small), laid .inverse-is))
+    ((stacks-pos laid, laid .some-radix, laid .few-positions, λ k h. power-small laid _ (f .depths-low k h)), (omega (arith, stacks-small laid, laid .small), omega (arith, c .before .pre .1 .1 .2, laid .small), laid .inverse-is))
 
 loop-holds : tie.Need-loop-holds Inv-loop μ-loop
 loop-holds c =
@@ -45,15 +45,15 @@ loop-holds c =
     let g = front plan (a .args .work .now) in
     let st = found (plan .base) (plan .size) (a .args .tail) (a .args .work .now) in
     let aim = ap (λ x. turns (spotTurn (prog a) plan g x (a .args .d)) 0 (plan .done) st) (c .target-of .ensures) in
-    (omega arith, rw sub-zero (under-as _ _ (a .pre .0) (aim ∙ sym (expand-is (prog a) plan g (laid .stacks-is) (laid .few-commands) (a .args .d) (a .args .t) st))))
+    (omega arith, rw sub-zero (under-as _ _ (a .pre .0) (aim ∙ sym (expand-is (prog a) plan g (laid .stacks-is) (laid .few-positions) (a .args .d) (a .args .t) st))))
 
 follow-at-requires : tie.Need-follow-at-requires Inv-loop μ-loop
-follow-at-requires c κs = omega (arith, c .loop-test .taken, fit (c .before .before .before .before) .laid .few-commands)
+follow-at-requires c κs = omega (arith, c .loop-test .taken, fit (c .before .before .before .before) .laid .few-positions)
 
 shr-if1 : tie.Need-shr-if1 Inv-loop μ-loop
 shr-if1 c =
     let a = c .before .before .before .before .before in
-    omega (arith, aimed (fit a) (a .args .t) (a .pre .1 .1 .2) _ (c .before .before .before .target-of .ensures) .position-low, fit a .laid .few-commands)
+    omega (arith, aimed (fit a) (a .args .t) (a .pre .1 .1 .2) _ (c .before .before .before .target-of .ensures) .position-low, fit a .laid .few-positions)
 
 one-spot-requires : tie.Need-one-spot-requires Inv-loop μ-loop
 one-spot-requires c κs =
@@ -77,7 +77,7 @@ step-of c =
     (c .if1 .came)
 
 add-c : tie.Need-add-c Inv-loop μ-loop
-add-c c = omega (arith, c .before .before .loop-test .taken, fit (c .before .before .before .before .before .before) .laid .few-commands)
+add-c c = omega (arith, c .before .before .loop-test .taken, fit (c .before .before .before .before .before .before) .laid .few-positions)
 
 loop-less : tie.Need-loop-less Inv-loop μ-loop
 loop-less c = omega (arith, c .before .before .loop-test .taken)

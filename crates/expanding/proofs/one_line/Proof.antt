@@ -55,7 +55,7 @@ state-at-requires : tie.Need-state-at-requires
 state-at-requires c κs =
     let a = start c in
     let laid = a .pre .0 .laid in
-    ((laid .size-is, laid .small, laid .few-commands), (from-low c, a .pre .1 .1 .low, stacks-pos laid))
+    ((laid .size-is, laid .small, laid .few-positions), (from-low c, a .pre .1 .1 .low, stacks-pos laid))
 
 over-stacks-requires : tie.Need-over-stacks-requires
 over-stacks-requires c κs =

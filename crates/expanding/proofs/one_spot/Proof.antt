@@ -31,10 +31,10 @@ spot-at-requires : tie.Need-spot-at-requires
 spot-at-requires c κs =
     let a = c .before in
     let f = fit a in
-    ((omega (arith, low a, f .laid .few-commands), f .laid .some-radix), (power-small (f .laid) _ (f .levels-low _ (low a)), power-small (f .laid) _ (f .depths-low _ (low a))))
+    ((omega (arith, low a, f .laid .few-positions), f .laid .some-radix), (power-small (f .laid) _ (f .levels-low _ (low a)), power-small (f .laid) _ (f .depths-low _ (low a))))
 
 depth-at-requires : tie.Need-depth-at-requires
-depth-at-requires c κs = let a = c .before .before in omega (arith, low a, fit a .laid .few-commands)
+depth-at-requires c κs = let a = c .before .before in omega (arith, low a, fit a .laid .few-positions)
 
 leaves-of-requires : tie.Need-leaves-of-requires
 leaves-of-requires c κs = let a = c .before .before .before in let f = fit a in omega (arith, c .depth-at .ensures, f .depths-low _ (low a), f .laid .few-keeps)

@@ -24,7 +24,7 @@ state-at-requires : tie.Need-state-at-requires
 state-at-requires c κs =
     let a = c .before .before .before in
     let laid = a .pre .0 .laid in
-    ((laid .size-is, laid .small, laid .few-commands), (placed c, a .pre .1 .1 .low, stacks-pos laid))
+    ((laid .size-is, laid .small, laid .few-positions), (placed c, a .pre .1 .1 .low, stacks-pos laid))
 
 over-stacks-requires : tie.Need-over-stacks-requires
 over-stacks-requires c κs =

@@ -1,10 +1,15 @@
--- `exports::chains_pattern` meets its contract: the counts that `read_pattern` gives, where there is room for them.
+-- `exports::chains_pattern` meets its contract: the counts that `read_pattern` gives, as many as there is room for.
 -- Assumes nothing.
-use mathlib.Core.Path.{refl, sym, ap, _∙_, subst}
+use mathlib.Core.Path.{_≡_, refl, sym, ap, _∙_, subst}
+use mathlib.Core.List.{List}
+use Prim.Native.Nat.{ℕ, _≤_}
+use native.Mathlib.Omega.{arith}
+use lib.ListN.{length, set}
 use borrow.Author.Tests.{le-leb, lt-leb}
+use Rattle.meaning.specs.Outcome.{passed}
 use Rattle.meaning.specs.Pattern.{readPattern, noneGiven}
-use Rattle.pattern.specs.Promise.{patternReply, counted, Small}
-use Rattle.exports.proofs.Numbers.{refused-is, told-refused, told-passed}
+use Rattle.pattern.specs.Promise.{Counts, patternReply, countsOf, Small}
+use Rattle.exports.proofs.Numbers.{refused-is, told-refused, told-passed, two-long, set-third}
 use borrow.Author.Needs.{needs}
 use Rattle.exports.proofs.chains_pattern.Statement.{statement}
 use Rattle.exports.proofs.chains_pattern.Tie as tie
@@ -25,29 +30,72 @@ returns : tie.Need-returns
 returns c =
     let b = c .before .before .before .before in
     let a = b .before .before .before .args in
-    rw (told-passed (counted (readPattern noneGiven (a .pat .now))) _ (ap patternReply (sym (c .before .before .commands .given .1)) ∙ b .read-pattern .ensures .0), lt-leb _ _ (c .if1 .taken)) (refl, refl)
+    rw (told-passed (countsOf (readPattern noneGiven (a .pat .now))) _ (ap patternReply (sym (c .before .before .commands .given .1)) ∙ b .read-pattern .ensures .0), lt-leb 3 (length (a .counts .now)) (omega (arith, c .if1 .taken)), lt-leb 2 (length (a .counts .now)) (c .if1 .taken)) (refl, refl)
 
 put-counts-requires : tie.Need-put-counts-requires
 put-counts-requires c κs =
     let b = c .before .before .before in
     let small = subst Small (b .commands .given .1) (b .before .before .read-pattern .ensures .1) in
-    (c .before .if1 .left, small .0, small .1)
-
-returns-2 : tie.Need-returns-2
-returns-2 c =
-    let b = c .before .before .before .before in
-    let a = b .before .before .before .args in
-    rw (told-refused (counted (readPattern noneGiven (a .pat .now))) _ _ (ap patternReply (sym (c .before .before .q .given .1)) ∙ b .read-pattern .ensures .0)) (refused-is _ _ (c .refusal .ensures), refl)
+    (c .before .if1 .left, small .0, small .2)
 
 same-length : tie.Need-same-length
 same-length c = search needs
 
+-- ---- where the first two are put
+
+abbrev At-two : Type 0
+At-two = tie.After-put-counts
+
+abbrev words : At-two → List ℕ
+words c = c .before .before .before .before .before .before .before .before .before .args .counts .now
+
+abbrev bytes : At-two → List ℕ
+bytes c = c .before .before .before .before .before .before .before .before .before .args .pat .now
+
+room : (c : At-two) → 2 ≤ length (words c)
+room c = c .before .before .if1 .left
+
+-- what it is told to have
+abbrev told-counts : At-two → Counts
+told-counts c = let g = c .before .before .before .before .commands .given .0 in record { commands = g .0; unfolded = g .1 .0; keeps = g .1 .1 .0 }
+
+passes : (c : At-two) → countsOf (readPattern noneGiven (bytes c)) ≡ passed (told-counts c)
+passes c =
+    let b = c .before .before .before .before in
+    told-passed (countsOf (readPattern noneGiven (bytes c))) (told-counts c) (ap patternReply (sym (b .commands .given .1)) ∙ b .before .before .read-pattern .ensures .0)
+
+-- as many words as before
+long : (c : At-two) → length (c .put-counts .last .0) ≡ length (words c)
+long c = ap length (c .put-counts .ensures) ∙ two-long (words c) (told-counts c .commands) (told-counts c .keeps) (room c)
+
+returns-2 : tie.Need-returns-2
+returns-2 c =
+    let p = c .before .before .before in
+    rw (passes p, lt-leb 3 (length (words p)) (omega (arith, c .if2 .taken, long p)), le-leb 2 (length (words p)) (room p)) (refl, p .put-counts .ensures)
+
+put-unfolded-requires : tie.Need-put-unfolded-requires
+put-unfolded-requires c κs =
+    let p = c .before .before .before .before in
+    let b = p .before .before .before .before in
+    let small = subst Small (b .commands .given .1) (b .before .before .read-pattern .ensures .1) in
+    (omega (arith, c .before .if2 .left, long p), small .1)
+
 returns-3 : tie.Need-returns-3
 returns-3 c =
-    let d = c .before .before .before .before in
-    let b = d .before .before .before .before in
+    let b = c .before .before .before .before in
     let a = b .before .before .before .args in
-    rw (told-passed (counted (readPattern noneGiven (a .pat .now))) _ (ap patternReply (sym (d .before .before .commands .given .1)) ∙ b .read-pattern .ensures .0), le-leb _ _ (d .if1 .left)) (refl, c .before .before .put-counts .ensures)
+    rw (told-refused (countsOf (readPattern noneGiven (a .pat .now))) _ _ (ap patternReply (sym (c .before .before .q .given .1)) ∙ b .read-pattern .ensures .0)) (refused-is _ _ (c .refusal .ensures), refl)
+
+same-length-2 : tie.Need-same-length-2
+same-length-2 c = search needs
+
+returns-4 : tie.Need-returns-4
+returns-4 c =
+    let u = c .before .before in
+    let p = u .before .before .before .before .before in
+    let three : 3 ≤ length (words p) = omega (arith, u .before .before .if2 .left, long p) in
+    rw (passes p, le-leb 3 (length (words p)) three)
+    (refl, u .put-unfolded .ensures ∙ (ap (λ (l : List ℕ). set l 2 (told-counts p .unfolded)) (p .put-counts .ensures) ∙ set-third (words p) (told-counts p .commands) (told-counts p .keeps) (told-counts p .unfolded) three))
 
 pub chains-pattern-spec : {M : Type 1} → statement M
 chains-pattern-spec =
@@ -59,6 +107,9 @@ chains-pattern-spec =
     enum-known-commands
     returns
     put-counts-requires
-    returns-2
     same-length
-    returns-3)
+    returns-2
+    put-unfolded-requires
+    returns-3
+    same-length-2
+    returns-4)

@@ -45,13 +45,13 @@ stands-at-requires : tie.Need-stands-at-requires
 stands-at-requires c κs =
     let a = c .before in
     let laid = fit a .laid in
-    (stacks-pos laid, block-small laid, laid .few-commands, omega (arith, ends-low a .0))
+    (stacks-pos laid, block-small laid, laid .few-positions, omega (arith, ends-low a .0))
 
 standing-at-requires : tie.Need-standing-at-requires
 standing-at-requires c κs =
     let a = c .before .before .before in
     let laid = fit a .laid in
-    ((stacks-pos laid, block-small laid, laid .few-commands, omega (arith, ends-low a .0)), (sym (c .before .stands-at .ensures) ∙ c .if1 .taken, laid .inverse-is))
+    ((stacks-pos laid, block-small laid, laid .few-positions, omega (arith, ends-low a .0)), (sym (c .before .stands-at .ensures) ∙ c .if1 .taken, laid .inverse-is))
 
 -- ---- where the state stands at the line's place
 
@@ -65,24 +65,24 @@ position-low : (k : tie.After-standing-at) → k .standing-at .result .position 
 position-low k = pos-low (start k) _ (k .standing-at .ensures .0)
 
 kind-at-requires : tie.Need-kind-at-requires
-kind-at-requires c κs = omega (arith, position-low c, fit (start c) .laid .few-commands)
+kind-at-requires c κs = omega (arith, position-low c, fit (start c) .laid .few-positions)
 
 -- ---- where it is of the line's kind
 
 passes-at-requires : tie.Need-passes-at-requires
-passes-at-requires c κs = let k = c .before .before .before .before in (fit (start k) .laid, omega (arith, position-low k, fit (start k) .laid .few-commands))
+passes-at-requires c κs = let k = c .before .before .before .before in (fit (start k) .laid, omega (arith, position-low k, fit (start k) .laid .few-positions))
 
 put-on-at-requires : tie.Need-put-on-at-requires
 put-on-at-requires c κs =
     let k = c .before .before .before .before .before .before in
     let f = fit (start k) in
     let low = position-low k in
-    (omega (arith, low, f .laid .few-commands), f .laid .some-radix, power-small (f .laid) _ (f .depths-low _ low), stack-small (start k) _ (k .standing-at .ensures .1))
+    (omega (arith, low, f .laid .few-positions), f .laid .some-radix, power-small (f .laid) _ (f .depths-low _ low), stack-small (start k) _ (k .standing-at .ensures .1))
 
 -- ---- where its boat passes
 
 follow-at-requires : tie.Need-follow-at-requires
-follow-at-requires c κs = let k = c .before .before .before .before .before .before .before in omega (arith, position-low k, fit (start k) .laid .few-commands)
+follow-at-requires c κs = let k = c .before .before .before .before .before .before .before in omega (arith, position-low k, fit (start k) .laid .few-positions)
 
 over-next-requires : tie.Need-over-next-requires
 over-next-requires c κs =
@@ -100,7 +100,7 @@ returns c = λ i less is.
     let laid = fit a .laid in
     let here = k .standing-at .ensures in
     step-as _ (c .before .before .over-next .ensures)
-    (from-taken (program a) _ (words a) (laid .stacks-is) (laid .few-commands) _ _ _ _ less _ (ap (λ (l : Lead). l .from) is) (there k) _ _ (here .0) (here .1) _ (ap (λ (l : Lead). l .kind) is)
+    (from-taken (program a) _ (words a) (laid .stacks-is) (laid .few-positions) _ _ _ _ less _ (ap (λ (l : Lead). l .from) is) (there k) _ _ (here .0) (here .1) _ (ap (λ (l : Lead). l .kind) is)
     (c .before .before .before .before .before .before .before .before .before .if2 .taken ∙ c .before .before .before .before .before .before .before .before .before .before .before .kind-at .ensures) _ refl _ (ap (λ (l : Lead). l .code) is) (sym (c .before .before .before .before .before .before .before .passes-at .ensures) ∙ c .before .before .before .before .before .before .if3 .taken) _ (c .before .before .before .before .before .put-on-at .ensures) _ (c .before .before .before .before .follow-at .ensures) _ (ap (λ (l : Lead). l .to) is))
 
 same-length-2 : tie.Need-same-length-2
@@ -113,7 +113,7 @@ returns-2 c = λ i less is.
     let laid = fit a .laid in
     let here = k .standing-at .ensures in
     step-none _ (a .pre .0)
-    (from-refused (program a) _ (words a) (laid .stacks-is) (laid .few-commands) _ _ _ _ less _ (ap (λ (l : Lead). l .from) is) (there k) _ _ (here .0) (here .1) _ (ap (λ (l : Lead). l .kind) is)
+    (from-refused (program a) _ (words a) (laid .stacks-is) (laid .few-positions) _ _ _ _ less _ (ap (λ (l : Lead). l .from) is) (there k) _ _ (here .0) (here .1) _ (ap (λ (l : Lead). l .kind) is)
     (c .before .before .before .if2 .taken ∙ c .before .before .before .before .before .kind-at .ensures) _ refl _ (ap (λ (l : Lead). l .code) is) (sym (c .before .passes-at .ensures) ∙ c .if3 .left))
 
 returns-3 : tie.Need-returns-3
@@ -123,14 +123,14 @@ returns-3 c = λ i less is.
     let laid = fit a .laid in
     let here = k .standing-at .ensures in
     step-none _ (a .pre .0)
-    (from-other-kind (program a) _ (words a) (laid .stacks-is) (laid .few-commands) _ _ _ _ less _ (ap (λ (l : Lead). l .from) is) (there k) _ _ (here .0) (here .1) _ (ap (λ (l : Lead). l .kind) is)
+    (from-other-kind (program a) _ (words a) (laid .stacks-is) (laid .few-positions) _ _ _ _ less _ (ap (λ (l : Lead). l .from) is) (there k) _ _ (here .0) (here .1) _ (ap (λ (l : Lead). l .kind) is)
     (λ e. c .if2 .left (e ∙ sym (c .before .before .kind-at .ensures))))
 
 returns-4 : tie.Need-returns-4
 returns-4 c = λ i less is.
     let a = c .before .before .before in
     let laid = fit a .laid in
-    step-none _ (a .pre .0) (from-elsewhere (program a) _ (words a) (laid .stacks-is) (laid .few-commands) _ _ _ _ less _ (ap (λ (l : Lead). l .from) is) (sym (c .before .stands-at .ensures) ∙ c .if1 .left))
+    step-none _ (a .pre .0) (from-elsewhere (program a) _ (words a) (laid .stacks-is) (laid .few-positions) _ _ _ _ less _ (ap (λ (l : Lead). l .from) is) (sym (c .before .stands-at .ensures) ∙ c .if1 .left))
 
 pub from-state-spec : {M : Type 1} → statement M
 from-state-spec =

@@ -18,7 +18,7 @@ abbrev μ-loop : tie.MeasureT-loop
 μ-loop work plan begin from positions v₀ k₀ v k = plan .done + 1 - k
 
 add-positions : tie.Need-add-positions Inv-loop μ-loop
-add-positions c = omega (arith, c .before .before .pre .0 .few-commands)
+add-positions c = omega (arith, c .before .before .pre .0 .few-positions)
 
 loop-holds : tie.Need-loop-holds Inv-loop μ-loop
 loop-holds c = (omega arith, rw sub-zero)

@@ -9,10 +9,10 @@ use Rattle.forward.proofs.one_first.Statement.{statement}
 use Rattle.forward.proofs.one_first.Tie as tie
 
 shr-if1 : tie.Need-shr-if1
-shr-if1 c = omega (arith, c .before .pre .1 .1, c .before .pre .0 .few-commands)
+shr-if1 c = omega (arith, c .before .pre .1 .1, c .before .pre .0 .few-positions)
 
 state-at-requires : tie.Need-state-at-requires
-state-at-requires c κs = let laid = c .before .before .pre .0 in ((laid .size-is, laid .small, laid .few-commands), (c .before .before .pre .1 .0, c .before .before .pre .1 .1, stacks-pos laid))
+state-at-requires c κs = let laid = c .before .before .pre .0 in ((laid .size-is, laid .small, laid .few-positions), (c .before .before .pre .1 .0, c .before .before .pre .1 .1, stacks-pos laid))
 
 add-word : tie.Need-add-word
 add-word c = omega (arith, c .before .state-at .ensures .1, c .before .before .before .before .pre .0 .room)

@@ -11,7 +11,7 @@ use Rattle.forward.proofs.one_next.Statement.{statement}
 use Rattle.forward.proofs.one_next.Tie as tie
 
 depth-at-requires : tie.Need-depth-at-requires
-depth-at-requires c κs = omega (arith, c .before .pre .1 .1 .1, c .before .pre .1 .0 .few-commands)
+depth-at-requires c κs = omega (arith, c .before .pre .1 .1 .1, c .before .pre .1 .0 .few-positions)
 
 power-requires : tie.Need-power-requires
 power-requires c κs =
@@ -26,7 +26,7 @@ state-at-requires c κs =
     let laid = c .before .before .before .before .pre .1 .0 in
     let (there, low, deep) = c .before .before .before .before .pre .1 .1 in
     let fits = power-fits laid (c .before .before .depth-at .result) (omega (arith, c .before .before .depth-at .ensures, deep)) in
-    ((laid .size-is, laid .small, laid .few-commands), (there, low, omega (arith, c .cut .ensures .1, fits, c .before .power .ensures)))
+    ((laid .size-is, laid .small, laid .few-positions), (there, low, omega (arith, c .cut .ensures .1, fits, c .before .power .ensures)))
 
 visit-state-requires : tie.Need-visit-state-requires
 visit-state-requires c κs = search needs

@@ -9,11 +9,12 @@ use lib.ListN.{length}
 use borrow.Author.Needs.{needs}
 use borrow.Fn.Kinds.{In}
 use borrow.Fn.PlainCycle.{Measures, is, falls, and}
-use Rattle.meaning.specs.Outcome.{refused}
-use Rattle.meaning.specs.Pattern.{Command, keptIn, depthIn}
+use Rattle.meaning.specs.Outcome.{refused, passed}
+use Rattle.meaning.specs.Pattern.{Command, Outside, inside}
+use Rattle.pattern.specs.declared.Extent.{Extent}
 use Rattle.pattern.specs.declared.Reading.the-variants.{Read}
-use Rattle.pattern.specs.Reading.{commandShown, readingShown, numberOf, extentAt, joinedExtent, aroundExtent}
-use Rattle.pattern.specs.Passed.{Passed, command-passed, next-later, next-inside, slot-below, inside-small}
+use Rattle.pattern.specs.Reading.{outsideShown, commandShown, readingShown, numberOf, extentAt, joinedExtent, aroundExtent}
+use Rattle.pattern.specs.Passed.{Passed, command-passed, next-later, next-inside, keep-slot, inside-small}
 use Rattle.pattern.proofs.Extents.{refused-command, no-pattern, one-more, first-stops, two-more, Bounded, bounded, few}
 use Rattle.pattern.proofs.read_at.Reads as read-at
 use Rattle.pattern.proofs.read_at.Kinds as read-at-kinds
@@ -21,9 +22,8 @@ use Rattle.pattern.proofs.+read_at.Lts-read_at as read-at-lts
 use Rattle.pattern.proofs.around.Reads as around-reads
 use Rattle.pattern.proofs.command_from.Reads as command-from-reads
 use Rattle.pattern.proofs.command_number.Reads as command-number-reads
-use Rattle.pattern.proofs.depth_in.Reads as depth-in-reads
+use Rattle.pattern.proofs.inside.Reads as inside-reads
 use Rattle.pattern.proofs.joined.Reads as joined-reads
-use Rattle.pattern.proofs.kept_in.Reads as kept-in-reads
 use Rattle.pattern.proofs.+read_at.{statement}
 use Rattle.pattern.proofs.+read_at.Tie.{close}
 
@@ -39,7 +39,7 @@ read-at-below t = and 1 read-at-kinds.ps (falls 1 read-at-kinds.ps _<_ μ-read-a
 
 -- what the functions that are called ask and promise
 abbrev calls : ℕ → read-at-lts.Claims
-calls t = (command-from-reads.Asked, command-from-reads.Learnt, command-number-reads.Asked, command-number-reads.Learnt, kept-in-reads.Asked, kept-in-reads.Learnt, depth-in-reads.Asked, depth-in-reads.Learnt, read-at-below t, read-at.Post, around-reads.Asked, around-reads.Learnt, joined-reads.Asked, joined-reads.Learnt)
+calls t = (command-from-reads.Asked, command-from-reads.Learnt, command-number-reads.Asked, command-number-reads.Learnt, inside-reads.Asked, inside-reads.Learnt, read-at-below t, read-at.Post, around-reads.Asked, around-reads.Learnt, joined-reads.Asked, joined-reads.Learnt)
 
 module _ (t : ℕ) where
   command-from-requires : read-at-lts.Need-command-from-requires (calls t) (read-at-at t) read-at.Post
@@ -59,7 +59,7 @@ module _ (t : ℕ) where
       let a = c .before .before .before .before .before .args in
       let told = c .before .enum-told .given .1 in
       let number = c .command-number .ensures ∙ ap (λ x. numberOf (commandShown x)) told in
-      refused-command (a .src .now) (a .at) (a .before) (a .kept) (a .depth) (c .command-number .result) (sym (c .before .before .before .command-from .ensures) ∙ (ap commandShown told ∙ ap refused (sym number)))
+      refused-command (a .src .now) (a .at) (a .before) (outsideShown (a .o)) (c .command-number .result) (sym (c .before .before .before .command-from .ensures) ∙ (ap commandShown told ∙ ap refused (sym number)))
 
   -- ---- where a command has passed its questions
 
@@ -76,21 +76,18 @@ module _ (t : ℕ) where
   abbrev before : At-command → ℕ
   before c = c .before .before .before .before .before .args .before
 
-  abbrev kept : At-command → List ℕ
-  kept c = c .before .before .before .before .before .args .kept
-
-  abbrev depth : At-command → ℕ
-  depth c = c .before .before .before .before .before .args .depth
+  abbrev outside : At-command → Outside
+  outside c = outsideShown (c .before .before .before .before .before .args .o)
 
   abbrev command : At-command → Command
   command c =
       let g = c .before .c .given .0 in
-      record { code = g .0; kind = g .1 .0; slot = g .1 .1 .0; patterns = g .1 .1 .1 .0; next = g .1 .1 .1 .1 .0 }
+      record { code = g .0; first = g .1 .0; second = g .1 .1 .0; patterns = g .1 .1 .1 .0; next = g .1 .1 .1 .1 .0 }
 
-  ok : (c : At-command) → Passed (src c) (at c) (before c) (kept c) (depth c) (command c)
-  ok c = command-passed (src c) (at c) (before c) (kept c) (depth c) (command c) (sym (c .before .before .before .command-from .ensures) ∙ ap commandShown (c .before .c .given .1))
+  ok : (c : At-command) → Passed (src c) (at c) (before c) (outside c) (command c)
+  ok c = command-passed (src c) (at c) (before c) (outside c) (command c) (sym (c .before .before .before .command-from .ensures) ∙ ap commandShown (c .before .c .given .1))
 
-  depth-is : (c : At-command) → depth c ≤ 3
+  depth-is : (c : At-command) → outside c .depth ≤ 3
   depth-is c = c .before .before .before .before .before .pre .1
 
   -- a call at a later place that is not past the end has fewer bytes left
@@ -105,41 +102,36 @@ module _ (t : ℕ) where
 
   -- ---- one pattern after it
 
-  kept-in-requires : read-at-lts.Need-kept-in-requires (calls t) (read-at-at t) read-at.Post
-  kept-in-requires c κs = let h = c .before .before in slot-below (ok h)
-
   add-read-at : read-at-lts.Need-add-read-at (calls t) (read-at-at t) read-at.Post
-  add-read-at c = search (needs, ok (c .before .before .before) .few)
+  add-read-at c = search (needs, ok (c .before .before) .few)
 
-  depth-in-requires : read-at-lts.Need-depth-in-requires (calls t) (read-at-at t) read-at.Post
-  depth-in-requires c κs = depth-is (c .before .before .before)
+  inside-requires : read-at-lts.Need-inside-requires (calls t) (read-at-at t) read-at.Post
+  inside-requires c κs = let h = c .before .before in (keep-slot (ok h), depth-is h)
 
   read-at-requires : read-at-lts.Need-read-at-requires (calls t) (read-at-at t) read-at.Post
   read-at-requires c κs =
-      let h = c .before .before .before .before in
-      (fewer-next h, subst (λ (x : ℕ). x ≤ 3) (sym (c .depth-in .ensures)) (inside-small (ok h) (depth-is h)))
+      let h = c .before .before .before in
+      (fewer-next h, subst (λ (o : Outside). o .depth ≤ 3) (sym (c .inside .ensures)) (inside-small (ok h) (depth-is h)))
 
-  -- what the call returned, for what is kept inside the command and how deep that is
-  inside : (c : read-at-lts.After-read-at (calls t) (read-at-at t) read-at.Post)
-      → let h = c .before .before .before .before .before in
-      readingShown (c .read-at .result) ≡ extentAt (src h) (command h .next) (before h + 1) (keptIn (command h .code) (command h .slot) (kept h)) (depthIn (command h .code) (depth h))
-  inside c =
-      let h = c .before .before .before .before .before in
-      c .read-at .ensures
-      ∙ (ap (λ x. extentAt (src h) (command h .next) (before h + 1) x (c .before .depth-in .result)) (c .before .before .kept-in .ensures)
-      ∙ ap (λ x. extentAt (src h) (command h .next) (before h + 1) (keptIn (command h .code) (command h .slot) (kept h)) x) (c .before .depth-in .ensures))
+  -- what the call returned, for what stands around the inside of the command
+  read-inside : (c : read-at-lts.After-read-at (calls t) (read-at-at t) read-at.Post)
+      → let h = c .before .before .before .before in
+      readingShown (c .read-at .result) ≡ extentAt (src h) (command h .next) (before h + 1) (inside (command h .code) (command h .second) (outside h))
+  read-inside c =
+      let h = c .before .before .before .before in
+      c .read-at .ensures ∙ ap (extentAt (src h) (command h .next) (before h + 1)) (c .before .inside .ensures)
 
   around-requires : read-at-lts.Need-around-requires (calls t) (read-at-at t) read-at.Post
   around-requires c κs =
-      let h = c .before .before .before .before .before in
-      few (src h) (command h .next) (before h + 1) _ _ (c .read-at .result) (inside-small (ok h) (depth-is h)) (inside c)
+      let h = c .before .before .before .before in
+      few (src h) (command h .next) (before h + 1) _ (c .read-at .result) (inside-small (ok h) (depth-is h)) (read-inside c)
 
   returns-3 : read-at-lts.Need-returns-3 (calls t) (read-at-at t) read-at.Post
   returns-3 c =
-      let h = c .before .before .before .before .before .before in
+      let h = c .before .before .before .before .before in
       c .around .ensures
-      ∙ (ap (aroundExtent (command h .code)) (inside (c .before))
-      ∙ one-more (ok h) (c .before .before .before .before .if2 .taken))
+      ∙ (ap (aroundExtent (command h .code) (command h .second)) (read-inside (c .before))
+      ∙ one-more (ok h) (c .before .before .before .if2 .taken))
 
   -- ---- two patterns after it
 
@@ -167,47 +159,47 @@ module _ (t : ℕ) where
   abbrev After-first : Type 0
   After-first = read-at-lts.After-known-told2 (calls t) (read-at-at t) read-at.Post
 
+  abbrev extent : After-first → Extent
+  extent c = c .before .p .given .0 .0
+
   first : (c : After-first)
       → let h = c .before .before .before .before .before .before in
-      let g = c .before .p .given .0 in
-      readingShown (Read (g .0) (g .1 .0) (g .1 .1 .0)) ≡ extentAt (src h) (command h .next) (before h + 1) (kept h) (depth h)
+      passed (extent c) ≡ extentAt (src h) (command h .next) (before h + 1) (outside h)
   first c = sym (ap readingShown (c .before .p .given .1)) ∙ c .before .before .before .read-at2 .ensures
 
   first-bounded : (c : After-first)
       → let h = c .before .before .before .before .before .before in
-      let g = c .before .p .given .0 in
-      Bounded (src h) (command h .next) (before h + 1) (kept h) (depth h) (Read (g .0) (g .1 .0) (g .1 .1 .0))
+      Bounded (src h) (command h .next) (before h + 1) (outside h) (extent c)
   first-bounded c =
       let h = c .before .before .before .before .before .before in
-      let g = c .before .p .given .0 in
-      bounded (src h) (command h .next) (before h + 1) (kept h) (depth h) (Read (g .0) (g .1 .0) (g .1 .1 .0)) (depth-is h) (first c)
+      bounded (src h) (command h .next) (before h + 1) (outside h) (extent c) (depth-is h) (first c)
 
   add-read-at-3 : read-at-lts.Need-add-read-at-3 (calls t) (read-at-at t) read-at.Post
   add-read-at-3 c = search (needs, ok (c .before .before .before .before .before .before) .few)
 
   add-read-at-4 : read-at-lts.Need-add-read-at-4 (calls t) (read-at-at t) read-at.Post
-  add-read-at-4 c = search (needs, first-bounded c .2)
+  add-read-at-4 c = search (needs, first-bounded (c .before) .few)
 
   read-at-requires-3 : read-at-lts.Need-read-at-requires-3 (calls t) (read-at-at t) read-at.Post
   read-at-requires-3 c κs =
-      let h = c .before .before .before .before .before .before in
-      let b = first-bounded c in
-      (fewer h _ (omega (arith, next-later (ok h), b .0)) (b .1), depth-is h)
+      let h = c .before .before .before .before .before .before .before in
+      let b = first-bounded (c .before) in
+      (fewer h (extent (c .before) .next) (omega (arith, next-later (ok h), b .later)) (b .inside), depth-is h)
 
   joined-requires : read-at-lts.Need-joined-requires (calls t) (read-at-at t) read-at.Post
   joined-requires c κs =
-      let h = c .before .before .before .before .before .before .before in
-      let g = c .before .before .p .given .0 in
-      (few (src h) (command h .next) (before h + 1) (kept h) (depth h) (Read (g .0) (g .1 .0) (g .1 .1 .0)) (depth-is h) (first (c .before)), few (src h) _ _ (kept h) (depth h) (c .read-at3 .result) (depth-is h) (c .read-at3 .ensures))
+      let f = c .before .before in
+      let h = f .before .before .before .before .before .before in
+      (few (src h) (command h .next) (before h + 1) (outside h) (Read (extent f)) (depth-is h) (first f), few (src h) _ _ (outside h) (c .read-at3 .result) (depth-is h) (c .read-at3 .ensures))
 
   returns-5 : read-at-lts.Need-returns-5 (calls t) (read-at-at t) read-at.Post
   returns-5 c =
-      let e = c .before .before .before .before .before .before in
+      let f = c .before .before .before in
+      let e = f .before .before .before .before in
       let h = e .before .before in
-      let g = c .before .before .before .p .given .0 in
       c .joined .ensures
-      ∙ (ap (joinedExtent (readingShown (Read (g .0) (g .1 .0) (g .1 .1 .0)))) (c .before .read-at3 .ensures)
-      ∙ two-more (ok h) (e .before .if1 .left) (e .if2 .left) (g .0) (g .1 .0) (g .1 .1 .0) (first (c .before .before)))
+      ∙ (ap (joinedExtent (passed (extent f))) (c .before .read-at3 .ensures)
+      ∙ two-more (ok h) (e .before .if1 .left) (e .if2 .left) (extent f) (first f))
 
 pub +read-at-spec : {M : Type 1} → statement M
 +read-at-spec = close μ-read-at λ t. read-at-lts.spec (calls t)
@@ -219,9 +211,8 @@ pub +read-at-spec : {M : Type 1} → statement M
     (command-number-requires t)
     (returns t)
     (returns-2 t)
-    (kept-in-requires t)
     (add-read-at t)
-    (depth-in-requires t)
+    (inside-requires t)
     (read-at-requires t)
     (around-requires t)
     (returns-3 t)

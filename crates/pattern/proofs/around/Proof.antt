@@ -18,20 +18,32 @@ returns : tie.Need-returns
 returns c = search needs
 
 -- what was read is small
-small : (c : tie.After-known-told) → Few (Read (c .before .inside .given .0 .0) (c .before .inside .given .0 .1 .0) (c .before .inside .given .0 .1 .1 .0))
+small : (c : tie.After-known-told) → Few (Read (c .before .inside .given .0 .0))
 small c = subst Few (c .before .inside .given .1) (c .before .before .before .pre)
 
-add-t6 : tie.Need-add-t6
-add-t6 c = search (needs, small c .0)
+add-commands : tie.Need-add-commands
+add-commands c = search (needs, small (c .before) .0)
 
-depth-in-requires : tie.Need-depth-in-requires
-depth-in-requires c κs = small c .1
+unfolded-around-requires : tie.Need-unfolded-around-requires
+unfolded-around-requires c κs = small (c .before) .1
+
+keeps-around-requires : tie.Need-keeps-around-requires
+keeps-around-requires c κs = small (c .before .before) .2
 
 returns-2 : tie.Need-returns-2
 returns-2 c =
-    let g = c .before .before .inside .given in
-    around-shown (c .before .before .before .before .args .code) (g .0 .0) (g .0 .1 .0) (g .0 .1 .1 .0) (c .depth-in .result) (c .before .before .before .before .args .inside) (g .1) (c .depth-in .ensures)
+    let k = c .before .before .before .before in
+    let a = k .before .before .args in
+    around-shown (a .code) (a .high) (c .before .unfolded-around .result) (c .keeps-around .result) (k .inside .given .0 .0) (a .inside) (k .inside .given .1) (c .before .unfolded-around .ensures) (c .keeps-around .ensures)
 
 pub around-spec : {M : Type 1} → statement M
 around-spec =
-    tie.close (tie.spec enum-known-inside enum-told returns add-t6 depth-in-requires returns-2)
+    tie.close
+    (tie.spec
+    enum-known-inside
+    enum-told
+    returns
+    add-commands
+    unfolded-around-requires
+    keeps-around-requires
+    returns-2)

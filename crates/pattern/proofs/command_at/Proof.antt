@@ -1,22 +1,21 @@
 -- `pattern::command_at` meets its contract: its questions are those of `commandAt`, in the same order, and `Commands` says what
--- each answer gives. `known`, `operands`, `allowed` and `given` say what is known after questions 8, 10, 11 and 12. Assumes nothing.
+-- each answer gives. `known`, `operands`, `allowed`, `fit` and `given` say what is known after questions 8, 10, 11, 24 and 12.
+-- Assumes nothing.
 use mathlib.Core.Path.{_≡_, ap, sym, _∙_}
-use mathlib.Core.Bool.{true, not, _||_}
+use mathlib.Core.Bool.{true}
 use native.Mathlib.Omega.{arith}
-use lib.Dec.{ltb}
-use lib.ListN.{getD}
 use borrow.Author.Needs.{needs}
 use borrow.Author.Tests.{lt-ltb, le-leb, not-true, not-false}
 use Rattle.meaning.specs.Record.{byte}
-use Rattle.meaning.specs.Pattern.{operandsAllowed, isTest}
-use Rattle.pattern.specs.Reading.{shapeShown}
+use Rattle.meaning.specs.Pattern.{operandsAllowed, countsAllowed, slotKnown}
+use Rattle.pattern.specs.Reading.{shapeShown, outsideShown}
 use Rattle.pattern.specs.Passed.{command-none}
-use Rattle.pattern.proofs.Commands.{Known, Operands, refused-8, refused-9, refused-10, refused-11, slot-fits, refused-12, refused-13, passed-13}
+use Rattle.pattern.proofs.Commands.{Known, Operands, refused-8, refused-9, refused-10, refused-11, slot-fits, refused-24, refused-12, refused-13, passed-13}
 use Rattle.pattern.proofs.command_at.Statement.{statement}
 use Rattle.pattern.proofs.command_at.Tie as tie
 
 returns : tie.Need-returns
-returns c = let a = c .before .before .args in sym (command-none (a .src .now) (a .at) (a .before) (a .kept) (a .depth) (c .if1 .taken))
+returns c = let a = c .before .before .args in sym (command-none (a .src .now) (a .at) (a .before) (outsideShown (a .o)) (c .if1 .taken))
 
 shared-slice-read-code : tie.Need-shared-slice-read-code
 shared-slice-read-code c = search needs
@@ -31,7 +30,7 @@ enum-told : tie.Need-enum-told
 enum-told c = search needs
 
 returns-2 : tie.Need-returns-2
-returns-2 c = refused-8 _ _ _ _ _ (c .before .before .before .before .if1 .left) (sym (c .before .before .shape-of .ensures) ∙ ap shapeShown (c .enum-told .given .1))
+returns-2 c = refused-8 _ _ _ _ (c .before .before .before .before .if1 .left) (sym (c .before .before .shape-of .ensures) ∙ ap shapeShown (c .enum-told .given .1))
 
 -- question 8 is answered yes
 known : (c : tie.After-known-told)
@@ -44,7 +43,7 @@ known c = record {
 }
 
 returns-3 : tie.Need-returns-3
-returns-3 c = refused-9 _ _ _ _ _ (known (c .before)) (omega (arith, c .if2 .taken))
+returns-3 c = refused-9 _ _ _ _ (known (c .before)) (omega (arith, c .if2 .taken))
 
 add-if3 : tie.Need-add-if3
 add-if3 c = search needs
@@ -53,7 +52,7 @@ sub-if3 : tie.Need-sub-if3
 sub-if3 c = search needs
 
 returns-4 : tie.Need-returns-4
-returns-4 c = refused-10 _ _ _ _ _ (known (c .before .before)) (c .before .if2 .left) (c .if3 .taken)
+returns-4 c = refused-10 _ _ _ _ (known (c .before .before)) (c .before .if2 .left) (c .if3 .taken)
 
 operand-at-requires : tie.Need-operand-at-requires
 operand-at-requires c κs = search needs
@@ -71,41 +70,65 @@ operands c =
     let e = c .before .before in
     record {
       whole = record { known = known (e .before .before); few = lt-ltb _ _ (e .before .if2 .left); whole = le-leb _ _ (e .if3 .left) };
-      kind-is = c .before .operand-at .ensures;
-      slot-is = c .operand-at2 .ensures;
+      first-is = c .before .operand-at .ensures;
+      second-is = c .operand-at2 .ensures;
     }
 
 in-range-requires : tie.Need-in-range-requires
 in-range-requires c κs = search needs
 
 returns-5 : tie.Need-returns-5
-returns-5 c = refused-11 _ _ _ _ _ (operands (c .before .before)) (sym (c .before .in-range .ensures) ∙ not-true _ (c .if4 .taken))
+returns-5 c = refused-11 _ _ _ _ (operands (c .before .before)) (sym (c .before .in-range .ensures) ∙ not-true _ (c .if4 .taken))
 
 -- question 11 is answered yes
-allowed : (c : tie.Else4) → operandsAllowed (c .before .before .before .before .before .before .before .operands .given .0 .0) (c .before .before .before .operand-at .result) (c .before .before .operand-at2 .result) ≡ true
+allowed : (c : tie.Else4)
+    → let e = c .before .before .before .before in
+    let a = e .before .before .before .before .before .before .before .before .before .args in
+    operandsAllowed (byte (a .src .now) (a .at)) (e .before .before .before .operands .given .0 .0) (c .before .before .before .operand-at .result) (c .before .before .operand-at2 .result) ≡ true
 allowed c = sym (c .before .in-range .ensures) ∙ not-false _ (c .if4 .left)
 
-slot-known-requires : tie.Need-slot-known-requires
-slot-known-requires c κs = slot-fits (operands (c .before .before)) (allowed c)
+counts-fit-requires : tie.Need-counts-fit-requires
+counts-fit-requires c κs = search needs
 
 returns-6 : tie.Need-returns-6
 returns-6 c =
     let e = c .before .before in
-    refused-12 _ _ _ _ _ (operands (e .before .before)) (allowed e) (sym (c .before .slot-known .ensures) ∙ not-true _ (c .if5 .taken))
+    refused-24 _ _ _ _ (operands (e .before .before)) (allowed e) (sym (c .before .counts-fit .ensures) ∙ not-true _ (c .if5 .taken))
+
+-- question 24 is answered yes
+fit : (c : tie.Else5)
+    → let e = c .before .before .before .before .before .before in
+    let a = e .before .before .before .before .before .before .before .before .before .args in
+    countsAllowed (byte (a .src .now) (a .at)) (c .before .before .before .before .before .operand-at .result) (c .before .before .before .before .operand-at2 .result) ≡ true
+fit c = sym (c .before .counts-fit .ensures) ∙ not-false _ (c .if5 .left)
+
+slot-known-requires : tie.Need-slot-known-requires
+slot-known-requires c κs =
+    let e = c .before .before .before in
+    slot-fits (operands (e .before .before)) (allowed e)
+
+returns-7 : tie.Need-returns-7
+returns-7 c =
+    let f = c .before .before .before in
+    let e = f .before .before in
+    refused-12 _ _ _ _ (operands (e .before .before)) (allowed e) (fit f) (sym (c .before .slot-known .ensures) ∙ not-true _ (c .if6 .taken))
 
 -- question 12 is answered yes
-given : (c : tie.Else5)
-    → let a = c .before .before .before .before .before .before .before .before .before .before .before .before .before .before .before .args in
-    (not (isTest (byte (a .src .now) (a .at))) || ltb 0 (getD (a .kept) (c .before .before .before .before .operand-at2 .result) 0)) ≡ true
-given c = sym (c .before .slot-known .ensures) ∙ not-false _ (c .if5 .left)
+given : (c : tie.Else6)
+    → let e = c .before .before .before .before .before .before .before .before .before in
+    let a = e .before .before .before .before .before .before .before .before .before .args in
+    slotKnown (byte (a .src .now) (a .at)) (c .before .before .before .before .before .before .before .operand-at2 .result) (a .o .kept) ≡ true
+given c = sym (c .before .slot-known .ensures) ∙ not-false _ (c .if6 .left)
 
 keep-fits-requires : tie.Need-keep-fits-requires
 keep-fits-requires c κs = search needs
 
-returns-7 : tie.Need-returns-7
-returns-7 c =
-    let e = c .before .before .before .before in
-    refused-13 _ _ _ _ _ (operands (e .before .before)) (allowed e) (given (c .before .before)) (sym (c .before .keep-fits .ensures) ∙ not-true _ (c .if6 .taken))
+returns-8 : tie.Need-returns-8
+returns-8 c =
+    let g = c .before .before in
+    let f = g .before .before .before in
+    let e = f .before .before in
+    refused-13 _ _ _ _ (operands (e .before .before)) (allowed e) (fit f) (given g) (sym (c .before .keep-fits .ensures) ∙ not-true _ (c .if7 .taken))
 
 add-next : tie.Need-add-next
 add-next c = search needs
@@ -113,10 +136,12 @@ add-next c = search needs
 add-next-2 : tie.Need-add-next-2
 add-next-2 c = search needs
 
-returns-8 : tie.Need-returns-8
-returns-8 c =
-    let e = c .before .before .before .before in
-    passed-13 _ _ _ _ _ (operands (e .before .before)) (allowed e) (given (c .before .before)) (sym (c .before .keep-fits .ensures) ∙ not-false _ (c .if6 .left))
+returns-9 : tie.Need-returns-9
+returns-9 c =
+    let g = c .before .before in
+    let f = g .before .before .before in
+    let e = f .before .before in
+    passed-13 _ _ _ _ (operands (e .before .before)) (allowed e) (fit f) (given g) (sym (c .before .keep-fits .ensures) ∙ not-false _ (c .if7 .left))
 
 pub command-at-spec : {M : Type 1} → statement M
 command-at-spec =
@@ -136,10 +161,12 @@ command-at-spec =
     operand-at-requires-2
     in-range-requires
     returns-5
-    slot-known-requires
+    counts-fit-requires
     returns-6
-    keep-fits-requires
+    slot-known-requires
     returns-7
+    keep-fits-requires
+    returns-8
     add-next
     add-next-2
-    returns-8)
+    returns-9)

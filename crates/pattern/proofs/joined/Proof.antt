@@ -27,26 +27,37 @@ returns-2 : tie.Need-returns-2
 returns-2 c = search needs
 
 -- both that were read are small
-few-first : (c : tie.After-known-told2) → Few (Read (c .before .before .before .before .first .given .0 .0) (c .before .before .before .before .first .given .0 .1 .0) (c .before .before .before .before .first .given .0 .1 .1 .0))
+few-first : (c : tie.After-known-told2) → Few (Read (c .before .before .before .before .first .given .0 .0))
 few-first c = subst Few (c .before .before .before .before .first .given .1) (c .before .before .before .before .before .before .pre .0)
 
-few-second : (c : tie.After-known-told2) → Few (Read (c .before .second .given .0 .0) (c .before .second .given .0 .1 .0) (c .before .second .given .0 .1 .1 .0))
+few-second : (c : tie.After-known-told2) → Few (Read (c .before .second .given .0 .0))
 few-second c = subst Few (c .before .second .given .1) (c .before .before .before .before .before .before .pre .1)
 
-add-t8 : tie.Need-add-t8
-add-t8 c = search (needs, few-first c .0, few-second c .0)
+add-commands : tie.Need-add-commands
+add-commands c = let h = c .before .before in search (needs, few-first h .0, few-second h .0)
 
-add-t9 : tie.Need-add-t9
-add-t9 c = search (needs, few-first c .0, few-second c .0)
+add-commands-2 : tie.Need-add-commands-2
+add-commands-2 c = let h = c .before .before in search (needs, few-first h .0, few-second h .0)
+
+add-capped : tie.Need-add-capped
+add-capped c = let h = c .before .before .before .before in search (needs, few-first h .1, few-second h .1)
+
+add-capped-2 : tie.Need-add-capped-2
+add-capped-2 c = let h = c .before .before .before .before in search (needs, few-first h .1, few-second h .1)
+
+capped-requires : tie.Need-capped-requires
+capped-requires c κs = search needs
 
 larger-requires : tie.Need-larger-requires
 larger-requires c κs = search needs
 
 returns-3 : tie.Need-returns-3
 returns-3 c =
-    let f = c .before .before .before .before .before .first .given in
-    let g = c .before .before .second .given in
-    joined-shown (f .0 .0) (f .0 .1 .0) (f .0 .1 .1 .0) (g .0 .0) (g .0 .1 .0) (g .0 .1 .1 .0) (c .larger .result) (c .before .before .before .before .before .before .before .args .first) (c .before .before .before .before .before .before .before .args .second) (f .1) (g .1) (c .larger .ensures)
+    let h = c .before .before .before .before .before .before in
+    let f = h .before .before .before .before .first .given in
+    let g = h .before .second .given in
+    let a = h .before .before .before .before .before .before .args in
+    joined-shown (c .before .capped .result) (c .larger .result) (f .0 .0) (g .0 .0) (a .first) (a .second) (f .1) (g .1) (c .before .capped .ensures) (c .larger .ensures)
 
 pub joined-spec : {M : Type 1} → statement M
 joined-spec =
@@ -58,7 +69,10 @@ joined-spec =
     enum-known-second
     enum-told-2
     returns-2
-    add-t8
-    add-t9
+    add-commands
+    add-commands-2
+    add-capped
+    add-capped-2
+    capped-requires
     larger-requires
     returns-3)

@@ -8,7 +8,7 @@ is-test-requires : tie.Need-is-test-requires
 is-test-requires c κs = search needs
 
 array-read-result : tie.Need-array-read-result
-array-read-result c = search needs
+array-read-result c = search (needs, c .before .before .pre (sym (c .before .is-test .ensures) ∙ c .if1 .taken))
 
 returns : tie.Need-returns
 returns c = simp (sym (c .before .is-test .ensures) ∙ c .if1 .taken)

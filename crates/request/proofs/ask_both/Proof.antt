@@ -73,11 +73,11 @@ returns-3 c =
     let (day, e, places, lines) = passes b in
     let t = c .before .tree .given .1 in
     let said = c .before .before .before .read-pattern .ensures in
-    let (p, f, n, k) = tree-passed (readPattern noneGiven (pat b)) _ _ (ap patternReply (sym t) ∙ said .0) in
+    let (p, f, n, k) = tree-passed (readPattern noneGiven (pat b)) _ _ _ (ap patternReply (sym t) ∙ said .0) in
     let small = subst Small t (said .1) in
     let few = places-few (rec b) day e in (
       cc (places, lines, n, k, ap bothTold (both-passed (rec b) (pat b) day e p f)),
-      (omega (arith, places, few .0), omega (arith, places, few .1), omega (arith, lines, lines-few (rec b) day e), small .0, small .1),
+      (omega (arith, places, few .0), omega (arith, places, few .1), omega (arith, lines, lines-few (rec b) day e), small .1, small .2),
     )
 
 pub ask-both-spec : {M : Type 1} → statement M

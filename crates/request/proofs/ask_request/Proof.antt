@@ -56,16 +56,16 @@ places c = c .before .both .given .0 .0
 abbrev lines : tie.After-known-told → ℕ
 lines c = c .before .both .given .0 .1 .0
 
-abbrev commands : tie.After-known-told → ℕ
-commands c = c .before .both .given .0 .1 .1 .0
+abbrev unfolded : tie.After-known-told → ℕ
+unfolded c = c .before .both .given .0 .1 .1 .0
 
 abbrev keeps : tie.After-known-told → ℕ
 keeps c = c .before .both .given .0 .1 .1 .1 .0
 
-passes : (c : tie.After-known-told) → Counted (rec c) (pat c) (places c) (lines c) (commands c) (keeps c)
+passes : (c : tie.After-known-told) → Counted (rec c) (pat c) (places c) (lines c) (unfolded c) (keeps c)
 passes c = both-counted (rec c) (pat c) _ _ _ _ (sym (c .before .both .given .1) ∙ c .before .before .before .ask-both .ensures .0)
 
-small : (c : tie.After-known-told) → (0 < places c) × (places c ≤ 1024) × (lines c ≤ 4096) × (commands c ≤ 63) × (keeps c ≤ 3)
+small : (c : tie.After-known-told) → (0 < places c) × (places c ≤ 1024) × (lines c ≤ 4096) × (unfolded c ≤ 63) × (keeps c ≤ 3)
 small c = subst Small (c .before .both .given .1) (c .before .before .before .ask-both .ensures .1)
 
 abbrev from : tie.After-known-told → ℕ
@@ -128,7 +128,7 @@ count c = length (boats (linesOf (rec (met c))))
 abbrev size : tie.After-known-told2 → ℕ
 size c = c .before .measured .given .0 .1 .0
 
-size-is : (c : tie.After-known-told2) → (leb (places (met c) * suc (commands (met c)) * suc (count c) ^ keeps (met c)) largest ≡ true) × (c .before .measured .given .0 .0 ≡ count c) × (size c ≡ places (met c) * suc (commands (met c)) * suc (count c) ^ keeps (met c)) × (size c ≤ largest)
+size-is : (c : tie.After-known-told2) → (leb (places (met c) * suc (unfolded (met c)) * suc (count c) ^ keeps (met c)) largest ≡ true) × (c .before .measured .given .0 .0 ≡ count c) × (size c ≡ places (met c) * suc (unfolded (met c)) * suc (count c) ^ keeps (met c)) × (size c ≤ largest)
 size-is c = measured _ _ _ _ _ _ (sym (c .before .measured .given .1) ∙ c .before .before .before .measure .ensures .0)
 
 fits : (c : tie.After-known-told2) → size c ≤ largest
@@ -145,19 +145,19 @@ few-boats c =
     let lines = linesOf (rec (met c)) in
     omega (arith, boats-few lines (length lines) (omega arith), ap (λ ls. length (boats ls)) (take-length lines), lines-short (rec (met c)))
 
-fitting : (c : tie.After-known-told2) → need (size c) ≤ area (met c) → Fitting (places (met c)) (lines (met c)) (commands (met c)) (keeps (met c)) (c .before .measured .given .0 .0 + 1) (size c) 0 (area (met c))
+fitting : (c : tie.After-known-told2) → need (size c) ≤ area (met c) → Fitting (places (met c)) (lines (met c)) (unfolded (met c)) (keeps (met c)) (c .before .measured .given .0 .0 + 1) (size c) 0 (area (met c))
 fitting c room =
     let s = small (met c) in
     let y = size-is c in
     let b = c .before .measured .given .0 .0 in
     let radix : b + 1 ≤ 4097 = omega (arith, y .1, few-boats c) in
-    let product : size c ≡ places (met c) * (commands (met c) + 1) * (b + 1) ^ keeps (met c) = y .2 ∙ cc (add-one (commands (met c)), add-one b, y .1) in
-    let inside = boats-in-size (places (met c) * (commands (met c) + 1)) (b + 1) (keeps (met c)) (mul-le-mul {n₁ = 1} {m₁ = 1} (s .0) (omega arith)) (omega arith) in
+    let product : size c ≡ places (met c) * (unfolded (met c) + 1) * (b + 1) ^ keeps (met c) = y .2 ∙ cc (add-one (unfolded (met c)), add-one b, y .1) in
+    let inside = boats-in-size (places (met c) * (unfolded (met c) + 1)) (b + 1) (keeps (met c)) (mul-le-mul {n₁ = 1} {m₁ = 1} (s .0) (omega arith)) (omega arith) in
     record {
       some-place = s .0;
       few-places = s .1;
       few-lines = s .2;
-      few-commands = s .3;
+      few-positions = s .3;
       few-keeps = s .4;
       some-radix = omega arith;
       few-boats = radix;
@@ -202,7 +202,7 @@ returns-6 c =
         record {
           places-are = n .0 ∙ h .places-are;
           lines-are = n .1 ∙ h .lines-are;
-          done-is = n .2 ∙ h .commands-are;
+          done-is = n .2 ∙ h .unfolded-is;
           keeps-are = n .3 ∙ h .keeps-are;
           radix-is = n .4 ∙ (add-one (e .before .measured .given .0 .0) ∙ ap suc (size-is e .1 ∙ ap (λ ls. length (boats ls)) (h .lines-of)));
         },

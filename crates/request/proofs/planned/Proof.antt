@@ -10,7 +10,7 @@ use Rattle.request.proofs.planned.Statement.{statement}
 use Rattle.request.proofs.planned.Tie as tie
 
 few : (c : tie.Start) → c .args .places * (c .args .done + 1) ≤ 65536
-few c = mul-le-mul {n₂ = 1024} {m₂ = 64} (c .pre .few-places) (omega (arith, c .pre .few-commands))
+few c = mul-le-mul {n₂ = 1024} {m₂ = 64} (c .pre .few-places) (omega (arith, c .pre .few-positions))
 
 some : (c : tie.Start) → 0 < c .args .places * (c .args .done + 1)
 some c = mul-le-mul {n₁ = 1} {m₁ = 1} (c .pre .some-place) (omega arith)
@@ -112,7 +112,7 @@ returns c =
         some-place = p .some-place;
         few-places = p .few-places;
         few-lines = p .few-lines;
-        few-commands = p .few-commands;
+        few-positions = p .few-positions;
         few-keeps = p .few-keeps;
         some-radix = p .some-radix;
         few-boats = p .few-boats;

@@ -50,16 +50,16 @@ places c = c .before .both .given .0 .0
 abbrev lines : tie.After-known-told → ℕ
 lines c = c .before .both .given .0 .1 .0
 
-abbrev commands : tie.After-known-told → ℕ
-commands c = c .before .both .given .0 .1 .1 .0
+abbrev unfolded : tie.After-known-told → ℕ
+unfolded c = c .before .both .given .0 .1 .1 .0
 
 abbrev keeps : tie.After-known-told → ℕ
 keeps c = c .before .both .given .0 .1 .1 .1 .0
 
-passes : (c : tie.After-known-told) → Counted (rec c) (pat c) (places c) (lines c) (commands c) (keeps c)
+passes : (c : tie.After-known-told) → Counted (rec c) (pat c) (places c) (lines c) (unfolded c) (keeps c)
 passes c = both-counted (rec c) (pat c) _ _ _ _ (sym (c .before .both .given .1) ∙ c .before .before .before .ask-both .ensures .0)
 
-small : (c : tie.After-known-told) → (0 < places c) × (places c ≤ 1024) × (lines c ≤ 4096) × (commands c ≤ 63) × (keeps c ≤ 3)
+small : (c : tie.After-known-told) → (0 < places c) × (places c ≤ 1024) × (lines c ≤ 4096) × (unfolded c ≤ 63) × (keeps c ≤ 3)
 small c = subst Small (c .before .both .given .1) (c .before .before .before .ask-both .ensures .1)
 
 measure-requires : tie.Need-measure-requires
@@ -84,7 +84,7 @@ returns-2 c =
 -- ---- where the size is known
 
 size-is : (c : tie.After-known-told2) → let b = c .before .before .before .before .before in
-    (leb (places b * suc (commands b) * suc (length (boats (linesOf (rec b)))) ^ keeps b) largest ≡ true) × (c .before .measured .given .0 .0 ≡ length (boats (linesOf (rec b)))) × (c .before .measured .given .0 .1 .0 ≡ places b * suc (commands b) * suc (length (boats (linesOf (rec b)))) ^ keeps b) × (c .before .measured .given .0 .1 .0 ≤ largest)
+    (leb (places b * suc (unfolded b) * suc (length (boats (linesOf (rec b)))) ^ keeps b) largest ≡ true) × (c .before .measured .given .0 .0 ≡ length (boats (linesOf (rec b)))) × (c .before .measured .given .0 .1 .0 ≡ places b * suc (unfolded b) * suc (length (boats (linesOf (rec b)))) ^ keeps b) × (c .before .measured .given .0 .1 .0 ≤ largest)
 size-is c = measured _ _ _ _ _ _ (sym (c .before .measured .given .1) ∙ c .before .before .before .measure .ensures .0)
 
 fits : (c : tie.After-known-told2) → c .before .measured .given .0 .1 .0 ≤ largest

@@ -13,7 +13,7 @@ waiting-requires c κs = (c .before .before .pre .0, omega (arith, c .if1 .taken
 place-of-requires : tie.Need-place-of-requires
 place-of-requires c κs =
     let laid = c .before .before .before .pre .1 .0 in
-    (stacks-pos laid, omega (arith, stacks-small laid, laid .small), omega (arith, c .waiting .ensures .1, laid .small), laid .inverse-is, laid .few-commands)
+    (stacks-pos laid, omega (arith, stacks-small laid, laid .small), omega (arith, c .waiting .ensures .1, laid .small), laid .inverse-is, laid .few-positions)
 
 returns : tie.Need-returns
 returns c =

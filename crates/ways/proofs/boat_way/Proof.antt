@@ -16,7 +16,7 @@ lane-at-requires c κs =
     let a = c .before .before in
     let b = a .pre .0 in
     let l = b .laid in
-    (omega (arith, b .position-low, l .few-commands), l .few-commands, omega (arith, stacks-small l, l .small), omega (arith, a .pre .1, stacks-small l, l .small))
+    (omega (arith, b .position-low, l .few-positions), l .few-positions, omega (arith, stacks-small l, l .small), omega (arith, a .pre .1, stacks-small l, l .small))
 
 mul-t10 : tie.Need-mul-t10
 mul-t10 c =

@@ -12,7 +12,7 @@ lane-at-requires : tie.Need-lane-at-requires
 lane-at-requires c κs =
     let b = c .pre .0 in
     let l = b .laid in
-    (omega (arith, b .position-low, l .few-commands), l .few-commands, omega (arith, stacks-small l, l .small), omega (arith, stack-fits _ _ _ _ _ b, stacks-small l, l .small))
+    (omega (arith, b .position-low, l .few-positions), l .few-positions, omega (arith, stacks-small l, l .small), omega (arith, stack-fits _ _ _ _ _ b, stacks-small l, l .small))
 
 mul-t9 : tie.Need-mul-t9
 mul-t9 c = search needs

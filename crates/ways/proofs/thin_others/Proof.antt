@@ -29,7 +29,7 @@ returns c =
     (record { basic = a .pre .2; classes = no-room Sieve.Classes less; sisters = no-room Sieve.Sisters (omega (arith, less)) }, kept-none)
 
 asks-requires : tie.Need-asks-requires
-asks-requires c κs = c .before .before .before .before .pre .0 .few-commands
+asks-requires c κs = c .before .before .before .before .pre .0 .few-positions
 
 -- there is room for classes
 room : (c : tie.Else1) → let x = c .before .before .before .args in thinEnd Sieve.Classes (x .plan) (thinAt Sieve.Classes (x .plan)) ≤ length (x .work .now)
@@ -78,7 +78,7 @@ returns-2 c =
     (record { basic = basic k; classes = k .thin-more .ensures .0; sisters = no-room Sieve.Sisters less }, wide k)
 
 asks-requires-2 : tie.Need-asks-requires-2
-asks-requires-2 c κs = c .before .before .before .before .before .before .before .before .before .before .before .pre .0 .few-commands
+asks-requires-2 c κs = c .before .before .before .before .before .before .before .before .before .before .before .pre .0 .few-positions
 
 -- there is room for sisters too
 room-2 : (c : tie.Else2) → let x = c .before .before .before .before .before .before .before .before .before .before .args in thinEnd Sieve.Sisters (x .plan) (thinAt Sieve.Sisters (x .plan)) ≤ length (now (c .before .before .before .before))

@@ -1,0 +1,14 @@
+-- `compiler::may_end` meets its contract. Assumes nothing.
+use mathlib.Core.Path.{refl}
+use borrow.Author.Tests.{eq-eqb, ne-eqb}
+use Rattle.compiler.proofs.may_end.Statement.{statement}
+use Rattle.compiler.proofs.may_end.Tie as tie
+
+returns : tie.Need-returns
+returns c = rw (eq-eqb _ _ (c .if1 .taken))
+
+returns-2 : tie.Need-returns-2
+returns-2 c = rw (ne-eqb _ _ (c .if1 .left))
+
+pub may-end-spec : {M : Type 1} → statement M
+may-end-spec = tie.close (tie.spec returns returns-2)
