@@ -10,8 +10,7 @@ use borrow.Author.Tests.{eq-eqb}
 use Rattle.meaning.specs.Outcome.{passed}
 use Rattle.meaning.specs.Pattern.{Pattern, counted, unfolded, Outside, outermost, inside, Part, readPattern, noneGiven}
 use Rattle.pattern.specs.Passed.{inside-small}
-use Rattle.automaton.specs.Automaton.{Node, silent, compile, nodes, nodeAt, enterCounted, compileCounted}
-use Rattle.automaton.specs.Automaton.{before as first-left}
+use Rattle.automaton.specs.Automaton.{Node, silent, compile, nodes, nodeAt, before as first-left, enterCounted, compileCounted}
 use Rattle.automaton.specs.Placed.{compile-length}
 use Rattle.positions.specs.Program.{nodeIn, Compiled}
 use Rattle.positions.specs.Masks.{Marks}

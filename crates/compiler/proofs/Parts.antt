@@ -1,20 +1,20 @@
 -- A pattern that was read is its command and the patterns after it: `none-after`, `one-after`, `two-after` say which tree it is
 -- and that the patterns after it were read; `inner-part`, `rounds-part`, `first-part` and `second-part` that their positions fit.
 -- Assumes nothing.
-use mathlib.Core.Path.{_≡_, refl, sym, _∙_, ap, subst, subst₂}
+use mathlib.Core.Path.{_≡_, refl, sym, _∙_, ap, subst}
 use mathlib.Core.Bool.{Bool, true, false, cond, not, _&&_, false≢true}
 use mathlib.Core.List.{List}
 use mathlib.Core.Logic.{inl, inr}
 use mathlib.Core.Option.{Option, none, some}
 use Prim.Native.Nat.{ℕ, zero, suc, _+_, _*_, _-_, _<_, _≤_}
 use native.Mathlib.Omega.{arith}
-use lib.Dec.{ltb, leb, eqb}
+use lib.Dec.{leb, eqb}
 use lib.ListN.{length, set}
 use native.Mathlib.Nat.{suc-mul}
 use borrow.Author.Tests.{leb-true, eq-eqb, eqb-true, eqb-false, ne-eqb}
 use Rattle.meaning.specs.Outcome.{passed, andThen, ask}
-use Rattle.meaning.specs.Record.{byte, kindAllowed}
-use Rattle.meaning.specs.Pattern.{Shape, Pattern, nothing, line, test, either, then, repeat, keep, counted, commands, unfolded, Command, commandWith, shapeOf, operand, isKeep, isCounted, Outside, outermost, inside, commandAt, around, Part, part, whole, readPattern, noneGiven}
+use Rattle.meaning.specs.Record.{byte}
+use Rattle.meaning.specs.Pattern.{Shape, Pattern, nothing, line, test, either, then, repeat, keep, counted, commands, unfolded, Command, commandWith, shapeOf, isKeep, isCounted, Outside, outermost, inside, commandAt, around, Part, part, whole, readPattern, noneGiven}
 use Rattle.pattern.specs.Reading.{patternAt}
 use Rattle.automaton.specs.Automaton.{before}
 use Rattle.pattern.specs.Passed.{passed-same, ask-passed, and-then-passed, Passed, command-passed, OneOf, one-pattern, kind-below, slot-below, counts-below, code-is, next-later, next-inside}

@@ -3,7 +3,7 @@
 -- written one by one (`n-rounds`, `at-most`, `spelled-out`); a lowest count above the highest leaves no word (`no-count`).
 -- A repeat is any count (`counted-repeat`, `repeat-counted`). Each round is read with the slots as they are around all of them
 -- (`own-rounds`). A pattern without counts has the search size that its commands, as written, give (`plain-size`).
-use mathlib.Core.Path.{_≡_, refl, sym, ap, ap₂, _∙_}
+use mathlib.Core.Path.{_≡_, refl, ap, ap₂, _∙_}
 use mathlib.Core.List.{List, [], _∷_, _++_}
 use mathlib.Core.Logic.{_⊎_, inl, inr, ⊎-elim, _↔_}
 use Prim.Native.Nat.{ℕ, zero, suc, _+_, _*_, _^_, _≤_, _<_}

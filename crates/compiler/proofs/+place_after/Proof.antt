@@ -1,6 +1,6 @@
 -- `compiler::place_after` meets its contract; the bytes left fall with each call. The command at the place passed its questions, and
 -- what stands after it was read (`Parts`). Assumes nothing.
-use mathlib.Core.Path.{_≡_, sym, _∙_, ap, subst}
+use mathlib.Core.Path.{_∙_, ap, subst}
 use mathlib.Core.List.{List}
 use Prim.Native.Nat.{ℕ, _-_, _<_, _≤_}
 use native.Mathlib.Omega.{arith}

@@ -1,5 +1,4 @@
 -- `compiler::may_end` meets its contract. Assumes nothing.
-use mathlib.Core.Path.{refl}
 use borrow.Author.Tests.{eq-eqb, ne-eqb}
 use Rattle.compiler.proofs.may_end.Statement.{statement}
 use Rattle.compiler.proofs.may_end.Tie as tie
