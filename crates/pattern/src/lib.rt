@@ -261,7 +261,7 @@ fn command_number(c: Command) -> u8
 // ---- a pattern
 
 // Around a whole pattern: the slots that have a boat from outside, and no keep.
-pub fn outermost(given: [u8; 4]) -> Outside
+fn outermost(given: [u8; 4]) -> Outside
     ensures { λ r. ⌜ outsideShown r ≡ outermost given ⌝ }
 {
     let kept = given;
@@ -273,7 +273,7 @@ pub fn outermost(given: [u8; 4]) -> Outside
 }
 
 // Around the inside of a command: a keep gives its slot a boat there, and is one keep more.
-pub fn inside(code: u8, slot: u8, o: Outside) -> Outside
+fn inside(code: u8, slot: u8, o: Outside) -> Outside
     requires { ⌜ (isKeep code ≡ true → slot < 4) × (o .depth ≤ 3) ⌝ }
     ensures { λ r. ⌜ outsideShown r ≡ inside code slot (outsideShown o) ⌝ }
 {

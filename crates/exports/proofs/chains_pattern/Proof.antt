@@ -78,7 +78,7 @@ put-unfolded-requires c κs =
     let p = c .before .before .before .before in
     let b = p .before .before .before .before in
     let small = subst Small (b .commands .given .1) (b .before .before .read-pattern .ensures .1) in
-    (omega (arith, c .before .if2 .left, long p), small .1)
+    (omega (arith, c .before .if2 .left, long p), omega (arith, small .0, small .1))
 
 returns-3 : tie.Need-returns-3
 returns-3 c =
