@@ -1,4 +1,5 @@
-/* Times the library's finder and checker, the same by hand in C, and the second program, on the same requests in one run.
+/* Times the library's finder and checker, its count of boats (by the words needed with one keep), the same by hand in C, and the second
+   program, on the same requests in one run.
    Before anything is timed, each program's reply, output and cleared work area are compared with the others'. Work area and
    output are dirtied before every call, outside the clock. The calls of a sample alternate between the programs; each program
    makes as many as last at least BATCH together.
@@ -35,6 +36,7 @@ __attribute__((weak)) uint64_t old_chains_find(const uint8_t *, size_t, const ui
                                                size_t, uint16_t *, size_t);
 __attribute__((weak)) uint64_t old_chains_check(const uint8_t *, size_t, const uint8_t *, size_t, uint16_t, uint16_t,
                                                 const uint16_t *, size_t, uint32_t *, size_t);
+uint64_t second_words(const uint8_t *, size_t, const uint8_t *, size_t);
 uint64_t second_find(const uint8_t *, size_t, const uint8_t *, size_t, uint16_t, uint16_t, uint32_t *, size_t, uint16_t *, size_t);
 uint64_t second_check(const uint8_t *, size_t, const uint8_t *, size_t, uint16_t, uint16_t, const uint16_t *, size_t, uint32_t *,
                       size_t);
@@ -61,21 +63,32 @@ static int before, differ;
 static uint32_t work[MOST_WORDS];
 static uint16_t out[MOST_CHAIN];
 
-/* A request: to check a chain, or to find one. `left_out` has the bit of each program that would take too long. */
+/* A request: to check a chain, to find one, or to say the words needed. `left_out` has the bit of each program that would take too long. */
 struct request {
     char name[96];
     uint8_t rec[MOST_BYTES], pat[256];
     size_t rec_len, pat_len;
     uint16_t from, to;
-    int check;
+    int check, needed;
     uint16_t *chain;
-    size_t chain_len, words[PROGRAMS];
+    size_t chain_len, words[PROGRAMS]; /* the words lent */
     unsigned left_out;
 };
 
 static uint64_t call(const struct request *r, int program, uint32_t *reached)
 {
     size_t words = r->words[program];
+    if (r->needed)
+        switch (program) {
+        case LIBRARY:
+            return chains_words(r->rec, r->rec_len, r->pat, r->pat_len);
+        case HAND:
+            return hand_words(r->rec, r->rec_len, r->pat, r->pat_len);
+        case BEFORE:
+            return old_chains_words(r->rec, r->rec_len, r->pat, r->pat_len);
+        default:
+            return second_words(r->rec, r->rec_len, r->pat, r->pat_len);
+        }
     if (r->check)
         switch (program) {
         case LIBRARY:
@@ -126,7 +139,7 @@ static void read_clock_cost(void)
 static double timed(const struct request *r, int program, uint64_t *reply, uint32_t *reached)
 {
     memset(work, 0xA5, sizeof work[0] * r->words[program]);
-    if (!r->check)
+    if (!r->check && !r->needed)
         memset(out, 0xA5, sizeof out[0] * (r->chain_len + 16));
     double start = now();
     *reply = call(r, program, reached);
@@ -167,6 +180,8 @@ static void lend(struct request *r)
     }
     if (r->words[BEFORE] != r->words[LIBRARY] && !differ)
         fail(r, "the words differ");
+    if (r->needed)
+        memset(r->words, 0, sizeof r->words);
 }
 
 /* One call of each program, the replies and lent words compared. Gives each one's reply and time, and whether they differ. */
@@ -182,7 +197,7 @@ static int compared(struct request *r, uint64_t reply[PROGRAMS], uint32_t *reach
         for (size_t i = 0; i < r->words[p]; i++)
             if (work[i] != 0)
                 fail(r, "the work area is not cleared");
-        size_t length = r->check || reply[p] >= NO_CHAIN ? 0 : reply[p];
+        size_t length = r->check || r->needed || reply[p] >= NO_CHAIN ? 0 : reply[p];
         if (first < 0) {
             first = p;
             memcpy(expected, out, sizeof out[0] * length);
@@ -200,6 +215,8 @@ static void say(char said[24], const struct request *r, uint64_t reply)
 {
     if (reply >> 32 != 0)
         snprintf(said, 24, "refused %u", (unsigned)(reply >> 32));
+    else if (r->needed)
+        snprintf(said, 24, "%u words", (unsigned)reply);
     else if (r->check)
         snprintf(said, 24, "%s", reply == 1 ? "yes" : "no");
     else if (reply == NO_CHAIN)
@@ -224,7 +241,7 @@ static void measure(struct request *r, double least[PROGRAMS])
     uint32_t reached;
     unsigned calls[PROGRAMS] = {0}, most = 0, samples = 15;
     lend(r);
-    if (r->check)
+    if (r->check || r->needed)
         r->left_out |= 1 << GROUPED;
     int differing = compared(r, reply, &reached, time);
     double round = 0;
@@ -278,7 +295,7 @@ static void measure(struct request *r, double least[PROGRAMS])
         return;
     }
     char states[16] = "-";
-    if (!r->check)
+    if (!r->check && !r->needed)
         snprintf(states, sizeof states, "%u", reached);
     printf("| %-52s | %-11s | %7s | %10.1f", r->name, said, states, least[HAND] * 1e6);
     show_ratio(least[LIBRARY] / least[HAND]);
@@ -682,6 +699,19 @@ static struct request *slowest(const char *name, unsigned test, unsigned boats, 
     return r;
 }
 
+/* The words needed with one keep, so that boats are counted and nothing is searched: one place, 4,096 lines. */
+static struct request *counted_boats(const char *name, unsigned boats)
+{
+    struct request *r = fresh(name);
+    begin_day(r, 1);
+    for (unsigned i = 0; i < 4096; i++)
+        add(r, 0, 1, 1, i % boats, 0);
+    command(r, KEEP, 1, 0);
+    byte(r, NOTHING);
+    r->needed = 1;
+    return r;
+}
+
 /* ---- three rounds, written out and counted */
 
 static void rounding(struct request *r) { command(r, SAME, 3, 0); }
@@ -731,7 +761,8 @@ static struct request *three_large(const char *name, int counted)
 /* The full days stand by twos, each request about the day read and then about the day with a third unread; so do rounds, written out
    and then counted. */
 enum { FULL = 1, FULL_END = 7, CASES = 14, SLOWEST = CASES + 16, CLASSES = SLOWEST + 2, FULL_CLASSES = CLASSES + 2,
-       FULL_CLASSES_END = FULL_CLASSES + 4, SLOWEST_CLASSES = FULL_CLASSES_END + 2, ROUNDS = SLOWEST_CLASSES + 6, ROWS = ROUNDS + 6 };
+       FULL_CLASSES_END = FULL_CLASSES + 4, SLOWEST_CLASSES = FULL_CLASSES_END + 2, ROUNDS = SLOWEST_CLASSES + 6, ROUNDS_END = ROUNDS + 6,
+       ROWS = ROUNDS_END + 2 };
 
 /* Is the row one of the slowest requests, which stand apart from the table? */
 static int is_slowest(int i) { return (i >= SLOWEST && i < CLASSES) || (i >= SLOWEST_CLASSES && i < ROUNDS); }
@@ -811,6 +842,10 @@ static struct request *row(unsigned i)
         return three_large("1,024 places, three rounds of others", 0);
     case ROUNDS + 5:
         return three_large("1,024 places, three rounds of others, counted", 1);
+    case ROUNDS_END:
+        return counted_boats("words, 4,096 lines of one boat, one keep", 1);
+    case ROUNDS_END + 1:
+        return counted_boats("words, 4,096 lines of 4,096 boats, one keep", 4096);
     }
     unsigned step = (i - CASES) % 4;
     switch ((i - CASES) / 4) {
@@ -850,7 +885,7 @@ static void compare_twos(double least[][PROGRAMS])
     int unread = 0, counted = 0;
     compare_pairs(least, FULL, FULL_END, "a third unread / read", &unread);
     compare_pairs(least, FULL_CLASSES, FULL_CLASSES_END, "a third unread / read", &unread);
-    compare_pairs(least, ROUNDS, ROWS, "counted / written out", &counted);
+    compare_pairs(least, ROUNDS, ROUNDS_END, "counted / written out", &counted);
 }
 
 static int profiled(char **argument)

@@ -1,5 +1,6 @@
-/* The finder and the checker by hand in C. Arguments, replies and what becomes of lent words are those of chains_find and
-   chains_check; the count of states that phase one reached goes to *reached, unless that is null. */
+/* The finder, the checker, the words needed and the count of boats by hand in C. Arguments, replies and what becomes of lent words are
+   those of chains_find, chains_check, chains_words and chains_boats; the count of states that phase one reached goes to *reached, unless
+   that is null. */
 #ifndef HAND_H
 #define HAND_H
 
@@ -15,5 +16,9 @@ uint64_t hand_find_grouped(const uint8_t *rec, size_t rec_len, const uint8_t *pa
 
 uint64_t hand_check(const uint8_t *rec, size_t rec_len, const uint8_t *pat, size_t pat_len, uint16_t from, uint16_t to,
                     const uint16_t *chain, size_t chain_len, uint32_t *work, size_t work_len);
+
+uint64_t hand_words(const uint8_t *rec, size_t rec_len, const uint8_t *pat, size_t pat_len);
+
+uint64_t hand_boats(const uint8_t *rec, size_t rec_len, uint32_t *counts, size_t counts_len);
 
 #endif

@@ -9,7 +9,7 @@
  *
  * Unread numbers. Class 0 with sail number 0 says that the number was not read, so that nothing is known of the boat. A pattern's same,
  * other, sister and foreign all fail on such a line, and all fail where the slot holds such a number. Line (21) takes the line, keep (27)
- * keeps the number, and chains_words counts all unread numbers as one boat. Class 0 alone, and number 0 alone, are boats.
+ * keeps the number, and chains_boats and chains_words count all unread numbers as one boat. Class 0 alone, and number 0 alone, are boats.
  *
  * Rounds. A counted pattern (2A) accepts from its lowest to its highest count of rounds in a row, both ends allowed; a round may be empty,
  * and a boat that it keeps is known in that round only. Commands count once as they are written, and in the unfolded count as often as they
@@ -116,6 +116,13 @@ enum chains_count {
     CHAINS_COUNTS = 3 /* how many there are */
 };
 
+/* Where chains_boats puts the counts of a record. */
+enum chains_boats_count {
+    CHAINS_BOATS_DIFFERENT = 0,
+    CHAINS_BOATS_READS = 1,
+    CHAINS_BOATS_COUNTS = 2 /* how many there are */
+};
+
 /* ---- A reply taken apart */
 
 /* The number of a reply: 0 (CHAINS_NOT_REFUSED), or that of the question that was answered no. */
@@ -152,7 +159,8 @@ static inline bool chains_needed(uint64_t reply, size_t *words)
     return chains_length(reply, words);
 }
 
-/* Of chains_read and chains_pattern: true where the lent words were written; false where refused, and where too few were lent. */
+/* Of chains_read, chains_pattern and chains_boats: true where the lent words were written; false where refused, and where too few were
+   lent. */
 static inline bool chains_written(uint64_t reply)
 {
     return !chains_refused(reply) && chains_value(reply) != 0;
@@ -273,6 +281,18 @@ uint64_t chains_read(const uint8_t *rec, size_t rec_len, uint16_t line, uint32_t
  * where there are two, commands and keeps to these; all other words stay. A value of 0 and a refusal leave it untouched.
  */
 uint64_t chains_pattern(const uint8_t *pat, size_t pat_len, uint32_t *counts, size_t counts_len);
+
+/*
+ * Counts the different boats of a record, and with them the reads: for each line the earlier ones are read from line 0 on, up to the first
+ * with the same class and sail number, that one too, or all of them where none has the same. A line with an unread number meets the first
+ * such line.
+ *
+ * Value: 2; or 0 where counts_len is below 2, which is no refusal.
+ * Refusals: 1 to 7 of the record. They come before the count of words is looked at.
+ * rec: only read. counts: the different boats (0 to 4,096) and the reads (0 to 8,386,560) are written to the first two words; all other
+ * words stay. A value of 0 and a refusal leave it untouched.
+ */
+uint64_t chains_boats(const uint8_t *rec, size_t rec_len, uint32_t *counts, size_t counts_len);
 
 /*
  * How many words of 32 bits chains_check and chains_find need as their work area, for this record and this pattern.

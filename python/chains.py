@@ -43,6 +43,7 @@ SENTENCES = (  # by number, from 1
     "the pattern is too long: with its rounds written out it has more than 63 commands",
 )
 Line = namedtuple("Line", "from_ kind class_ sail to")
+Boats = namedtuple("Boats", "boats reads")
 
 
 class Refused(Exception):
@@ -58,7 +59,7 @@ def _load():
     library = ctypes.CDLL(os.environ.get("CHAINS_LIB") or next((str(f) for f in files if f.exists()), "libchains.so"))
     types = {"1": ctypes.c_uint8, "2": ctypes.c_uint16, "4": ctypes.c_uint32, "n": ctypes.c_size_t, "p": ctypes.c_void_p}
     for name, taken in (("version", ""), ("begin", "pn2"), ("add", "pnn21142"), ("read", "pn2pn"), ("pattern", "pnpn"),
-                        ("words", "pnpn"), ("check", "pnpn22pnpn"), ("find", "pnpn22pnpn")):
+                        ("boats", "pnpn"), ("words", "pnpn"), ("check", "pnpn22pnpn"), ("find", "pnpn22pnpn")):
         function = getattr(library, "chains_" + name)
         function.argtypes, function.restype = [types[letter] for letter in taken], ctypes.c_uint64
     return library
@@ -127,6 +128,14 @@ def counts(pattern):
 def unfolded(pattern):
     """A pattern's unfolded count."""
     return _counts(pattern)[2]
+
+
+def boats(day):
+    """How many different boats a record has, and how many earlier lines are read to tell: for each line those from line 0 on, up to the
+    first with the same class and sail number, that one too, or all of them where none has the same."""
+    two = (ctypes.c_uint32 * 2)()
+    _value(_library.chains_boats(*_slice(day), two, 2))
+    return Boats(*two)
 
 
 def words(day, pattern):

@@ -67,6 +67,23 @@ class Records(Asking):
             self.refused(number, chains.lines, damaged)
             self.refused(number, chains.words, damaged, NOTHING)
 
+    def test_boats(self):
+        a, b, c, unread = (1, 7), (1, 8), (2, 7), (0, 0)
+        for boats, different, reads in (((), 0, 0), ((a,), 1, 0), ((a, a, b, a), 2, 4), ((a, b, c), 3, 3), ((a, b, b, b), 2, 5), ((a, b, a, b), 2, 4),
+                                        ((a, a, a, c, c), 2, 9), ((a, c, a, c), 2, 4), ((unread, a, unread, unread), 2, 3), ((a,) * 9, 1, 8)):
+            self.assertEqual(chains.boats(day_of(1, [(0, 1, *boat, 0) for boat in boats])), (different, reads))
+        counted = chains.boats(day_of(4, LINES))
+        self.assertEqual((counted.boats, counted.reads), (3, 13))
+        line = b"\x02\x00\x00\x01\x01%b\x00\x00"
+        for sails, different, reads in (([7] * 4096, 1, 4095), (range(4096), 4096, 8386560)):
+            day = b"\x01\x00\x01" + b"".join(line % sail.to_bytes(3, "big") for sail in sails) + b"\x00"
+            self.assertEqual(chains.boats(day), (different, reads))
+            self.refused(1, chains.boats, day + b"\x00")
+        day = day_of(1, [(0, 1, *a, 0)])
+        for number, damaged in ((1, bytes(40965)), (2, b""), (3, day[:3]), (4, day[:5]), (5, day[:5] + b"\1" + day[6:]), (6, day[:6] + b"\0" + day[7:]),
+                                (7, day + b"\0")):
+            self.refused(number, chains.boats, damaged)
+
 
 class Requests(Asking):
     def test_find(self):

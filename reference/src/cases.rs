@@ -1,11 +1,11 @@
 //! Requests with replies written down by hand: document 01's rows, the places where it can
-//! be misread, request One's unread numbers, request Two's classes, request Three's rounds, and
-//! the vectors that tell wrong programs apart. Each is compared with this program and with the
-//! reply that stands here, so that it tests this program too.
+//! be misread, request One's unread numbers, request Two's classes, request Three's rounds, request
+//! Four's counts of boats, and the vectors that tell wrong programs apart. Each is compared with
+//! this program and with the reply that stands here, so that it tests this program too.
 
 use crate::compare::{self, shown};
 use crate::generator::{counting_to, dirt, dirty_bytes, dirty_entries};
-use crate::library::{pattern_values, Ask, Library};
+use crate::library::{boats_values, pattern_values, Ask, Library};
 use crate::random::Random;
 use crate::record::{read_record, written, Line, LONGEST, MOST_LINES};
 use crate::request::{self, refused, search_size, FindReply, NO_CHAIN};
@@ -62,6 +62,9 @@ pub const ALL: &[Case] = &[
     case("A 23, 24, 27: outputs", outputs),
     case("A 22: the finder's areas", finder_areas),
     case("V1-V7, V12", vectors),
+    case("Four: boats and reads", boat_counts),
+    case("Four: full records", boat_counts_of_full_records),
+    case("Four: the questions", boat_questions),
     case("V11: a chain of 92,400 lines", vector_11),
     case("the largest size, found and none", largest),
     case("Two: the largest size, found and none", largest_by_class),
@@ -123,6 +126,38 @@ impl Bench<'_> {
             ));
         }
         Ok(())
+    }
+
+    /// Boats and reads of a record, or its refusal, with room for them, for too few and for more.
+    fn boats(&self, rec: &[u8], expected: Result<[u32; 2], u8>) -> Done {
+        let mut random = Random::new(rec.len() as u64);
+        for words in [2, 1, 0, 3, 5] {
+            let lent = dirt(&mut random, words);
+            let got = compare::boats(self.library, rec, &lent)?;
+            let reply = match expected {
+                Err(number) => refused(number, 0),
+                Ok(_) if words < 2 => 0,
+                Ok(_) => 2,
+            };
+            expect("boats", got, reply)?;
+        }
+        let (_, counts) = boats_values(rec, &[7, 7]);
+        let said = expected.unwrap_or([7, 7]);
+        if counts != said {
+            return Err(format!(
+                "boats and reads: {counts:?}, but the case says {said:?}"
+            ));
+        }
+        Ok(())
+    }
+
+    /// The same of a record of one place that passes; and with a keep the search size goes by its
+    /// boats.
+    fn boats_of(&self, lines: &[Line], boats: u32, reads: u32) -> Done {
+        let rec = written(1, lines);
+        self.boats(&rec, Ok([boats, reads]))?;
+        let keep = [0x27, 1, 0, 0x20];
+        self.words(&rec, &keep, words_of(3 * (boats as u64 + 1)))
     }
 
     fn read(&self, rec: &[u8], number: u16, expected: u64) -> Done {
@@ -2116,5 +2151,110 @@ fn pattern_counts(b: &Bench) -> Result<String, String> {
     b.pattern(&[0x22, 1, 0], Err(12))?;
     b.pattern(&[&three[..], &keep, &[0x20]].concat(), Err(13))?;
     b.pattern(&[0x20, 0x20], Err(14))?;
+    ok()
+}
+
+// ---- boats counted
+
+/// A line of each of these boats, in this order: class and sail number.
+fn lines_of_boats(boats: &[(u8, u32)]) -> Vec<Line> {
+    boats.iter().map(|b| line(0, 1, b.0, b.1, 0)).collect()
+}
+
+fn boat_counts(b: &Bench) -> Result<String, String> {
+    // 1-7, 1-8, and 2-7, which has the first one's number; and one that nobody could read.
+    let (a, d, c, u) = ((1, 7), (1, 8), (2, 7), (0, 0));
+    for (boats, different, reads) in [
+        (&[][..], 0, 0),
+        (&[a], 1, 0),
+        (&[a, a, d, a], 2, 4),
+        (&[a, d, c], 3, 3),
+        // The line met is read too, and none after it.
+        (&[a, d, d, d], 2, 5),
+        (&[a, d, a, d], 2, 4),
+        (&[a, d, c, c, d, a], 3, 3 + 3 + 2 + 1),
+        // Earlier lines are read, not boats met so far.
+        (&[a, a, a, c, c], 2, 9),
+        (&[a, a, a, a, d, d], 2, 3 + 4 + 5),
+        // One number in two classes, and two numbers in one.
+        (&[a, c, a, c], 2, 4),
+        (&[a, c, d], 3, 3),
+        // Unread numbers are one boat; class 0 alone and number 0 alone are others.
+        (&[u], 1, 0),
+        (&[u, u, u], 1, 2),
+        (&[u, a, u, u], 2, 3),
+        (&[a, u, a, u], 2, 4),
+        (&[(0, 5), (5, 0), u, (0, 5), (5, 0), u], 3, 3 + 1 + 2 + 3),
+        (&[a; 9], 1, 8),
+        // Numbers that differ in one byte, at both ends of what there is.
+        (&[(1, 1), (1, 256), (1, 65_536), (1, 257), (1, 1)], 4, 7),
+        (
+            &[(255, 16_777_215), (254, 16_777_215), (255, 16_777_214)],
+            3,
+            3,
+        ),
+        (&[(0, 1), (1, 0), (0, 16_777_215), (1, 0), (0, 1)], 3, 6),
+    ] {
+        b.boats_of(&lines_of_boats(boats), different, reads)?;
+    }
+    // A line's places and kind say nothing of its boat.
+    b.boats(&r(), Ok([3, 13]))?;
+    b.boats(&t(), Ok([2, 1]))?;
+    b.boats(&E, Ok([0, 0]))?;
+    b.boats(&[1, 4, 0, 0], Ok([0, 0]))?;
+    ok()
+}
+
+fn boat_counts_of_full_records(b: &Bench) -> Result<String, String> {
+    let full = MOST_LINES as u32;
+    let of = |boat: fn(u32) -> (u8, u32)| -> Vec<Line> {
+        lines_of_boats(&(0..full).map(boat).collect::<Vec<_>>())
+    };
+    b.boats_of(&of(|_| (1, 7)), 1, 4_095)?;
+    b.boats_of(&of(|_| (0, 0)), 1, 4_095)?;
+    b.boats_of(&of(|n| (1, n)), full, 8_386_560)?;
+    b.boats_of(&of(|n| (n as u8, n / 256)), full, 8_386_560)?;
+    // In turns: of the first sixteen lines all earlier ones, of the others one to sixteen.
+    b.boats_of(&of(|n| (1, n % 16)), 16, 120 + 255 * 136)?;
+    // Half of the boats twice, the second time in the opposite order.
+    let there = 2_048 * 2_047 / 2;
+    b.boats_of(
+        &of(|n| (1, n.min(4_095 - n))),
+        2_048,
+        there + 2_048 * 2_049 / 2,
+    )?;
+    // One boat and then another in the last line; the other in the first line.
+    b.boats_of(&of(|n| (1, n / 4_095)), 2, 4_094 + 4_095)?;
+    b.boats_of(&of(|n| (1, n.min(1))), 2, 1 + 2 * 4_094)?;
+    ok()
+}
+
+/// Questions 1 to 7, before the words are looked at.
+fn boat_questions(b: &Bench) -> Result<String, String> {
+    let lines = lines_of_boats(&[(1, 7), (1, 7)]);
+    let day = written(1, &lines);
+    for (rec, number) in [
+        (vec![0; LONGEST + 1], 1),
+        (vec![], 2),
+        (vec![1, 0], 2),
+        (vec![0, 0, 1, 0], 2),
+        (vec![1, 0, 0, 0], 2),
+        (vec![1, 4, 1, 0], 2),
+        (vec![1, 0, 1], 3),
+        (vec![1, 0, 1, 1], 3),
+        (day[..day.len() - 1].to_vec(), 3),
+        (day[..day.len() - 2].to_vec(), 4),
+        (written(1, &[lines[0], line(1, 1, 1, 7, 0)]), 5),
+        (written(1, &[lines[0], line(0, 1, 1, 7, 1)]), 5),
+        (written(1, &[line(0, 0, 1, 7, 0), lines[0]]), 6),
+        (written(1, &[line(0, 16, 1, 7, 0), line(1, 1, 1, 7, 0)]), 6),
+        ([&day[..], &[0]].concat(), 7),
+    ] {
+        b.boats(&rec, Err(number))?;
+    }
+    // A full record, and one byte more.
+    let full = written(1, &vec![lines[0]; MOST_LINES]);
+    b.boats(&full, Ok([1, 4_095]))?;
+    b.boats(&[&full[..], &[0]].concat(), Err(1))?;
     ok()
 }

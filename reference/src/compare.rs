@@ -1,7 +1,7 @@
 //! One call of a library compared with this program: the reply, every entry of every
 //! lent buffer, the entries around it, and the bytes that were only to be read.
 
-use crate::library::{pattern_values, read_values, Ask, Library};
+use crate::library::{boats_values, pattern_values, read_values, Ask, Library};
 use crate::record::{self, Line};
 use crate::request::{self, refused, CheckReply, FindReply};
 use std::fmt::Debug;
@@ -172,6 +172,18 @@ pub fn pattern(library: &dyn Library, pat: &[u8], counts: &[u32]) -> Compared {
                 hex(pat)
             )
         })?;
+    Ok(got)
+}
+
+pub fn boats(library: &dyn Library, rec: &[u8], counts: &[u32]) -> Compared {
+    let (expected, after) = boats_values(rec, counts);
+    let given = Lent::new(rec, 0xA5);
+    let mut lent = Lent::new(counts, 0xA5A5_A5A5);
+    let got = library.boats(&given.all[MARGIN..MARGIN + rec.len()], lent.inside());
+    compare_reply(got, expected)
+        .and_then(|()| lent.compare("counts", &after))
+        .and_then(|()| given.compare("record", rec))
+        .map_err(|what| format!("boats, {} words, record {}: {what}", counts.len(), hex(rec)))?;
     Ok(got)
 }
 

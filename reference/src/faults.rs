@@ -1,7 +1,8 @@
 //! Planted faults: copies of this program, each wrong in one way that a reader of document 01
-//! or of requests One to Three could fall into. The comparison must tell every one of them from
+//! or of requests One to Four could fall into. The comparison must tell every one of them from
 //! this program, so that its silence about the library says something.
 
+mod counting;
 mod faulty;
 mod reading;
 mod searching;
@@ -163,6 +164,23 @@ pub enum Fault {
     UnfoldedAsWritten,
     TwoCounts,
     ThirdOfTwo,
+    // The count of boats.
+    MatchNotRead,
+    ReadsOn,
+    ReadsFromLine1,
+    ReadsDownward,
+    ReadsBoats,
+    ReadsTheLineItself,
+    ReadsIn16Bits,
+    CountsBySail,
+    UnreadApart,
+    UnreadNotCounted,
+    ReadsBeforeBoats,
+    OneWordForBoats,
+    ThirdBesideBoats,
+    ThirdPastBoats,
+    RoomBeforeRecord,
+    WritesWhereRefused,
 }
 
 /// A fault, in words, and the sorts of rounds that meet it.
@@ -185,17 +203,21 @@ const B: &[&str] = &["bytes"];
 const W: &[&str] = &["writes"];
 const C: &[&str] = &["checks"];
 const F: &[&str] = &["finds"];
+const N: &[&str] = &["boats"];
 const BW: &[&str] = &["bytes", "writes"];
+const BN: &[&str] = &["bytes", "boats"];
+const BWN: &[&str] = &["bytes", "writes", "boats"];
 const BCF: &[&str] = &["bytes", "checks", "finds"];
+const BCFN: &[&str] = &["bytes", "checks", "finds", "boats"];
 const CF: &[&str] = &["checks", "finds"];
 
 /// Every fault.
 #[rustfmt::skip]
 pub const PLANTED: &[Planted] = &[
-    planted(QuestionByQuestion, B, "asks a record 5 of all lines before 6 of any"),
-    planted(NoPlacesPass, BW, "lets a count of 0 places pass"),
-    planted(MorePlacesPass, BW, "lets a count of 1,025 places pass"),
-    planted(AsksFromOnly, BW, "asks 5 only of the place that a line is from"),
+    planted(QuestionByQuestion, BN, "asks a record 5 of all lines before 6 of any"),
+    planted(NoPlacesPass, BWN, "lets a count of 0 places pass"),
+    planted(MorePlacesPass, BWN, "lets a count of 1,025 places pass"),
+    planted(AsksFromOnly, BWN, "asks 5 only of the place that a line is from"),
     planted(Asks9Before8, B, "asks 9 before 8"),
     planted(SixtyFourPass, BCF, "lets 64 commands pass"),
     planted(NeverAsks14, BCF, "does not ask 14"),
@@ -223,10 +245,10 @@ pub const PLANTED: &[Planted] = &[
     planted(CountIn64Bits, BCF, "counts unfolded commands in 64 bits"),
     planted(SizeByAllKeeps, BCF, "takes all keeps of the pattern for the power in the search size"),
     planted(SizeBySlots, BCF, "takes the different slots for the power in the search size"),
-    planted(SizeByLines, BCF, "counts lines, not boats, in the search size"),
-    planted(SizeByBytes, BCF, "counts bytes of the pattern, not commands, in the search size"),
-    planted(SizeWithoutOne, BCF, "leaves out the one in boats + 1"),
-    planted(SizeWithoutUnread, BCF, "leaves unread numbers out of the count of boats"),
+    planted(SizeByLines, BCFN, "counts lines, not boats, in the search size"),
+    planted(SizeByBytes, BCFN, "counts bytes of the pattern, not commands, in the search size"),
+    planted(SizeWithoutOne, BCFN, "leaves out the one in boats + 1"),
+    planted(SizeWithoutUnread, BCFN, "leaves unread numbers out of the count of boats"),
     planted(SizeWraps, &[], "multiplies the search size in 32 bits"),
     planted(SizeAsWritten, BCF, "takes the commands as written for the search size"),
     planted(KeepsOfNoRounds, BCF, "leaves keeps in 2A 00 00 out of the power in the search size"),
@@ -316,6 +338,22 @@ pub const PLANTED: &[Planted] = &[
     planted(UnfoldedAsWritten, B, "gives the commands as written for the unfolded count"),
     planted(TwoCounts, B, "gives two counts where three words are lent"),
     planted(ThirdOfTwo, B, "writes a third count where two words are lent"),
+    planted(MatchNotRead, N, "does not count the line with the same boat among those read"),
+    planted(ReadsOn, N, "reads all earlier lines, with no stop at the first with the same boat"),
+    planted(ReadsFromLine1, N, "reads earlier lines from line 1 on"),
+    planted(ReadsDownward, N, "reads earlier lines from the last one down"),
+    planted(ReadsBoats, N, "reads the boats met so far instead of earlier lines"),
+    planted(ReadsTheLineItself, N, "reads the line itself after the earlier ones"),
+    planted(ReadsIn16Bits, N, "counts the lines read in 16 bits"),
+    planted(CountsBySail, N, "counts boats by their sail numbers alone"),
+    planted(UnreadApart, N, "counts each unread number as a boat of its own"),
+    planted(UnreadNotCounted, N, "counts no boat where the number was not read"),
+    planted(ReadsBeforeBoats, N, "gives the lines read before the boats"),
+    planted(OneWordForBoats, N, "writes the boats where one word is lent for both numbers"),
+    planted(ThirdBesideBoats, N, "writes a third word after boats and reads"),
+    planted(ThirdPastBoats, N, "writes a third word after boats and reads where two are lent"),
+    planted(RoomBeforeRecord, N, "says 0 for too few words before it asks about the record"),
+    planted(WritesWhereRefused, N, "writes zeros for boats and reads where the record is refused"),
 ];
 
 /// What found a fault, and after how many requests.
@@ -408,6 +446,9 @@ impl Library for Counted {
     }
     fn pattern(&self, pat: &[u8], counts: &mut [u32]) -> u64 {
         self.asked().pattern(pat, counts)
+    }
+    fn boats(&self, rec: &[u8], counts: &mut [u32]) -> u64 {
+        self.asked().boats(rec, counts)
     }
     fn words(&self, rec: &[u8], pat: &[u8]) -> u64 {
         self.asked().words(rec, pat)

@@ -743,6 +743,55 @@ pub fn damage_record(random: &mut Random, bytes: &mut Vec<u8>) {
     }
 }
 
+/// A record whose boats are to be counted: no lines to as many as there can be; one boat, few, or as
+/// many as lines; each after the other, in turns or in any order; the same numbers in several
+/// classes; unread numbers among them or not. One in four is damaged, and some are too long.
+pub fn counted_day(random: &mut Random) -> Vec<u8> {
+    let count = match random.below(100) {
+        0 => MOST_LINES - random.below(2),
+        1..=4 => random.between(300, 700),
+        _ => random.pick(&[0, 1, 2, 3, 4, 5, 6, 8, 13, 30, 60]),
+    };
+    let boats = random.pick(&[1, 2, 3, 4, 10, count.max(1), count.max(1)]);
+    let (first_class, classes) = (random.pick(&[0, 1, 252]), random.pick(&[1, 2, 3]));
+    let apart = random.pick(&[1, 1, 256, 4_096]);
+    let (order, unread) = (random.below(3), random.once_in(2));
+    let places = random.pick(&[1, 1, 2, 4]);
+    let lines: Vec<Line> = (0..count)
+        .map(|number| {
+            let which = match order {
+                0 => number % boats,
+                1 => number * boats / count,
+                _ => random.below(boats),
+            };
+            let mut boat = boat(
+                (first_class + which % classes) as u8,
+                (which / classes * apart) as u32,
+            );
+            if unread && random.once_in(4) {
+                boat = UNREAD;
+            }
+            Line {
+                from: random.below(places) as u16,
+                kind: random.between(1, 15) as u8,
+                class: boat.class,
+                sail: boat.sail,
+                to: random.below(places) as u16,
+            }
+        })
+        .collect();
+    let mut bytes = written(places as u16, &lines);
+    if random.once_in(4) {
+        for _ in 0..random.between(1, 3) {
+            damage_record(random, &mut bytes);
+        }
+    }
+    if random.once_in(200) {
+        bytes.resize(LONGEST + random.below(3) - 1, 0);
+    }
+    bytes
+}
+
 /// Damages a pattern's bytes.
 pub fn damage_pattern(random: &mut Random, bytes: &mut Vec<u8>) {
     let at = random.below(bytes.len() + 1);

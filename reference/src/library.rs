@@ -1,4 +1,4 @@
-//! The seven functions that scoring software calls, as a trait: the linked library is one
+//! The eight functions that scoring software calls, as a trait: the linked library is one
 //! of these, and this program is another.
 
 use crate::pattern::read_pattern;
@@ -12,6 +12,7 @@ pub trait Library {
     fn add(&self, buf: &mut [u8], len: usize, line: Line) -> u64;
     fn read(&self, rec: &[u8], number: u16, fields: &mut [u32]) -> u64;
     fn pattern(&self, pat: &[u8], counts: &mut [u32]) -> u64;
+    fn boats(&self, rec: &[u8], counts: &mut [u32]) -> u64;
     fn words(&self, rec: &[u8], pat: &[u8]) -> u64;
     fn check(&self, ask: Ask, chain: &[u16], work: &mut [u32]) -> u64;
     fn find(&self, ask: Ask, work: &mut [u32], out: &mut [u16]) -> u64;
@@ -26,7 +27,7 @@ pub struct Ask<'a> {
     pub to: u16,
 }
 
-/// This program behind the same seven functions.
+/// This program behind the same eight functions.
 pub struct Own;
 
 impl Library for Own {
@@ -46,6 +47,12 @@ impl Library for Own {
 
     fn pattern(&self, pat: &[u8], counts: &mut [u32]) -> u64 {
         let (reply, after) = pattern_values(pat, counts);
+        counts.copy_from_slice(&after);
+        reply
+    }
+
+    fn boats(&self, rec: &[u8], counts: &mut [u32]) -> u64 {
+        let (reply, after) = boats_values(rec, counts);
         counts.copy_from_slice(&after);
         reply
     }
@@ -114,6 +121,22 @@ pub fn pattern_values(pat: &[u8], counts: &[u32]) -> (u64, Vec<u32>) {
                 *word = count as u32;
             }
             (written as u64, after)
+        }
+    }
+}
+
+/// The reply of counting boats, and the counts after it: here too the questions come first, and
+/// fewer than two words get nothing. Two or more get boats and reads in the first two.
+pub fn boats_values(rec: &[u8], counts: &[u32]) -> (u64, Vec<u32>) {
+    let mut after = counts.to_vec();
+    match record::read_record(rec) {
+        Err(number) => (refused(number, 0), after),
+        Ok(_) if counts.len() < 2 => (0, after),
+        Ok(day) => {
+            let count = record::count_boats(&day.lines);
+            after[0] = count.boats as u32;
+            after[1] = count.reads as u32;
+            (2, after)
         }
     }
 }

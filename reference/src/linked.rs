@@ -1,4 +1,4 @@
-//! The static library behind the seven functions. Nothing checks these declarations
+//! The static library behind the eight functions. Nothing checks these declarations
 //! against its source: the comparison does.
 
 use crate::library::{Ask, Library};
@@ -25,6 +25,7 @@ extern "C" {
         fields_len: usize,
     ) -> u64;
     fn chains_pattern(pat: *const u8, pat_len: usize, counts: *mut u32, counts_len: usize) -> u64;
+    fn chains_boats(rec: *const u8, rec_len: usize, counts: *mut u32, counts_len: usize) -> u64;
     fn chains_words(rec: *const u8, rec_len: usize, pat: *const u8, pat_len: usize) -> u64;
     fn chains_check(
         rec: *const u8,
@@ -91,6 +92,10 @@ impl Library for Linked {
 
     fn pattern(&self, pat: &[u8], counts: &mut [u32]) -> u64 {
         unsafe { chains_pattern(pat.as_ptr(), pat.len(), counts.as_mut_ptr(), counts.len()) }
+    }
+
+    fn boats(&self, rec: &[u8], counts: &mut [u32]) -> u64 {
+        unsafe { chains_boats(rec.as_ptr(), rec.len(), counts.as_mut_ptr(), counts.len()) }
     }
 
     fn words(&self, rec: &[u8], pat: &[u8]) -> u64 {

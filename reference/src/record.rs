@@ -1,4 +1,5 @@
-//! The day's record: reading it, beginning one, adding a line, reading a line back.
+//! The day's record: reading it, beginning one, adding a line, reading a line back, counting the
+//! different boats.
 
 /// No record is longer than this.
 pub const LONGEST: usize = 40_964;
@@ -160,4 +161,33 @@ pub fn add(buf: &[u8], len: usize, line: Line) -> Result<(usize, Vec<u8>), u8> {
 pub fn read_line(bytes: &[u8], number: u16) -> Result<Line, u8> {
     let record = read_record(bytes)?;
     record.lines.get(number as usize).copied().ok_or(18)
+}
+
+/// What counting the different boats gives.
+#[derive(Clone, Copy, PartialEq, Eq, Debug)]
+pub struct Count {
+    pub boats: usize,
+    /// How many earlier lines were read to tell, those of all lines together.
+    pub reads: usize,
+}
+
+/// Counts the different boats. For each line the earlier ones are read, from line 0 on, up to the
+/// first with the same boat, and that one too; a line that meets none has a boat of its own.
+/// Unread numbers agree like any others here, so that together they are one boat.
+pub fn count_boats(lines: &[Line]) -> Count {
+    let mut count = Count { boats: 0, reads: 0 };
+    for (number, line) in lines.iter().enumerate() {
+        let mut met = false;
+        for earlier in &lines[..number] {
+            count.reads += 1;
+            if earlier.boat() == line.boat() {
+                met = true;
+                break;
+            }
+        }
+        if !met {
+            count.boats += 1;
+        }
+    }
+    count
 }

@@ -5,8 +5,7 @@
 
 use crate::chains::{search, try_all, Asked, Tried};
 use crate::pattern::{read_pattern, Pattern};
-use crate::record::{read_record, Record};
-use std::collections::BTreeSet;
+use crate::record::{count_boats, read_record, Record};
 
 /// No search size is above this.
 pub const LARGEST: u128 = 1_048_576;
@@ -32,10 +31,10 @@ pub enum FindReply {
 
 /// Places × (unfolded count + 1) × (boats + 1) to the power of keeps.
 pub fn search_size(record: &Record, pattern: &Pattern) -> u128 {
-    let boats: BTreeSet<_> = record.lines.iter().map(|line| line.boat()).collect();
+    let boats = count_boats(&record.lines).boats;
     let mut size = record.places as u128 * (pattern.unfolded as u128 + 1);
     for _ in 0..pattern.keeps {
-        size *= boats.len() as u128 + 1;
+        size *= boats as u128 + 1;
     }
     size
 }

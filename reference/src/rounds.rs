@@ -3,7 +3,7 @@
 
 use crate::compare;
 use crate::generator::{
-    any_bytes, damage_record, dirt, dirty_bytes, dirty_entries, new_line, request,
+    any_bytes, counted_day, damage_record, dirt, dirty_bytes, dirty_entries, new_line, request,
 };
 use crate::library::{Ask, Library};
 use crate::random::Random;
@@ -14,11 +14,12 @@ pub type Replies = Result<Vec<u64>, String>;
 pub type Round = fn(&dyn Library, &mut Random) -> Replies;
 
 /// The sorts of rounds, by name.
-pub const SORTS: [(&str, Round); 4] = [
+pub const SORTS: [(&str, Round); 5] = [
     ("bytes", bytes),
     ("writes", writes),
     ("checks", check),
     ("finds", find),
+    ("boats", boats),
 ];
 
 /// Records and patterns of any bytes: words, one line read back, and the pattern's counts.
@@ -130,3 +131,18 @@ pub fn find(library: &dyn Library, random: &mut Random) -> Replies {
     }
     Ok(vec![reply])
 }
+
+/// The boats of one record counted; and the words that it needs with a pattern of one keep, which
+/// go by the same count.
+pub fn boats(library: &dyn Library, random: &mut Random) -> Replies {
+    let rec = counted_day(random);
+    let lent = random.pick(&[2, 2, 3, 3, 1, 0, 5]);
+    let counts = dirt(random, lent);
+    Ok(vec![
+        compare::boats(library, &rec, &counts)?,
+        compare::words(library, &rec, &ONE_KEEP)?,
+    ])
+}
+
+/// A boat kept, and nothing after it.
+const ONE_KEEP: [u8; 4] = [0x27, 1, 0, 0x20];

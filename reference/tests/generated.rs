@@ -1,15 +1,15 @@
 //! The random requests meet every question and every reply, and are what they are meant to be.
 
 use reference::chains::search;
-use reference::generator::{request, Room};
+use reference::generator::{counted_day, request, Room};
 use reference::library::Own;
 use reference::membership::compared;
 use reference::pattern::{Node, Rule};
 use reference::random::Random;
-use reference::record::{read_record, written, UNREAD};
+use reference::record::{count_boats, read_record, written, Boat, Line, UNREAD};
 use reference::request::{ask, shortest, NO_CHAIN};
 use reference::rounds::{self, Round};
-use std::collections::BTreeMap;
+use std::collections::{BTreeMap, BTreeSet};
 
 fn tally(round: Round, seed: u64, count: usize) -> BTreeMap<u64, usize> {
     let mut random = Random::new(seed);
@@ -40,6 +40,7 @@ fn every_question_is_met() {
     all_met(&tally(rounds::check, 3, 20_000), of_check);
     let of_find = (2..=17).chain([0, 19, 24, 25]);
     all_met(&tally(rounds::find, 4, 20_000), of_find);
+    all_met(&tally(rounds::boats, 5, 4_000), 0..=7);
 }
 
 #[test]
@@ -118,6 +119,36 @@ fn unread_numbers_are_met() {
     assert!(with > 2_500 && without > 3_300);
     assert!(4 * unread > lines && 2 * unread < lines);
     assert!(class_0 > 1_000 && number_0 > 1_000 && changed > 150);
+}
+
+/// Days whose boats are counted: with none, one, few and many of them, with boats that come again,
+/// unread ones, one number in several classes, and reads beyond 16 bits.
+#[test]
+fn boats_to_count_are_met() {
+    let mut random = Random::new(10);
+    let (mut none, mut one, mut few, mut many, mut again) = (0, 0, 0, 0, 0);
+    let (mut unread, mut classes, mut refused, mut far) = (0, 0, 0, 0);
+    for _ in 0..4_000 {
+        let Ok(day) = read_record(&counted_day(&mut random)) else {
+            refused += 1;
+            continue;
+        };
+        let count = count_boats(&day.lines);
+        let different: BTreeSet<Boat> = day.lines.iter().map(Line::boat).collect();
+        assert_eq!(count.boats, different.len());
+        let sails: BTreeSet<u32> = different.iter().map(|boat| boat.sail).collect();
+        none += (count.boats == 0) as usize;
+        one += (count.boats == 1) as usize;
+        few += (2..=5).contains(&count.boats) as usize;
+        many += (count.boats > 20) as usize;
+        again += (count.boats < day.lines.len()) as usize;
+        unread += different.contains(&UNREAD) as usize;
+        classes += (sails.len() < different.len()) as usize;
+        far += (count.reads > 65_535) as usize;
+    }
+    println!("{none} days with no boat, {one} with one, {few} with few, {many} with many, {again} with one again, {unread} with unread ones, {classes} with a number in several classes, {far} with many reads; {refused} refused");
+    assert!(none > 150 && one > 400 && few > 800 && many > 100 && again > 1_200);
+    assert!(unread > 1_000 && classes > 800 && refused > 400 && far > 20);
 }
 
 /// The pattern with one of its tests in place of another.

@@ -22,7 +22,7 @@
 //! }
 //! ```
 
-use crate::{linked, Counts, Line, Refusal};
+use crate::{linked, BoatCount, Counts, Line, Refusal};
 
 /// The reply of [`begin`] and [`add`].
 #[derive(Clone, Copy, PartialEq, Eq, Debug)]
@@ -53,6 +53,17 @@ pub enum LineReply {
 pub enum PatternReply {
     /// The pattern passes, and has these counts.
     Counts(Counts),
+    /// A question was answered no.
+    Refused(Refusal),
+}
+
+/// The reply of [`boats`].
+#[derive(Clone, Copy, PartialEq, Eq, Debug)]
+#[must_use]
+#[non_exhaustive]
+pub enum BoatsReply {
+    /// The record passes, and has so many boats.
+    Count(BoatCount),
     /// A question was answered no.
     Refused(Refusal),
 }
@@ -165,6 +176,20 @@ pub fn pattern(pattern: &[u8]) -> PatternReply {
             })
         }
         Err(refusal) => PatternReply::Refused(refusal),
+    }
+}
+
+/// Counts the different boats of a record, and the earlier lines that are read to tell.
+///
+/// Refusals: 1 to 7.
+pub fn boats(record: &[u8]) -> BoatsReply {
+    let mut counts = [0u32; 2];
+    match taken_apart(linked::boats(record, &mut counts)) {
+        Ok(_) => {
+            let [boats, reads] = counts;
+            BoatsReply::Count(BoatCount { boats, reads })
+        }
+        Err(refusal) => BoatsReply::Refused(refusal),
     }
 }
 

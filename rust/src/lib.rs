@@ -19,6 +19,7 @@
 //! - [`Record`] grows with its lines and can be asked directly; [`RecordIn`] stands in a buffer
 //!   that is given.
 //! - [`read_pattern`] tests a pattern before there is a record.
+//! - [`count_boats`] counts the different boats of a record.
 //! - [`Finder`] finds and checks chains, and keeps its buffers between requests.
 //! - [`Refusal`] says why a request was refused, in words.
 //! - [`lent`] has the library's functions as they are, on buffers that you lend.
@@ -57,7 +58,7 @@ mod refusal;
 
 pub use finder::{Finder, Question};
 pub use pattern::{read_pattern, Counts};
-pub use record::{Line, Lines, Record, RecordIn};
+pub use record::{count_boats, BoatCount, Line, Lines, Record, RecordIn};
 pub use refusal::Refusal;
 
 /// The version of the library that is linked: 1,000,000 × major + 1,000 × minor + patch.

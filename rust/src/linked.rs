@@ -29,6 +29,7 @@ extern "C" {
         fields_len: usize,
     ) -> u64;
     fn chains_pattern(pat: *const u8, pat_len: usize, counts: *mut u32, counts_len: usize) -> u64;
+    fn chains_boats(rec: *const u8, rec_len: usize, counts: *mut u32, counts_len: usize) -> u64;
     fn chains_words(rec: *const u8, rec_len: usize, pat: *const u8, pat_len: usize) -> u64;
     fn chains_check(
         rec: *const u8,
@@ -109,6 +110,18 @@ pub fn pattern(pattern: &[u8], counts: &mut [u32]) -> u64 {
         chains_pattern(
             pattern.as_ptr(),
             pattern.len(),
+            counts.as_mut_ptr(),
+            counts.len(),
+        )
+    }
+}
+
+pub fn boats(record: &[u8], counts: &mut [u32]) -> u64 {
+    // SAFETY: pointers and lengths of slices, the second borrowed for writing.
+    unsafe {
+        chains_boats(
+            record.as_ptr(),
+            record.len(),
             counts.as_mut_ptr(),
             counts.len(),
         )

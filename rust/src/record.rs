@@ -1,6 +1,6 @@
-//! Records: one that grows, and one in a buffer that is given.
+//! Records: one that grows, and one in a buffer that is given; and counting a record's boats.
 
-use crate::lent::{self, LineReply, WriteReply};
+use crate::lent::{self, BoatsReply, LineReply, WriteReply};
 use crate::{Finder, Question, Refusal};
 use std::fmt;
 use std::iter::FusedIterator;
@@ -120,6 +120,39 @@ impl DoubleEndedIterator for Lines<'_> {
 impl ExactSizeIterator for Lines<'_> {}
 
 impl FusedIterator for Lines<'_> {}
+
+/// How many different boats a record has, and what it took to tell.
+#[derive(Clone, Copy, PartialEq, Eq, Hash, Debug)]
+#[non_exhaustive]
+pub struct BoatCount {
+    /// The different boats, 0 to 4,096. All lines whose number was not read are one of them.
+    pub boats: u32,
+    /// The reads, 0 to 8,386,560: for each line the earlier ones are read, from line 0 on, up to the
+    /// first with the same class and sail number, that one too, or all of them where none has the same.
+    pub reads: u32,
+}
+
+/// Counts the different boats of a record. Refusals: 1 to 7.
+///
+/// ```
+/// use chains::{count_boats, Line, Record, Refusal};
+///
+/// let mut day = Record::begin(1)?;
+/// for sail in [7, 7, 8, 7] {
+///     day.add(Line { from: 0, kind: 1, class: 1, sail, to: 0 })?;
+/// }
+/// let count = count_boats(day.bytes())?;
+/// // Line 1 meets line 0; line 2 meets none of two; line 3 meets line 0.
+/// assert_eq!((count.boats, count.reads), (2, 1 + 2 + 1));
+/// assert_eq!(count_boats(&[]), Err(Refusal::PlacesOutOfRange));
+/// # Ok::<(), Refusal>(())
+/// ```
+pub fn count_boats(record: &[u8]) -> Result<BoatCount, Refusal> {
+    match lent::boats(record) {
+        BoatsReply::Count(count) => Ok(count),
+        BoatsReply::Refused(refusal) => Err(refusal),
+    }
+}
 
 /// A day's record that grows with its lines.
 ///

@@ -3,7 +3,8 @@
 //! enums were not `#[non_exhaustive]`.
 #![deny(unreachable_patterns)]
 
-use chains::lent::{self, CheckReply, FindReply, LineReply, PatternReply, WordsReply, WriteReply};
+use chains::lent::{self, BoatsReply, CheckReply, FindReply, LineReply};
+use chains::lent::{PatternReply, WordsReply, WriteReply};
 use chains::Refusal;
 
 fn known(refusal: Refusal) -> bool {
@@ -43,6 +44,11 @@ fn matches_have_an_arm_for_the_rest() {
     assert!(match lent::pattern(&pattern) {
         PatternReply::Counts(counts) => counts.commands == 1,
         PatternReply::Refused(_) => false,
+        _ => false,
+    });
+    assert!(match lent::boats(&day) {
+        BoatsReply::Count(count) => count.boats == 0,
+        BoatsReply::Refused(_) => false,
         _ => false,
     });
     assert!(match lent::words(&day, &pattern) {

@@ -2,8 +2,9 @@
 
 mod common;
 
-use chains::lent::{self, CheckReply, FindReply, LineReply, PatternReply, WordsReply, WriteReply};
-use chains::{read_pattern, Finder, Question, Record, RecordIn, Refusal};
+use chains::lent::{self, BoatsReply, CheckReply, FindReply, LineReply};
+use chains::lent::{PatternReply, WordsReply, WriteReply};
+use chains::{count_boats, read_pattern, Finder, Question, Record, RecordIn, Refusal};
 use common::*;
 
 /// Bytes of records that questions 1 to 7 refuse.
@@ -171,6 +172,17 @@ fn of_pattern() {
         };
         assert_eq!(refusal.number(), number);
         assert_eq!(read_pattern(&pattern), Err(refusal));
+    }
+}
+
+#[test]
+fn of_boats() {
+    for (number, bytes) in refused_records() {
+        let BoatsReply::Refused(refusal) = lent::boats(&bytes) else {
+            panic!("{number} passes");
+        };
+        assert_eq!(refusal.number(), number);
+        assert_eq!(count_boats(&bytes), Err(refusal));
     }
 }
 

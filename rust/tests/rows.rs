@@ -2,7 +2,8 @@
 
 mod common;
 
-use chains::{read_pattern, version, Finder, Line, Question, Record, RecordIn, Refusal};
+use chains::{count_boats, read_pattern, version, Finder, Line, Question};
+use chains::{Record, RecordIn, Refusal};
 use common::*;
 
 /// One finder for all rows, so that its buffers come dirty and of other sizes to each.
@@ -282,6 +283,43 @@ fn patterns_are_counted() -> Result<(), Refusal> {
     assert_eq!(counts(&most)?, (6, 0, 63));
     let none = rounds(0, 0, &twenties(40, &NOTHING));
     assert_eq!(counts(&none)?, (42, 0, 1));
+    Ok(())
+}
+
+/// Boats and reads: each line is held against the earlier ones, from line 0 on.
+#[test]
+fn boats_are_counted() -> Result<(), Refusal> {
+    let counts = |record: &[u8]| count_boats(record).map(|count| (count.boats, count.reads));
+    let of = |boats: &[(u8, u32)]| {
+        let lines: Vec<Line> = boats.iter().map(|b| line(0, 1, b.0, b.1, 0)).collect();
+        record(1, &lines).into_bytes()
+    };
+    let (a, b, c, unread) = ((1, 7), (1, 8), (2, 7), (0, 0));
+    assert_eq!(counts(&of(&[]))?, (0, 0));
+    assert_eq!(counts(&of(&[a]))?, (1, 0));
+    assert_eq!(counts(&of(&[a, a, b, a]))?, (2, 4));
+    assert_eq!(counts(&of(&[a, b, c]))?, (3, 3));
+    assert_eq!(counts(&of(&[a, b, b, b]))?, (2, 5));
+    assert_eq!(counts(&of(&[a, b, a, b]))?, (2, 4));
+    assert_eq!(counts(&of(&[a, a, a, c, c]))?, (2, 9));
+    assert_eq!(counts(&of(&[a, c, a, c]))?, (2, 4));
+    assert_eq!(counts(&of(&[unread, a, unread, unread]))?, (2, 3));
+    assert_eq!(counts(&of(&[a; 9]))?, (1, 8));
+    assert_eq!(counts(r().bytes())?, (3, 13));
+    assert_eq!(counts(e().bytes())?, (0, 0));
+
+    // As many lines as there can be: of one boat, and each of a boat of its own.
+    assert_eq!(counts(&of(&[a; 4_096]))?, (1, 4_095));
+    let different: Vec<(u8, u32)> = (0..4_096).map(|sail| (1, sail)).collect();
+    let different = of(&different);
+    assert_eq!(counts(&different)?, (4_096, 8_386_560));
+
+    // A record in a buffer of the caller's is counted in the same way.
+    let mut buffer = different;
+    buffer.extend([7; 9]);
+    let length = buffer.len() - 9;
+    let given = RecordIn::open(&mut buffer, length)?;
+    assert_eq!(counts(given.bytes())?, (4_096, 8_386_560));
     Ok(())
 }
 

@@ -1,6 +1,6 @@
 /*
- * Every function of chains.h, called from C: document 01's worked rows, unread numbers, classes, counted rounds, every refusal number, and
- * each lent buffer afterwards; the helpers that take a reply apart; and chains_message, held to the list of sentences. Prints what fails; the status
+ * Every function of chains.h, called from C: document 01's worked rows, unread numbers, classes, counted rounds, boats counted, every refusal
+ * number, and each lent buffer afterwards; the helpers that take a reply apart; and chains_message, held to the list of sentences. Prints what fails; the status
  * is 1 if something did.
  *
  *     gcc -std=c11 -Wall -Wextra -Werror -pedantic -Iinclude tests/c/chains_test.c target/libchains.a -o target/chains_test
@@ -326,6 +326,95 @@ static void test_pattern(void)
     pattern_refused("pattern 21 10", line_16, 2, CHAINS_OPERAND_OUT_OF_RANGE);
     pattern_refused("pattern 22 01 00", unkept, 3, CHAINS_SLOT_NOT_KEPT);
     pattern_refused("pattern 20 20", two, 2, CHAINS_BYTES_AFTER_PATTERN);
+}
+
+/* ---- boats counted */
+
+/* Refused: no word is written, however many are lent. */
+static void boats_refused(const char *what, const uint8_t *rec, size_t rec_len, uint32_t number)
+{
+    uint32_t counts[4] = {9, 9, 9, 9};
+    const uint32_t same[4] = {9, 9, 9, 9};
+    for (size_t lent = 0; lent <= 4; lent++) {
+        expect_reply(what, chains_boats(rec, rec_len, counts, lent), number, 0);
+    }
+    expect(what, memcmp(counts, same, sizeof counts) == 0);
+}
+
+/* Counted: the first two words have boats and reads, and no other word is written; fewer than two get none. */
+static void boats_counted(const char *what, const uint8_t *rec, size_t rec_len, uint32_t boats, uint32_t reads)
+{
+    uint32_t counts[4] = {9, 9, 9, 9};
+    const uint32_t same[4] = {9, 9, 9, 9}, two[4] = {boats, reads, 9, 9};
+    expect_reply(what, chains_boats(rec, rec_len, counts, 0), 0, 0);
+    expect_reply(what, chains_boats(rec, rec_len, counts, 1), 0, 0);
+    expect(what, memcmp(counts, same, sizeof counts) == 0);
+    for (size_t lent = CHAINS_BOATS_COUNTS; lent <= 4; lent++) {
+        memcpy(counts, same, sizeof counts);
+        expect_reply(what, chains_boats(rec, rec_len, counts, lent), 0, CHAINS_BOATS_COUNTS);
+        expect(what, memcmp(counts, two, sizeof counts) == 0);
+    }
+    expect(what, counts[CHAINS_BOATS_DIFFERENT] == boats && counts[CHAINS_BOATS_READS] == reads);
+}
+
+/* A record of one place with a line for each letter: A is boat 1-7, B 1-8, C 2-7, and U has an unread number. */
+static void write_letters(struct record *rec, const char *letters)
+{
+    begin(rec, 1);
+    for (; *letters != 0; letters++) {
+        const uint8_t class_ = *letters == 'U' ? 0 : *letters == 'C' ? 2 : 1;
+        const uint32_t sail = *letters == 'U' ? 0 : *letters == 'B' ? 8 : 7;
+        add(rec, (struct line){0, 1, class_, sail, 0});
+    }
+}
+
+/* A record with as many lines as there can be, each of the boat 1-7, or each of a boat of its own. */
+static void write_full(struct record *rec, int different)
+{
+    begin(rec, 1);
+    for (uint32_t i = 0; i < 4096; i++) {
+        add(rec, (struct line){0, 1, 1, different ? i : 7, 0});
+    }
+}
+
+static void test_boats(void)
+{
+    static const struct {
+        const char *letters;
+        uint32_t boats, reads;
+    } rows[] = {
+        {"", 0, 0},      {"A", 1, 0},    {"AABA", 2, 4}, {"ABC", 3, 3},       {"ABBB", 2, 5}, {"ABAB", 2, 4},
+        {"AAACC", 2, 9}, {"ACAC", 2, 4}, {"UAUU", 2, 3}, {"AAAAAAAAA", 1, 8}, {"UUU", 1, 2},
+    };
+    static struct record day, full;
+    for (size_t i = 0; i < sizeof rows / sizeof rows[0]; i++) {
+        write_letters(&day, rows[i].letters);
+        boats_counted(rows[i].letters, day.at, day.len, rows[i].boats, rows[i].reads);
+    }
+    boats_counted("boats of R", r.at, r.len, 3, 13);
+    boats_counted("boats of E", e.at, e.len, 0, 0);
+    write_full(&full, 0);
+    boats_counted("4,096 lines of one boat", full.at, full.len, 1, 4095);
+    write_full(&full, 1);
+    boats_counted("4,096 lines of as many boats", full.at, full.len, 4096, 8386560);
+    boats_refused("boats of no bytes", r.at, 0, CHAINS_PLACES_OUT_OF_RANGE);
+    boats_refused("boats of a record cut before its end", r.at, r.len - 1, CHAINS_ENTRY_NOT_KNOWN);
+    boats_refused("boats of a record cut in a line", r.at, r.len - 2, CHAINS_LINE_CUT_SHORT);
+    full.at[full.len] = 0;
+    boats_refused("boats of 40,965 bytes", full.at, full.len + 1, CHAINS_RECORD_TOO_LONG);
+    write_letters(&day, "AB");
+    day.at[day.len] = 0;
+    boats_refused("boats of a record that goes on", day.at, day.len + 1, CHAINS_BYTES_AFTER_END);
+    day.at[16] = 0;
+    boats_refused("boats of a line of kind 0", day.at, day.len, CHAINS_LINE_KIND_OUT_OF_RANGE);
+    day.at[15] = 1;
+    boats_refused("boats of a line from another place", day.at, day.len, CHAINS_LINE_PLACE_NOT_THERE);
+    /* An area with words around it: two of them are written. */
+    make_dirty();
+    expect_reply("boats into an area", chains_boats(r.at, r.len, area + EDGE, WORDS), 0, CHAINS_BOATS_COUNTS);
+    expect("boats into an area", area[EDGE] == 3 && area[EDGE + 1] == 13);
+    area[EDGE] = area[EDGE + 1] = DIRT;
+    expect_area("boats into an area", 0, 0);
 }
 
 /* 1,024 places, 15 commands, one keep, and so many boats. */
@@ -764,6 +853,7 @@ int main(int argc, char **argv)
     test_read();
     test_words();
     test_pattern();
+    test_boats();
     test_sizes();
     test_check();
     test_find();

@@ -13,9 +13,12 @@ int main()
     uint8_t pattern[1] = {0x20};
     uint8_t rounds[4] = {0x2A, 0, 3, 0x20};
     uint32_t counts[CHAINS_COUNTS];
+    uint32_t boats[CHAINS_BOATS_COUNTS] = {9, 9};
     size_t length = 0;
     bool holds = chains_version() == CHAINS_VERSION;
     holds = holds && chains_length(chains_begin(record, sizeof record, 1), &length) && length == 4;
+    holds = holds && chains_written(chains_boats(record, length, boats, CHAINS_BOATS_COUNTS)) && boats[CHAINS_BOATS_DIFFERENT] == 0 &&
+            boats[CHAINS_BOATS_READS] == 0;
     holds = holds && chains_needed(chains_words(record, length, pattern, 1), &length) && length == 8200;
     holds = holds && chains_written(chains_pattern(pattern, 1, counts, CHAINS_COUNTS)) && counts[CHAINS_COUNT_COMMANDS] == 1;
     holds = holds && chains_written(chains_pattern(rounds, 4, counts, CHAINS_COUNTS)) && counts[CHAINS_COUNT_UNFOLDED] == 4;

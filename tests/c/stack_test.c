@@ -129,6 +129,7 @@ struct counted {
     size_t answers;  /* found or none */
     size_t found;
     size_t yes; /* of the checker, to the chains that were found */
+    size_t days; /* whose boats were counted */
 };
 
 /* The requests about one day and one pattern; a reply may be a refusal, which ends the call sooner. */
@@ -162,6 +163,7 @@ static void *call_all(void *given)
     for (size_t j = 0; j < DAYS; j++) {
         struct day *d = &days[j];
         size_t len = d->len - 10;
+        counted->days += chains_written(chains_boats(d->at, d->len, words, CHAINS_BOATS_COUNTS));
         chains_read(d->at, d->len, LINES - 1, words, CHAINS_FIELDS);
         d->at[len - 1] = 0;
         chains_add(d->at, sizeof d->at, len, 0, 1, 1, 1, d->last);
@@ -215,14 +217,14 @@ int main(void)
     }
     write_patterns();
     write_days();
-    struct counted counted = {0, 0, 0, 0};
+    struct counted counted = {0, 0, 0, 0, 0};
     const size_t own = taken_by(call_none, &counted);
     const size_t taken = taken_by(call_all, &counted);
     printf("%zu answers on a stack of %d bytes; the hungriest call took %zu, beside %zu of the thread's own\n", counted.answers,
            CHAINS_STACK, taken - own, own);
     /* The last patterns alone are refused; of the requests about the others, some are too large. */
     if (counted.patterns != PATTERNS - REFUSED || counted.answers < 3 * PATTERNS || counted.found < PATTERNS ||
-        counted.yes != counted.found) {
+        counted.yes != counted.found || counted.days != DAYS) {
         fail("the requests are answered");
     }
     free(work);

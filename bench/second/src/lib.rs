@@ -1,5 +1,5 @@
 //! The second program behind functions that C can call, with the arguments of the library's
-//! `chains_find` and `chains_check`; and the day and pattern of Proposition 3.
+//! `chains_find`, `chains_check` and `chains_words`; and the day and pattern of Proposition 3.
 
 use reference::cases;
 use reference::library::{Ask, Library, Own};
@@ -54,6 +54,19 @@ pub unsafe extern "C" fn second_check(
     };
     let chain = slice::from_raw_parts(chain, chain_len);
     Own.check(ask, chain, slice::from_raw_parts_mut(work, work_len))
+}
+
+/// # Safety
+/// The pointers are those of live arrays of these lengths.
+#[no_mangle]
+pub unsafe extern "C" fn second_words(
+    rec: *const u8,
+    rec_len: usize,
+    pat: *const u8,
+    pat_len: usize,
+) -> u64 {
+    let rec = slice::from_raw_parts(rec, rec_len);
+    Own.words(rec, slice::from_raw_parts(pat, pat_len))
 }
 
 /// Writes the day of Proposition 3 for n into a buffer that holds it, and gives its length.

@@ -1,1 +1,1 @@
-pub mod Bucketing
+pub mod Tallying

@@ -11,6 +11,7 @@ use lib.Seq.{take-suc}
 use borrow.Author.Tests.{eqb-true, eq-eqb, ne-eqb, lt-ltb, le-ltb, ltb-true, ltb-false}
 use Rattle.meaning.specs.Record.{Boat, Line, agree, among, boatsAfter, boats}
 use Rattle.meaning.specs.Writing.{lineAt, noLine}
+use Rattle.meaning.specs.Count.{firstWith, firstSame}
 use mathlib.Core.Bool.{or-assoc, or-false}
 use Rattle.record.specs.Outcomes.{and-true, true-and}
 
@@ -48,15 +49,6 @@ module _ (a b : Boat) (small-a : a .sail < 16777216) (small-b : b .sail < 167772
       go false e = refl
 
 -- ---- the first line with a boat
-
--- its number, or the count of lines where none has the boat
-unfoldable pub firstWith : Boat → List Line → ℕ
-firstWith b [] = 0
-firstWith b (l ∷ ls) = elim (agree b (l .boat)) [ true ↦ 0 | false ↦ suc (firstWith b ls) ]
-
--- the first line with the same boat as line i
-abbrev pub firstSame : List Line → ℕ → ℕ
-firstSame lines i = firstWith (lineAt lines i .boat) lines
 
 first-hit : (b : Boat) (l : Line) (ls : List Line) → agree b (l .boat) ≡ true → firstWith b (l ∷ ls) ≡ 0
 unfolding firstWith

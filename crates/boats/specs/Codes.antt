@@ -12,8 +12,9 @@ use lib.Seq.{split-at, length-take-le, getD-take}
 use Rattle.meaning.specs.Record.{Boat, Line, agree, among, boatsAfter, boats}
 use Rattle.meaning.specs.Writing.{noLine, lineAt}
 use Rattle.meaning.specs.Language.{Compared, compared}
+use Rattle.meaning.specs.Count.{firstWith, firstSame}
 use Rattle.lists.specs.Listed.{_∈_, none-in}
-use Rattle.boats.specs.Boats.{agree-same, agree-self, noted, after-append, firstWith, firstSame}
+use Rattle.boats.specs.Boats.{agree-same, agree-self, noted, after-append}
 
 -- ---- the definitions
 

@@ -1,4 +1,6 @@
 pub mod Boats
 pub mod Codes
 pub mod Table
-pub mod Buckets
+pub mod Reads
+pub mod Counting
+pub mod Promise

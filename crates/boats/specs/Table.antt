@@ -14,8 +14,9 @@ use borrow.Author.Tests.{eq-eqb, ne-eqb, ltb-true, ltb-false}
 use Rattle.meaning.specs.Record.{Boat, Line, agree, among, boatsAfter, boats}
 use Rattle.meaning.specs.Writing.{noLine, lineAt}
 use Rattle.meaning.specs.Language.{Compared, unread, same-boat, same-class, other-class, isUnread}
+use Rattle.meaning.specs.Count.{firstWith, firstSame}
 use Rattle.lists.specs.Listed.{_∈_}
-use Rattle.boats.specs.Boats.{agree-same, agree-self, asNumber, noted, firstWith, firstSame, first-le, boats-next, boats-more}
+use Rattle.boats.specs.Boats.{agree-same, agree-self, asNumber, noted, first-le, boats-next, boats-more}
 use Rattle.boats.specs.Codes.{numbered, telling, same-agree, among-in, first-has, code, code-earlier, code-new}
 
 -- ---- the definitions

@@ -1,109 +1,160 @@
-// The different boats of a day's record, numbered from 1 in order of first appearance.
+// The different boats of a day's record: counted, and numbered from 1 in order of first appearance.
 ghost use mathlib.Core.Path.{_≡_};
 ghost use Prim.Native.Nat.{suc, _<_, _≤_};
-ghost use lib.ListN.{length, set, take};
+ghost use lib.ListN.{length, take};
+ghost use Rattle.meaning.specs.Count.{reads, countOf};
+ghost use Rattle.meaning.specs.Outcome.{told};
 ghost use Rattle.meaning.specs.Record.{boats};
-ghost use Rattle.meaning.specs.Writing.{lineAt};
-ghost use Rattle.boats.specs.Boats.{BoatIs, firstSame};
-ghost use Rattle.boats.specs.Buckets.{bucketOf, bucketAt, Latest, Links, Numbered};
+ghost use Rattle.boats.specs.Boats.{BoatIs};
 ghost use Rattle.boats.specs.Codes.{codes};
+ghost use Rattle.boats.specs.Counting.{NoneBefore, FirstAt, Counted};
+ghost use Rattle.boats.specs.Promise.{countReply};
+ghost use Rattle.record.specs.Promise.{lineShown};
 ghost use Rattle.record.specs.Whole.{linesOf};
+use record::Line;
+use record::Reading;
+
+// How many different boats there are, and how many earlier lines were read to tell.
+pub struct BoatCount {
+    pub boats: usize,
+    pub reads: usize,
+}
+
+// What counting a record's boats says.
+pub enum CountReply {
+    Count(BoatCount),
+    Refused(u8, usize),
+}
+
+// The lines gone over so far: the next line and the byte at which it begins, the different boats, and the earlier lines read.
+pub struct Tally {
+    pub line: usize,
+    pub at: usize,
+    pub boats: usize,
+    pub reads: usize,
+}
 
 // A boat as one number is its class and its sail number, which is below this.
 const SAILS: u32 = 16777216;
 
-// The boat of line i as one number.
-pub fn boat_at(day: &[u8], i: usize) -> u32
-    requires { ⌜ i < length (linesOf (now day)) ⌝ }
-    ensures { λ r. ⌜ BoatIs (lineAt (linesOf (now (day .entry))) i .boat) r ⌝ }
+// The boat of a line as one number.
+pub fn boat_of(l: Line) -> u32
+    requires { ⌜ l .sail < 16777216 ⌝ }
+    ensures { λ r. ⌜ BoatIs (lineShown l .boat) r ⌝ }
 {
-    let l = record::line_at(day, i);
     l.class as u32 * SAILS + l.sail
 }
 
-// A line number, link or head as an index.
-fn wide(x: u16) -> usize
-    ensures { λ r. ⌜ r ≡ x ⌝ }
+// The first line with a boat, by the boats of the lines as they were noted, where none before line `start` has it; how many lines there are
+// where none has it at all.
+fn first_from(noted: &[u32], start: usize, boat: u32) -> usize
+    requires { ⌜ (start ≤ length (now noted)) × NoneBefore (now noted) boat start ⌝ }
+    ensures { λ r. ⌜ FirstAt (now (noted .entry)) boat r ⌝ }
 {
-    x as usize
-}
-
-// The bucket of a boat.
-fn bucket_of(boat: u32) -> usize
-    ensures { λ r. ⌜ (r ≡ bucketOf boat) × (r < 4096) ⌝ }
-{
-    (boat as u64 * 2654435769 / 1048576 % 4096) as usize
-}
-
-// The first line with the same boat as line i, and line i itself where no earlier one has it: only the lines of the bucket are
-// met, from its head on.
-fn first_same(day: &[u8], i: usize, boat: u32, head: u16, links: &[u16; 4096]) -> usize
-    requires { ⌜ i < length (linesOf (now day)) ⌝ }
-    requires { ⌜ BoatIs (lineAt (linesOf (now day)) i .boat) boat ⌝ }
-    requires { ⌜ Latest (linesOf (now day)) (bucketAt (linesOf (now day)) i) i head × Links (linesOf (now day)) i (now links) ⌝ }
-    ensures { λ r. ⌜ r ≡ firstSame (linesOf (now (day .entry))) i ⌝ }
-{
-    let mut at = wide(head);
-    while 0 < at {
-        let j = at - 1;
-        if boat_at(day, j) == boat {
+    let mut j = start;
+    while j < noted.len() {
+        if noted[j] == boat {
             return j;
         }
-        at = wide(links[j]);
+        j += 1;
     }
-    i
+    j
 }
 
-// One entry of an array; lent as a slice, it tells its length.
-fn put(part: &mut [u16], i: usize, x: u16)
-    requires { ⌜ i < length (now part) ⌝ }
-    ensures { λ _. ⌜ now (part .exit) ≡ set (now (part .entry)) i x ⌝ }
+// The same from line 0 on. The lines are read one by one and none after the first with the boat; a turn of the loop has four of them, which
+// takes a third of the time.
+fn first_same(noted: &[u32], boat: u32) -> usize
+    ensures { λ r. ⌜ FirstAt (now (noted .entry)) boat r ⌝ }
 {
-    part[i] = x;
+    let mut j: usize = 0;
+    while j + 3 < noted.len() {
+        if noted[j] == boat {
+            return j;
+        }
+        let k = j + 1;
+        if noted[k] == boat {
+            return k;
+        }
+        let l = k + 1;
+        if noted[l] == boat {
+            return l;
+        }
+        let m = l + 1;
+        if noted[m] == boat {
+            return m;
+        }
+        j = m + 1;
+    }
+    first_from(noted, j, boat)
 }
 
-// Line i is numbered, count boats having been numbered before it: as the first line with its boat, else by the next number, and it
-// comes to the front of its bucket.
-fn number_line(
-    day: &[u8],
-    i: usize,
-    count: u16,
-    heads: &mut [u16; 4096],
-    links: &mut [u16; 4096],
-    numbers: &mut [u16; 4096],
-) -> u16
-    requires { ⌜ i < length (linesOf (now day)) ⌝ }
-    requires { ⌜ Numbered (linesOf (now day)) i count (now heads) (now links) (now numbers) ⌝ }
-    ensures { λ r. ⌜ Numbered (linesOf (now (day .entry))) (suc i) r (now (heads .exit)) (now (links .exit)) (now (numbers .exit)) ⌝ }
+// The next line is gone over: its boat is noted, and numbered as the first line with it, else by the next number.
+fn number_line(day: &[u8], t: Tally, noted: &mut [u32], numbers: &mut [u16]) -> Tally
+    requires { ⌜ (t .line < length (linesOf (now day))) × (t .line < length (now noted)) × (t .line < length (now numbers)) ⌝ }
+    requires { ⌜ Counted (linesOf (now day)) t (now noted) (now numbers) ⌝ }
+    ensures { λ r. ⌜ (r .line ≡ suc (t .line)) × Counted (linesOf (now (day .entry))) r (now (noted .exit)) (now (numbers .exit)) ⌝ }
 {
-    let boat = boat_at(day, i);
-    let q = bucket_of(boat);
-    let head = heads[q];
-    let first = first_same(day, i, boat, head, links);
+    let i = t.line;
+    let met = record::pass_line(day, i, t.at);
+    let boat = boat_of(met.line);
+    let first = first_same(&noted[..i], boat);
+    noted[i] = boat;
+    let line = i + 1;
+    let at = met.next;
     if first < i {
         let number = numbers[first];
-        put(numbers, i, number);
-        return count;
+        numbers[i] = number;
+        let boats = t.boats;
+        let read = first + 1;
+        let reads = t.reads + read;
+        return Tally {
+            line,
+            at,
+            boats,
+            reads,
+        };
     }
-    let next = count + 1;
-    put(links, i, head);
-    put(heads, q, (i + 1) as u16);
-    put(numbers, i, next);
-    next
+    let boats = t.boats + 1;
+    numbers[i] = boats as u16;
+    let reads = t.reads + i;
+    Tally {
+        line,
+        at,
+        boats,
+        reads,
+    }
 }
 
-// Each line's boat number. Returns how many different boats there are.
-pub fn number_boats(day: &[u8], lines: usize, numbers: &mut [u16; 4096]) -> usize
+// Each line's boat number, and the count: for each line the earlier lines are read from line 0 on, up to the first with its boat.
+pub fn number_boats(day: &[u8], lines: usize, numbers: &mut [u16; 4096]) -> BoatCount
     requires { ⌜ lines ≡ length (linesOf (now day)) ⌝ }
-    ensures { λ r. ⌜ (r ≡ length (boats (linesOf (now (day .entry))))) × (r ≤ 4096) × (take lines (now (numbers .exit)) ≡ codes (linesOf (now (day .entry)))) ⌝ }
+    ensures count { λ r. ⌜ (r .boats ≡ length (boats (linesOf (now (day .entry))))) × (r .boats ≤ 4096) × (r .reads ≡ reads (linesOf (now (day .entry)))) ⌝ }
+    ensures numbered { λ _. ⌜ take lines (now (numbers .exit)) ≡ codes (linesOf (now (day .entry))) ⌝ }
 {
-    let mut heads: [u16; 4096] = [0; 4096];
-    let mut links: [u16; 4096] = [0; 4096];
-    let mut count: u16 = 0;
-    let mut i: usize = 0;
-    while i < lines {
-        count = number_line(day, i, count, &mut heads, &mut links, numbers);
-        i += 1;
+    let mut noted: [u32; 4096] = [0; 4096];
+    let mut t = Tally {
+        line: 0,
+        at: record::FIRST_LINE,
+        boats: 0,
+        reads: 0,
+    };
+    while t.line < lines {
+        t = number_line(day, t, &mut noted, numbers);
     }
-    count as usize
+    BoatCount {
+        boats: t.boats,
+        reads: t.reads,
+    }
+}
+
+// Counts the different boats of a record: questions 1 to 7.
+pub fn count_boats(day: &[u8]) -> CountReply
+    ensures { λ r. ⌜ countReply r ≡ told (countOf (now (day .entry))) ⌝ }
+{
+    let whole = record::read_record(day);
+    let Reading::Record { places: _, lines } = whole else {
+        return CountReply::Refused(whole.number(), 0);
+    };
+    let mut numbers: [u16; 4096] = [0; 4096];
+    CountReply::Count(number_boats(day, lines, &mut numbers))
 }

@@ -8,6 +8,7 @@ use lib.Dec.{leb}
 use lib.ListN.{length, take, drop}
 use Rattle.meaning.specs.Outcome.{Outcome, refused, passed, Reply, value, refusal}
 use Rattle.meaning.specs.Record.{Line, Day, readRecord}
+use Rattle.meaning.specs.Count.{Count}
 use Rattle.meaning.specs.Pattern.{Pattern, readPattern, noneGiven}
 use Rattle.meaning.specs.Chain.{Accepted, First}
 use Rattle.pattern.specs.Promise.{Counts}
@@ -34,6 +35,18 @@ readNumber (passed l) room = cond (leb 5 room) 5 0
 abbrev pub readAfter : Outcome Line → List ℕ → List ℕ
 readAfter (refused number) fields = fields
 readAfter (passed l) fields = cond (leb 5 (length fields)) (fieldsOf l ++ drop 5 fields) fields
+
+-- ---- the count of boats in a lent list of words
+
+-- 2 where the list has room for both numbers, else 0
+abbrev pub countNumber : Outcome Count → ℕ → ℕ
+countNumber (refused number) room = number * 4294967296
+countNumber (passed c) room = cond (leb 2 room) 2 0
+
+-- boats and lines read at the front, or nothing written
+abbrev pub countAfter : Outcome Count → List ℕ → List ℕ
+countAfter (refused number) counts = counts
+countAfter (passed c) counts = cond (leb 2 (length counts)) (c .boats ∷ c .reads ∷ drop 2 counts) counts
 
 -- ---- a pattern's counts in a lent list of words
 

@@ -4,6 +4,7 @@ ghost use mathlib.Core.Path.{_≡_};
 ghost use mathlib.Core.List.{_∷_, _++_};
 ghost use Prim.Native.Nat.{_+_, _*_, _<_, _≤_};
 ghost use lib.ListN.{length, drop, set};
+ghost use Rattle.meaning.specs.Count.{countOf};
 ghost use Rattle.meaning.specs.Outcome.{told};
 ghost use Rattle.meaning.specs.Writing.{beginOf, beginAfter, addOf, addAfter, readOf};
 ghost use Rattle.meaning.specs.Pattern.{readPattern, noneGiven};
@@ -13,8 +14,9 @@ ghost use Rattle.finder.specs.Promise.{findOf, said, outAfter};
 ghost use Rattle.pattern.specs.Promise.{countsOf};
 ghost use Rattle.record.specs.Promise.{lineShown};
 ghost use Rattle.writing.specs.Promise.{writeReply};
-ghost use Rattle.exports.specs.Promise.{numberOf, fieldsOf, readNumber, readAfter, patternNumber, patternAfter, checkNumber, Membership, findNumber, FirstShortest, versionNumber};
+ghost use Rattle.exports.specs.Promise.{numberOf, fieldsOf, readNumber, readAfter, countNumber, countAfter, patternNumber, patternAfter, checkNumber, Membership, findNumber, FirstShortest, versionNumber};
 ghost use Rattle.exports.specs.Fits.{Fits32};
+use boats::CountReply;
 use checker::CheckReply;
 use finder::FindReply;
 use pattern::PatternReply;
@@ -33,7 +35,7 @@ pub extern "C" fn chains_version() -> u64
     1000000
 }
 
-// ---- refusals
+// ---- refusals and counts
 
 // A refusal as a number: the question's above the low 32 bits, and the second number there.
 fn refusal(q: u8, second: usize) -> u64
@@ -41,6 +43,15 @@ fn refusal(q: u8, second: usize) -> u64
     ensures { λ r. ⌜ r ≡ q * 4294967296 + second ⌝ }
 {
     q as u64 * 4294967296 + second as u64
+}
+
+// Puts two counts at the front of a list that has room for them.
+fn put_two(counts: &mut [u32], first: usize, second: usize)
+    requires { ⌜ (2 ≤ length (now counts)) × (first < 4294967296) × (second < 4294967296) ⌝ }
+    ensures { λ _. ⌜ now (counts .exit) ≡ first ∷ second ∷ drop 2 (now (counts .entry)) ⌝ }
+{
+    counts[0] = first as u32;
+    counts[1] = second as u32;
 }
 
 // ---- records
@@ -125,18 +136,29 @@ pub extern "C" fn chains_read(rec: &[u8], line: u16, fields: &mut [u32]) -> u64
     }
 }
 
-// ---- patterns
-
-// Puts a pattern's two counts at the front of a list that has room for them.
-fn put_counts(counts: &mut [u32], commands: usize, keeps: usize)
-    requires { ⌜ (2 ≤ length (now counts)) × (commands ≤ 63) × (keeps ≤ 3) ⌝ }
-    ensures { λ _. ⌜ now (counts .exit) ≡ commands ∷ keeps ∷ drop 2 (now (counts .entry)) ⌝ }
+// Counts the different boats of a record: how many there are, and how many earlier lines were read to tell, into the first two words of a
+// list; value: 2, or 0 where the list is shorter.
+#[no_mangle]
+pub extern "C" fn chains_boats(rec: &[u8], counts: &mut [u32]) -> u64
+    ensures reply { λ r. ⌜ r ≡ countNumber (countOf (now (rec .entry))) (length (now (counts .entry))) ⌝ }
+    ensures words { λ _. ⌜ now (counts .exit) ≡ countAfter (countOf (now (rec .entry))) (now (counts .entry)) ⌝ }
 {
-    counts[0] = commands as u32;
-    counts[1] = keeps as u32;
+    match boats::count_boats(rec) {
+        CountReply::Refused(q, _) => refusal(q, 0),
+        CountReply::Count(n) => {
+            let room = counts.len();
+            if room < 2 {
+                return 0;
+            }
+            put_two(counts, n.boats, n.reads);
+            2
+        }
+    }
 }
 
-// Puts its unfolded count after them.
+// ---- patterns
+
+// Puts a pattern's unfolded count after the first two.
 fn put_unfolded(counts: &mut [u32], unfolded: usize)
     requires { ⌜ (3 ≤ length (now counts)) × (unfolded ≤ 63) ⌝ }
     ensures { λ _. ⌜ now (counts .exit) ≡ set (now (counts .entry)) 2 unfolded ⌝ }
@@ -161,7 +183,7 @@ pub extern "C" fn chains_pattern(pat: &[u8], counts: &mut [u32]) -> u64
             if counts.len() < 2 {
                 return 0;
             }
-            put_counts(counts, commands, keeps);
+            put_two(counts, commands, keeps);
             if counts.len() < 3 {
                 return 2;
             }

@@ -5,6 +5,8 @@ pub mod Pattern
 pub mod Language
 pub mod Chain
 pub mod Request
+pub mod Count
 pub mod Rows
 pub mod RowsOfChains
 pub mod RowsOfRequests
+pub mod RowsOfCounts

@@ -3,4 +3,5 @@ pub mod Reading
 pub mod Outcomes
 pub mod Walk
 pub mod Whole
+pub mod Cursor
 pub mod Fit

@@ -1,12 +1,13 @@
 // The day's record: reading its bytes, and reading a line back.
 ghost use mathlib.Core.Path.{_≡_};
-ghost use Prim.Native.Nat.{_+_, _*_, _<_, _≤_};
+ghost use Prim.Native.Nat.{suc, _+_, _*_, _<_, _≤_};
 ghost use lib.ListN.{length, drop};
 ghost use Rattle.meaning.specs.Outcome.{passed, told};
 ghost use Rattle.meaning.specs.Record.{two, three, lineOf, askLine, entryAt, linesFrom, readRecord};
 ghost use Rattle.meaning.specs.Record.{line as line-entry};
 ghost use Rattle.meaning.specs.Writing.{lineAt, readOf};
 ghost use Rattle.record.specs.Whole.{linesOf};
+ghost use Rattle.record.specs.Cursor.{startOf};
 ghost use Rattle.record.specs.Promise.{lineReply, lineShown};
 ghost use Rattle.record.specs.Reading.{entryNumber, readingNumber, entryTold, closedWith, headTold, countedWith, readingTold};
 
@@ -17,6 +18,12 @@ pub struct Line {
     pub class: u8,
     pub sail: u32,
     pub to: u16,
+}
+
+// A line gone over, and the byte at which the next one begins.
+pub struct Met {
+    pub line: Line,
+    pub next: usize,
 }
 
 // What reading a line back says.
@@ -76,6 +83,11 @@ impl Reading {
 const LONGEST: usize = 40964;
 
 const MOST_PLACES: u16 = 1024;
+
+// The byte at which line 0 begins, and how many bytes a line has.
+pub const FIRST_LINE: usize = 3;
+
+const LINE_BYTES: usize = 10;
 
 // ---- numbers in bytes, the high byte first
 
@@ -182,14 +194,14 @@ fn lines_from(day: &[u8], places: usize) -> Reading
     requires { ⌜ (3 ≤ length (now day)) × (length (now day) ≤ 40964) ⌝ }
     ensures { λ r. ⌜ r ≡ countedWith places 0 (linesFrom (length (now (day .entry))) places (drop 3 (now (day .entry)))) ⌝ }
 {
-    let mut at: usize = 3;
+    let mut at: usize = FIRST_LINE;
     let mut lines: usize = 0;
     loop {
         let e = entry_at(&day[at..], places);
         let Entry::Line = e else {
             return closed(e, places, lines);
         };
-        at += 10;
+        at += LINE_BYTES;
         lines += 1;
     }
 }
@@ -228,14 +240,27 @@ pub fn read_record(day: &[u8]) -> Reading
     lines_from(day, places)
 }
 
+// ---- going over the lines
+
+// Line i of a record that passes, which begins at byte `at`. Whoever goes over a record does it by this, from `FIRST_LINE` on.
+pub fn pass_line(day: &[u8], i: usize, at: usize) -> Met
+    requires { ⌜ (i < length (linesOf (now day))) × (at ≡ startOf (linesOf (now day)) i) ⌝ }
+    ensures line { λ r. ⌜ (lineShown (r .line) ≡ lineAt (linesOf (now (day .entry))) i) × (r .line .sail < 16777216) ⌝ }
+    ensures next { λ r. ⌜ r .next ≡ startOf (linesOf (now (day .entry))) (suc i) ⌝ }
+{
+    let line = line_of(&day[at..]);
+    let next = at + LINE_BYTES;
+    Met { line, next }
+}
+
 // ---- reading lines back
 
 // Line i of a record that passes.
-pub fn line_at(day: &[u8], i: usize) -> Line
+fn line_at(day: &[u8], i: usize) -> Line
     requires { ⌜ i < length (linesOf (now day)) ⌝ }
     ensures { λ r. ⌜ (lineShown r ≡ lineAt (linesOf (now (day .entry))) i) × (r .sail < 16777216) ⌝ }
 {
-    let at = 3 + 10 * i;
+    let at = FIRST_LINE + LINE_BYTES * i;
     line_of(&day[at..])
 }
 

@@ -90,26 +90,38 @@ module _ (lines : List Line) (places c k : ℕ) where
       go true q t = let same : n ≡ size = cc in (q, cc, same, omega (arith, same, leb-true size largest q))
       go false q t = absurd (let z : _≡_ {A = ℕ} 0 1 = cc in omega arith)
 
+-- a size as it was told
+pub told-above : (m : ℕ) → Sizing.Above ≡ sizingTold m → leb m largest ≡ false
+told-above m h = go (leb m largest) h
+  where
+    go : (t : Bool) → Sizing.Above ≡ cond t (Sizing.Size m) Sizing.Above → t ≡ false
+    go true e = absurd (let z : _≡_ {A = ℕ} 0 1 = cc in omega arith)
+    go false e = refl
+
+pub told-size : (m n : ℕ) → Sizing.Size n ≡ sizingTold m → (leb m largest ≡ true) × (n ≡ m) × (n ≤ largest)
+told-size m n h = go (leb m largest) refl h
+  where
+    go : (t : Bool) → leb m largest ≡ t → Sizing.Size n ≡ cond t (Sizing.Size m) Sizing.Above → (leb m largest ≡ true) × (n ≡ m) × (n ≤ largest)
+    go true q e = let same : n ≡ m = cc in (q, same, omega (arith, same, leb-true m largest q))
+    go false q e = absurd (let z : _≡_ {A = ℕ} 0 1 = cc in omega arith)
+
 -- the size as the code steps to it
 module _ (lines : List Line) (places c k b : ℕ) (e : b ≡ length (boats lines)) where
-  stepped : places * suc c * (b + 1) ^ k ≡ places * suc c * suc (length (boats lines)) ^ k
+  pub stepped : places * suc c * (b + 1) ^ k ≡ places * suc c * suc (length (boats lines)) ^ k
   stepped = ap (λ (r : ℕ). places * suc c * r ^ k) (add-one b ∙ ap suc e)
 
+  -- and whether it is up to the limit
+  measured-by : (t : Bool) → leb (places * suc c * (b + 1) ^ k) largest ≡ t
+      → measuredTold lines places c k ≡ cond t (Measured.Size (length (boats lines)) (places * suc c * suc (length (boats lines)) ^ k)) Measured.Above
+  measured-by t q = ap (λ (x : Bool). cond x (Measured.Size (length (boats lines)) (places * suc c * suc (length (boats lines)) ^ k)) Measured.Above) (ap (λ (n : ℕ). leb n largest) (sym stepped) ∙ q)
+
   pub sizing-above : Sizing.Above ≡ sizingTold (places * suc c * (b + 1) ^ k) → Measured.Above ≡ measuredTold lines places c k
-  sizing-above h = go (leb (places * suc c * (b + 1) ^ k) largest) refl h
-    where
-      go : (t : Bool) → leb (places * suc c * (b + 1) ^ k) largest ≡ t → Sizing.Above ≡ cond t (Sizing.Size (places * suc c * (b + 1) ^ k)) Sizing.Above → Measured.Above ≡ measuredTold lines places c k
-      go true q t = absurd (let z : _≡_ {A = ℕ} 0 1 = cc in omega arith)
-      go false q t = sym (ap (λ (x : Bool). cond x (Measured.Size (length (boats lines)) (places * suc c * suc (length (boats lines)) ^ k)) Measured.Above) (ap (λ (n : ℕ). leb n largest) (sym stepped) ∙ q))
+  sizing-above h = sym (measured-by false (told-above (places * suc c * (b + 1) ^ k) h))
 
   pub sizing-size : (n : ℕ) → Sizing.Size n ≡ sizingTold (places * suc c * (b + 1) ^ k) → Measured.Size b n ≡ measuredTold lines places c k
-  sizing-size n h = go (leb (places * suc c * (b + 1) ^ k) largest) refl h
-    where
-      go : (t : Bool) → leb (places * suc c * (b + 1) ^ k) largest ≡ t → Sizing.Size n ≡ cond t (Sizing.Size (places * suc c * (b + 1) ^ k)) Sizing.Above → Measured.Size b n ≡ measuredTold lines places c k
-      go true q t =
-          let size : n ≡ places * suc c * (b + 1) ^ k = cc in
-          sym (ap (λ (x : Bool). cond x (Measured.Size (length (boats lines)) (places * suc c * suc (length (boats lines)) ^ k)) Measured.Above) (ap (λ (m : ℕ). leb m largest) (sym stepped) ∙ q) ∙ cc (e, size, stepped))
-      go false q t = absurd (let z : _≡_ {A = ℕ} 0 1 = cc in omega arith)
+  sizing-size n h =
+      let (small, size, low) = told-size (places * suc c * (b + 1) ^ k) n h in
+      sym (measured-by true small ∙ cc (e, size, stepped))
 
 -- ---- questions 15 to 17
 

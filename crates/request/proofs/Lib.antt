@@ -1,4 +1,5 @@
 pub mod Asking
 pub mod Sizes
 pub mod Fills
+pub mod Noting
 pub mod Tables

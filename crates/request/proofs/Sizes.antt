@@ -16,6 +16,10 @@ size-step n r k = mul-assoc n (r ^ k) r ∙ ap (λ (x : ℕ). n * x) (mul-comm (
 pub size-grows : (n r k m : ℕ) → 0 < r → k ≤ m → n * r ^ k ≤ n * r ^ m
 size-grows n r k m h le = mul-le-mul-left n (pow-le-pow-right h le)
 
+-- where nothing is kept there is one stack, whatever the radix
+pub none-kept : (n r k : ℕ) → k ≡ 0 → n * 1 ^ 0 ≡ n * r ^ k
+none-kept n r k none = ap (λ (x : ℕ). n * x) (pow-zero 1 ∙ sym (ap (λ (e : ℕ). r ^ e) none ∙ pow-zero r))
+
 -- ---- the boats' table
 
 -- it has no more words than the size

@@ -2,19 +2,21 @@
 ghost use mathlib.Core.Path.{_≡_};
 ghost use mathlib.Core.List.{_++_, map};
 ghost use Prim.Native.Nat.{suc, _+_, _*_, _^_, _<_, _≤_};
-ghost use lib.ListN.{length, getD, take, drop, replicate};
+ghost use lib.ListN.{length, take, drop, replicate};
 ghost use Rattle.meaning.specs.Outcome.{told};
 ghost use Rattle.meaning.specs.Request.{need, askBoth, askRequest, wordsOf};
-ghost use Rattle.meaning.specs.Writing.{lineAt};
 ghost use Rattle.meaning.specs.Record.{boats};
 ghost use Rattle.boats.specs.Codes.{codes};
 ghost use Rattle.boats.specs.Table.{boatTable};
-ghost use Rattle.request.specs.Loading.{BoatsNoted};
+ghost use Rattle.record.specs.Promise.{lineShown};
 ghost use Rattle.record.specs.Whole.{linesOf};
+ghost use Rattle.request.specs.Loading.{nextAfter, partAfter};
 ghost use Rattle.request.specs.Layout.{largest, tableWords, boatWords, Laid, Fitting, lineWord, fromIn, toIn, kindIn, boatsLoaded, loadedOf};
 ghost use Rattle.request.specs.Promise.{wordsReply};
 ghost use Rattle.request.specs.Asking.{bothTold, bothNumber, patternNumber, Small, sizingTold, measuredTold, Answers, Numbers, requestNumber};
 use pattern::PatternReply;
+use record::FIRST_LINE;
+use record::Line;
 use record::Reading;
 
 // The largest search size.
@@ -174,12 +176,26 @@ fn measure(
     ensures size { λ r. ⌜ r ≡ measuredTold (linesOf (now (day .entry))) places unfolded keeps ⌝ }
     ensures numbered { λ _. ⌜ take lines (now (numbers .exit)) ≡ codes (linesOf (now (day .entry))) ⌝ }
 {
-    let boats = boats::number_boats(day, lines, numbers);
+    let count = boats::number_boats(day, lines, numbers);
+    let boats = count.boats;
     let sizing = size_of(places, unfolded, boats + 1, keeps);
     let Sizing::Size(size) = sizing else {
         return Measured::Above;
     };
     Measured::Size { boats, size }
+}
+
+// The same size alone. Where nothing is kept there is one stack, whatever the boats, and they are not counted.
+fn sized(day: &[u8], places: usize, lines: usize, unfolded: usize, keeps: usize) -> Sizing
+    requires { ⌜ (lines ≡ length (linesOf (now day))) × (places ≤ 1024) × (unfolded ≤ 63) ⌝ }
+    ensures { λ r. ⌜ r ≡ sizingTold (places * suc unfolded * suc (length (boats (linesOf (now (day .entry))))) ^ keeps) ⌝ }
+{
+    if keeps == 0 {
+        return size_of(places, unfolded, 1, 0);
+    }
+    let mut numbers: [u16; 4096] = [0; 4096];
+    let count = boats::number_boats(day, lines, &mut numbers);
+    size_of(places, unfolded, count.boats + 1, keeps)
 }
 
 // The words that a search of a size needs.
@@ -336,9 +352,8 @@ pub fn words_needed(day: &[u8], pattern: &[u8]) -> WordsReply
     else {
         return WordsReply::Refused(both.number(), 0);
     };
-    let mut numbers: [u16; 4096] = [0; 4096];
-    let measured = measure(day, places, lines, unfolded, keeps, &mut numbers);
-    let Measured::Size { boats: _, size } = measured else {
+    let sizing = sized(day, places, lines, unfolded, keeps);
+    let Sizing::Size(size) = sizing else {
         return WordsReply::Refused(16, 0);
     };
     WordsReply::Words(words_for(size))
@@ -358,11 +373,9 @@ pub fn clear(work: &mut [u32])
 }
 
 // A line's from, to and kind in one word.
-fn line_word(day: &[u8], i: usize) -> u32
-    requires { ⌜ i < length (linesOf (now day)) ⌝ }
-    ensures { λ r. ⌜ r ≡ lineWord (lineAt (linesOf (now (day .entry))) i) ⌝ }
+fn line_word(l: Line) -> u32
+    ensures { λ r. ⌜ r ≡ lineWord (lineShown l) ⌝ }
 {
-    let l = record::line_at(day, i);
     l.from as u32 * 16384 + l.to as u32 * 16 + l.kind as u32
 }
 
@@ -390,9 +403,12 @@ fn load_lines(day: &[u8], part: &mut [u32])
     requires { ⌜ length (now part) ≡ length (linesOf (now day)) ⌝ }
     ensures { λ _. ⌜ now (part .exit) ≡ map lineWord (linesOf (now (day .entry))) ⌝ }
 {
+    let mut at: usize = FIRST_LINE;
     let mut i: usize = 0;
     while i < part.len() {
-        part[i] = line_word(day, i);
+        let met = record::pass_line(day, i, at);
+        part[i] = line_word(met.line);
+        at = met.next;
         i += 1;
     }
 }
@@ -416,14 +432,13 @@ fn load_codes(numbers: &[u16], part: &mut [u32])
     }
 }
 
-// The boat of line `i`, whose number is `number`, if it is the next one: a boat that no earlier line has. Returns the number after it.
-fn load_boat(day: &[u8], i: usize, number: u16, part: &mut [u32], next: usize) -> usize
-    requires { ⌜ (i < length (linesOf (now day))) × (number ≡ getD (codes (linesOf (now day))) i 0) ⌝ }
-    requires { ⌜ BoatsNoted (linesOf (now day)) i next (now part) ⌝ }
-    ensures { λ r. ⌜ BoatsNoted (linesOf (now (day .entry))) (suc i) r (now (part .exit)) ⌝ }
+// The boat of a line, whose number is `number`, if it is the next one: a boat that no earlier line has. Returns the number after it.
+fn load_boat(boat: u32, number: u16, part: &mut [u32], next: usize) -> usize
+    requires { ⌜ number < length (now part) ⌝ }
+    ensures { λ r. ⌜ (r ≡ nextAfter number next) × (now (part .exit) ≡ partAfter number next boat (now (part .entry))) ⌝ }
 {
     if number as usize == next {
-        part[next] = boats::boat_at(day, i);
+        part[next] = boat;
         return next + 1;
     }
     next
@@ -437,9 +452,12 @@ fn load_boats(day: &[u8], lines: usize, numbers: &[u16], part: &mut [u32])
 {
     part[0] = 0;
     let mut next: usize = 1;
+    let mut at: usize = FIRST_LINE;
     let mut i: usize = 0;
     while i < lines {
-        next = load_boat(day, i, numbers[i], part, next);
+        let passed = record::pass_line(day, i, at);
+        next = load_boat(boats::boat_of(passed.line), numbers[i], part, next);
+        at = passed.next;
         i += 1;
     }
 }

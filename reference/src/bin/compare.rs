@@ -1,7 +1,7 @@
 //! Compares the static library with this program: first the cases written by hand, then
 //! rounds made at random from three fixed seeds and a fresh one, which is printed.
 //!
-//! `compare BYTES WRITES CHECKS FINDS [SEED]`: how many rounds of each sort, shared
+//! `compare BYTES WRITES CHECKS FINDS BOATS [SEED]`: how many rounds of each sort, shared
 //! equally by the four seeds, and a seed in place of the fresh one. It ends with status 1
 //! at the first difference, which is printed with the whole request.
 
@@ -21,10 +21,10 @@ const FIXED_SEEDS: [u64; 3] = [1, 2, 3];
 fn main() {
     let arguments: Option<Vec<u64>> = std::env::args().skip(1).map(|a| a.parse().ok()).collect();
     let (counts, fresh) = match arguments.as_deref() {
-        Some(&[bytes, writes, checks, finds]) => ([bytes, writes, checks, finds], fresh_seed()),
-        Some(&[bytes, writes, checks, finds, seed]) => ([bytes, writes, checks, finds], seed),
+        Some(&[b, w, c, f, n]) => ([b, w, c, f, n], fresh_seed()),
+        Some(&[b, w, c, f, n, seed]) => ([b, w, c, f, n], seed),
         _ => {
-            eprintln!("compare BYTES WRITES CHECKS FINDS [SEED]");
+            eprintln!("compare BYTES WRITES CHECKS FINDS BOATS [SEED]");
             exit(2);
         }
     };

@@ -1,5 +1,6 @@
-//! This program once more behind the seven functions, with one fault in it.
+//! This program once more behind the eight functions, with one fault in it.
 
+use super::counting::counted;
 use super::reading::{self, asked_of_line, fits_machine, misread, places_pass};
 use super::searching;
 use super::Fault::{self, *};
@@ -31,10 +32,10 @@ impl Faulty {
             SizeByLines => spots * power(record.lines.len() + 1),
             SizeByBytes => by(pattern_bytes),
             SizeAsWritten => by(pattern.commands),
-            SizeWithoutOne => spots * power(boats(record)),
+            SizeWithoutOne => spots * power(counted(self.0, &record.lines).0),
             SizeWithoutUnread => {
                 let unread = record.lines.iter().any(|line| line.boat() == UNREAD);
-                spots * power(boats(record) + 1 - unread as usize)
+                spots * power(counted(self.0, &record.lines).0 + 1 - unread as usize)
             }
             SizeWraps => right as u32 as u128,
             _ => right,
@@ -226,14 +227,6 @@ impl Faulty {
     }
 }
 
-/// How many different boats a record has.
-fn boats(record: &Record) -> usize {
-    let mut boats: Vec<_> = record.lines.iter().map(Line::boat).collect();
-    boats.sort_unstable();
-    boats.dedup();
-    boats.len()
-}
-
 /// The first shortest chain of the lines in the opposite order.
 fn last_chain(asked: &Asked) -> Option<Vec<u16>> {
     let mut lines = asked.record.lines.clone();
@@ -339,6 +332,37 @@ impl Library for Faulty {
         } else {
             written as u64
         }
+    }
+
+    fn boats(&self, rec: &[u8], counts: &mut [u32]) -> u64 {
+        if self.is(RoomBeforeRecord) && counts.len() < 2 {
+            return 0;
+        }
+        let record = match reading::read_record(self.0, rec) {
+            Ok(record) => record,
+            Err(number) => {
+                if self.is(WritesWhereRefused) {
+                    counts.iter_mut().take(2).for_each(|word| *word = 0);
+                }
+                return refused(number, 0);
+            }
+        };
+        let (boats, reads) = counted(self.0, &record.lines);
+        let mut values = [boats as u32, reads as u32];
+        match (self.0, counts.len()) {
+            (OneWordForBoats, 1) => {
+                counts[0] = values[0];
+                return 1;
+            }
+            (_, 0 | 1) => return 0,
+            (ReadsBeforeBoats, _) => values.swap(0, 1),
+            // The comparison lends a part of a longer buffer, so the word exists.
+            (ThirdPastBoats, 2) => unsafe { *counts.as_mut_ptr().add(2) = 0 },
+            (ThirdBesideBoats, 3..) => counts[2] = 0,
+            _ => {}
+        }
+        counts[..2].copy_from_slice(&values);
+        2
     }
 
     fn words(&self, rec: &[u8], pat: &[u8]) -> u64 {

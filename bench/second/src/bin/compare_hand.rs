@@ -1,8 +1,8 @@
 //! Compares the hand-written C with the second program: every reply, every lent word and the
 //! chains, on the cases written by hand and on requests made at random. Both indexes of
-//! lines are compared. Only finding and checking are in C.
+//! lines are compared. Finding, checking, the words needed and the count of boats are in C.
 //!
-//! `compare_hand CHECKS FINDS SEED`. It ends with status 1 at the first difference.
+//! `compare_hand CHECKS FINDS BOATS SEED`. It ends with status 1 at the first difference.
 
 use reference::cases::{Bench, ALL};
 use reference::library::{Ask, Library, Own};
@@ -66,6 +66,8 @@ extern "C" {
         work: *mut u32,
         work_len: usize,
     ) -> u64;
+    fn hand_words(rec: *const u8, rec_len: usize, pat: *const u8, pat_len: usize) -> u64;
+    fn hand_boats(rec: *const u8, rec_len: usize, counts: *mut u32, counts_len: usize) -> u64;
 }
 
 struct Hand(Find);
@@ -87,8 +89,12 @@ impl Library for Hand {
         Own.pattern(pat, counts)
     }
 
+    fn boats(&self, rec: &[u8], counts: &mut [u32]) -> u64 {
+        unsafe { hand_boats(rec.as_ptr(), rec.len(), counts.as_mut_ptr(), counts.len()) }
+    }
+
     fn words(&self, rec: &[u8], pat: &[u8]) -> u64 {
-        Own.words(rec, pat)
+        unsafe { hand_words(rec.as_ptr(), rec.len(), pat.as_ptr(), pat.len()) }
     }
 
     fn check(&self, ask: Ask, chain: &[u16], work: &mut [u32]) -> u64 {
@@ -129,8 +135,8 @@ impl Library for Hand {
 
 fn main() {
     let numbers: Option<Vec<u64>> = std::env::args().skip(1).map(|a| a.parse().ok()).collect();
-    let Some(&[checks, finds, seed]) = numbers.as_deref() else {
-        eprintln!("compare_hand CHECKS FINDS SEED");
+    let Some(&[checks, finds, boats, seed]) = numbers.as_deref() else {
+        eprintln!("compare_hand CHECKS FINDS BOATS SEED");
         exit(2);
     };
     for (name, find) in [
@@ -153,8 +159,11 @@ fn main() {
             refused += u64::from(replies[0] >> 32 != 0);
             found += u64::from(replies[0] < 4_294_967_295);
         }
+        for _ in 0..boats {
+            stop_at(rounds::boats(&hand, &mut random).map(|_| ()), "boats");
+        }
         println!(
-            "hand-written C, lines {name}: {} cases, {checks} checks, {finds} finds ({found} found, {refused} refused), no difference",
+            "hand-written C, lines {name}: {} cases, {checks} checks, {finds} finds ({found} found, {refused} refused), {boats} counts of boats, no difference",
             ALL.len()
         );
     }

@@ -1,82 +1,110 @@
--- `boats::first_same` meets its contract: the walk passes no first line with the boat of line i. Assumes nothing.
-use mathlib.Core.Path.{_≡_, sym, _∙_, subst}
-use Prim.Native.Nat.{suc, _-_, _<_}
+-- `boats::first_same` meets its contract: no word before the j-th is the boat's, nor is any that is read in a turn and is not the last read.
+-- Assumes nothing.
+use Prim.Native.Nat.{_+_, _-_, _<_, _≤_}
 use native.Mathlib.Omega.{arith}
-use Rattle.boats.specs.Boats.{number-agree, number-differ}
-use Rattle.boats.specs.Buckets.{Latest}
-use Rattle.record.specs.Whole.{linesOf, lines-short}
-use Rattle.boats.proofs.Bucketing.{Met, met-from, met-none, met-hit, met-down, met-next}
+use lib.ListN.{length}
+use Rattle.boats.specs.Counting.{NoneBefore, first-here, none-next}
 use borrow.Author.Needs.{needs}
 use Rattle.boats.proofs.first_same.Statement.{statement}
 use Rattle.boats.proofs.first_same.Tie as tie
 
 abbrev Inv-loop : tie.InvT-loop
-Inv-loop day i boat head links at₀ at = Met (linesOf day) i at
+Inv-loop noted boat j₀ j = (j ≤ length noted) × NoneBefore noted boat j
 
 abbrev μ-loop : tie.MeasureT-loop
-μ-loop day i boat head links at₀ at = at
-
-wide-requires : tie.Need-wide-requires Inv-loop μ-loop
-wide-requires c κs = search needs
+μ-loop noted boat j₀ j = length noted - j
 
 loop-holds : tie.Need-loop-holds Inv-loop μ-loop
-loop-holds c =
-    let a = c .before .before in
-    met-from (linesOf (a .args .day .now)) (a .args .i) (a .pre .0) (subst (Latest (linesOf (a .args .day .now)) _ (a .args .i)) (sym (c .wide .ensures)) (a .pre .1 .1 .0))
+loop-holds c = (omega arith, record { none = λ k less. absurd (omega (arith, less)) })
 
-sub-j : tie.Need-sub-j Inv-loop μ-loop
-sub-j c = omega (arith, c .loop-test .taken)
+add-loop : tie.Need-add-loop Inv-loop μ-loop
+add-loop c = search needs
 
-boat-at-requires : tie.Need-boat-at-requires Inv-loop μ-loop
-boat-at-requires c κs = omega (arith, c .loop-test .taken, c .before .loop .inv .early, c .before .before .before .before .pre .0)
+mul-if1 : tie.Need-mul-if1 Inv-loop μ-loop
+mul-if1 c = search needs
 
--- the line that the walk has come to
-back : (c : tie.In-loop Inv-loop μ-loop) → c .before .loop .at ≡ suc (c .before .loop .at - 1)
-back c = omega (arith, c .loop-test .taken)
+-- ---- the four words of a turn
 
-low : (c : tie.In-loop Inv-loop μ-loop) → c .before .loop .at - 1 < 4096
-low c = let a = c .before .before .before .before in omega (arith, c .loop-test .taken, c .before .loop .inv .early, a .pre .0, lines-short (a .args .day .now))
+-- they are there
+four : (c : tie.In-loop Inv-loop μ-loop) → c .before .loop .j + 3 < length (c .before .before .before .args .noted .now)
+four c = c .loop-test .taken
+
+shared-slice-read-if1 : tie.Need-shared-slice-read-if1 Inv-loop μ-loop
+shared-slice-read-if1 c = omega (arith, four (c .before))
 
 returns : tie.Need-returns Inv-loop μ-loop
 returns c =
     let b = c .before .before in
-    let a = b .before .before .before .before in
-    let one = a .pre .1 .0 in
-    let two = c .before .boat-at .ensures in
-    sym (met-hit (linesOf (a .args .day .now)) (a .args .i) (a .pre .0) (b .before .loop .inv) _ (back b) (number-agree _ _ (one .small) (two .small) (sym (one .is) ∙ (sym (c .if1 .taken) ∙ two .is))))
+    first-here (b .before .loop .inv .1) (omega (arith, four b)) (c .if1 .taken)
 
-mul-wide : tie.Need-mul-wide Inv-loop μ-loop
-mul-wide c = omega (arith, low (c .before .before))
+add-k : tie.Need-add-k Inv-loop μ-loop
+add-k c = search needs
 
-element-copy-out-wide : tie.Need-element-copy-out-wide Inv-loop μ-loop
-element-copy-out-wide c = low (c .before .before)
+mul-if2 : tie.Need-mul-if2 Inv-loop μ-loop
+mul-if2 c = search needs
 
-wide-requires-2 : tie.Need-wide-requires-2 Inv-loop μ-loop
-wide-requires-2 c κs = search needs
+shared-slice-read-if2 : tie.Need-shared-slice-read-if2 Inv-loop μ-loop
+shared-slice-read-if2 c = omega (arith, four (c .before .before .before))
 
--- the walk goes on
-on : (c : tie.After-wide2 Inv-loop μ-loop) → let a = c .before .before .before .before .before .before .before .before in Met (linesOf (a .args .day .now)) (a .args .i) (c .wide2 .result)
-on c =
-    let k = c .before .before .before in
-    let b = k .before in
-    let a = b .before .before .before .before in
-    let one = a .pre .1 .0 in
-    let two = k .boat-at .ensures in
-    subst (Met (linesOf (a .args .day .now)) (a .args .i)) (sym (c .wide2 .ensures)) (met-next (linesOf (a .args .day .now)) (a .args .i) (a .pre .0) (b .before .loop .inv) _ (back b) (a .args .links .now) (a .pre .1 .1 .1) (number-differ _ _ (one .small) (two .small) (λ e. c .before .before .if1 .left (two .is ∙ (sym e ∙ sym (one .is))))))
-
-loop-less : tie.Need-loop-less Inv-loop μ-loop
-loop-less c =
-    let b = c .before .before .before .before in
-    let a = b .before .before .before .before in
-    omega (arith, c .wide2 .ensures, back b, met-down (linesOf (a .args .day .now)) (a .args .i) (a .pre .0) (b .before .loop .inv) _ (back b) (a .args .links .now) (a .pre .1 .1 .1))
-
-loop-again : tie.Need-loop-again Inv-loop μ-loop
-loop-again c = on c
+none-1 : (c : tie.Else1 Inv-loop μ-loop) → NoneBefore (c .before .before .before .before .before .args .noted .now) (c .before .before .before .before .before .args .boat) (c .before .before .before .loop .j + 1)
+none-1 c = none-next (c .before .before .before .loop .inv .1) (c .if1 .left)
 
 returns-2 : tie.Need-returns-2 Inv-loop μ-loop
 returns-2 c =
-    let a = c .before .before .before .before in
-    sym (met-none (linesOf (a .args .day .now)) (a .args .i) (a .pre .0) (c .before .loop .inv) (omega (arith, c .loop-test .left)))
+    let b = c .before .before in
+    first-here (none-1 b) (omega (arith, four (b .before .before))) (c .if2 .taken)
+
+add-l : tie.Need-add-l Inv-loop μ-loop
+add-l c = search needs
+
+mul-if3 : tie.Need-mul-if3 Inv-loop μ-loop
+mul-if3 c = search needs
+
+shared-slice-read-if3 : tie.Need-shared-slice-read-if3 Inv-loop μ-loop
+shared-slice-read-if3 c = omega (arith, four (c .before .before .before .before .before))
+
+none-2 : (c : tie.Else2 Inv-loop μ-loop) → let b = c .before .before .before .before .before in NoneBefore (b .before .before .args .noted .now) (b .before .before .args .boat) (b .loop .j + 1 + 1)
+none-2 c = none-next (none-1 (c .before .before)) (c .if2 .left)
+
+returns-3 : tie.Need-returns-3 Inv-loop μ-loop
+returns-3 c =
+    let b = c .before .before in
+    first-here (none-2 b) (omega (arith, four (b .before .before .before .before))) (c .if3 .taken)
+
+add-m : tie.Need-add-m Inv-loop μ-loop
+add-m c = search needs
+
+mul-if4 : tie.Need-mul-if4 Inv-loop μ-loop
+mul-if4 c = search needs
+
+shared-slice-read-if4 : tie.Need-shared-slice-read-if4 Inv-loop μ-loop
+shared-slice-read-if4 c = omega (arith, four (c .before .before .before .before .before .before .before))
+
+none-3 : (c : tie.Else3 Inv-loop μ-loop) → let b = c .before .before .before .before .before .before .before in NoneBefore (b .before .before .args .noted .now) (b .before .before .args .boat) (b .loop .j + 1 + 1 + 1)
+none-3 c = none-next (none-2 (c .before .before)) (c .if3 .left)
+
+returns-4 : tie.Need-returns-4 Inv-loop μ-loop
+returns-4 c =
+    let b = c .before .before in
+    first-here (none-3 b) (omega (arith, four (b .before .before .before .before .before .before))) (c .if4 .taken)
+
+-- ---- the turn after it, and the rest
+
+add-j : tie.Need-add-j Inv-loop μ-loop
+add-j c = search needs
+
+loop-less : tie.Need-loop-less Inv-loop μ-loop
+loop-less c = omega (arith, four (c .before .before .before .before .before .before .before .before))
+
+loop-again : tie.Need-loop-again Inv-loop μ-loop
+loop-again c =
+    (omega (arith, four (c .before .before .before .before .before .before .before .before)), none-next (none-3 (c .before .before)) (c .if4 .left))
+
+first-from-requires : tie.Need-first-from-requires Inv-loop μ-loop
+first-from-requires c κs = c .before .loop .inv
+
+returns-5 : tie.Need-returns-5 Inv-loop μ-loop
+returns-5 c = search needs
 
 pub first-same-spec : {M : Type 1} → statement M
 first-same-spec =
@@ -84,14 +112,25 @@ first-same-spec =
     (tie.spec
     Inv-loop
     μ-loop
-    wide-requires
     loop-holds
-    sub-j
-    boat-at-requires
+    add-loop
+    mul-if1
+    shared-slice-read-if1
     returns
-    mul-wide
-    element-copy-out-wide
-    wide-requires-2
+    add-k
+    mul-if2
+    shared-slice-read-if2
+    returns-2
+    add-l
+    mul-if3
+    shared-slice-read-if3
+    returns-3
+    add-m
+    mul-if4
+    shared-slice-read-if4
+    returns-4
+    add-j
     loop-less
     loop-again
-    returns-2)
+    first-from-requires
+    returns-5)

@@ -1,131 +1,164 @@
--- `boats::number_line` meets its contract: a line whose boat is known gets that boat's number, another the next one and the front of its bucket.
+-- `boats::number_line` meets its contract: a line whose boat an earlier line has gets that line's number, another the next one.
 -- Assumes nothing.
-use mathlib.Core.Path.{_≡_, sym, ap, _∙_, subst, transport⁻¹}
+use mathlib.Core.Path.{_≡_, sym, ap, _∙_, subst}
 use mathlib.Core.List.{List}
-use Prim.Native.Nat.{ℕ, suc, _<_, _≤_}
+use Prim.Native.Nat.{ℕ, _<_, _≤_}
 use native.Mathlib.Numerals.{add-one}
 use native.Mathlib.Omega.{arith}
-use lib.ListN.{getD, set}
-use Rattle.meaning.specs.Record.{Line}
-use Rattle.boats.specs.Boats.{firstSame}
-use Rattle.boats.specs.Buckets.{bucketOf, bucketAt, Latest, Numbered}
+use lib.ListN.{getD}
+use lib.Seq.{length-take-le}
+use Rattle.meaning.specs.Record.{Line, boats}
+use Rattle.meaning.specs.Writing.{lineAt}
+use Rattle.meaning.specs.Count.{firstSame}
 use Rattle.record.specs.Whole.{linesOf, lines-short}
-use Rattle.boats.proofs.Bucketing.{first-early, numbered-few, numbered-earlier, numbered-new}
+use Rattle.boats.specs.Boats.{BoatIs}
+use Rattle.boats.specs.Counting.{first-noted}
+use Rattle.boats.proofs.Tallying.{tally-few, tally-low, tally-met, tally-new, tally-next}
 use borrow.Author.Needs.{needs}
 use Rattle.boats.proofs.number_line.Statement.{statement}
 use Rattle.boats.proofs.number_line.Tie as tie
 
-boat-at-requires : tie.Need-boat-at-requires
-boat-at-requires c κs = search needs
+pass-line-requires : tie.Need-pass-line-requires
+pass-line-requires c κs = search needs
 
-bucket-of-requires : tie.Need-bucket-of-requires
-bucket-of-requires c κs = search needs
+boat-of-requires : tie.Need-boat-of-requires
+boat-of-requires c κs = search needs
 
-mul-head : tie.Need-mul-head
-mul-head c = search needs
+slice-reshare-prefix-first-same : tie.Need-slice-reshare-prefix-first-same
+slice-reshare-prefix-first-same c = search needs
 
-element-copy-out-head : tie.Need-element-copy-out-head
-element-copy-out-head c = search needs
-
--- ---- where the bucket is known
-
-abbrev lines : tie.After-bucket-of → List Line
-lines b = linesOf (b .before .before .before .args .day .now)
-
-abbrev line : tie.After-bucket-of → ℕ
-line b = b .before .before .before .args .i
-
-bucket-is : (b : tie.After-bucket-of) → b .bucket-of .result ≡ bucketAt (lines b) (line b)
-bucket-is b = b .bucket-of .ensures .0 ∙ ap bucketOf (b .before .boat-at .ensures .is)
-
-line-low : (b : tie.After-bucket-of) → line b < 4096
-line-low b = omega (arith, b .before .before .before .pre .0, lines-short (b .before .before .before .args .day .now))
-
-few : (b : tie.After-bucket-of) → b .before .before .before .args .count ≤ line b
-few b = let a = b .before .before .before in numbered-few (lines b) (a .pre .1) (omega (arith, a .pre .0))
+slice-aggregate-first-same : tie.Need-slice-aggregate-first-same
+slice-aggregate-first-same c =
+    let a = c .before .before .before .before .before .before in
+    sym (length-take-le (a .args .t .line) (a .args .noted .now) (omega (arith, a .pre .0 .1)))
 
 first-same-requires : tie.Need-first-same-requires
-first-same-requires c κs =
-    let b = c .before .before in
-    let a = b .before .before .before in
-    (a .pre .0, (b .before .boat-at .ensures, (subst (λ q. Latest (lines b) q (line b) (getD (a .args .heads .now) (b .bucket-of .result) 0)) (bucket-is b) (a .pre .1 .heads-are (b .bucket-of .result) (b .bucket-of .ensures .1)), a .pre .1 .links-are)))
+first-same-requires c κs = search needs
 
--- ---- where an earlier line has the boat
+-- ---- where the first line with the boat is known
+
+abbrev start : tie.After-first-same → tie.Start
+start b = b .before .before .before .before .before .before .before
+
+abbrev lines : tie.After-first-same → List Line
+lines b = linesOf (start b .args .day .now)
+
+abbrev i : tie.After-first-same → ℕ
+i b = start b .args .t .line
+
+-- the boat as it was noted
+boat-is : (b : tie.After-first-same) → BoatIs (lineAt (lines b) (i b) .boat) (b .before .before .boat-of .result)
+boat-is b = subst (λ (l : Line). BoatIs (l .boat) (b .before .before .boat-of .result)) (b .before .before .before .pass-line .ensures .0 .0) (b .before .before .boat-of .ensures)
+
+first-is : (b : tie.After-first-same) → b .first-same .result ≡ firstSame (lines b) (i b)
+first-is b =
+    let a = start b in
+    first-noted (lines b) (i b) (a .pre .0 .0) (a .args .noted .now) (omega (arith, a .pre .0 .1)) (a .pre .1 .words) _ _ (boat-is b) (b .first-same .ensures)
+
+low : (b : tie.After-first-same) → i b < 4096
+low b = omega (arith, start b .pre .0 .0, lines-short (start b .args .day .now))
+
+few : (b : tie.After-first-same) → start b .args .t .boats ≤ i b
+few b = tally-few (lines b) (start b .pre .1) (omega (arith, start b .pre .0 .0))
+
+read : (b : tie.After-first-same) → start b .args .t .reads ≤ 16777216
+read b = tally-low (lines b) (start b .pre .1) (omega (arith, low b))
+
+mul-noted : tie.Need-mul-noted
+mul-noted c = search needs
+
+slice-write-noted : tie.Need-slice-write-noted
+slice-write-noted c = search needs
+
+add-line : tie.Need-add-line
+add-line c = search needs
 
 mul-number : tie.Need-mul-number
-mul-number c = omega (arith, c .if1 .taken, line-low (c .before .before .before .before))
+mul-number c = search needs
 
-element-copy-out-number : tie.Need-element-copy-out-number
-element-copy-out-number c = omega (arith, c .if1 .taken, line-low (c .before .before .before .before))
+slice-read-number : tie.Need-slice-read-number
+slice-read-number c = search needs
 
-put-requires : tie.Need-put-requires
-put-requires c κs = omega (arith, c .put-arg .given .0 .1, line-low (c .before .before .before .before .before .before))
+mul-numbers : tie.Need-mul-numbers
+mul-numbers c = search needs
+
+slice-write-numbers : tie.Need-slice-write-numbers
+slice-write-numbers c = search needs
+
+add-read : tie.Need-add-read
+add-read c = search needs
+
+add-reads : tie.Need-add-reads
+add-reads c = let b = c .before .before .before in omega (arith, read b, low b, c .before .before .if1 .taken)
+
+same-length : tie.Need-same-length
+same-length c = search needs
+
+same-length-2 : tie.Need-same-length-2
+same-length-2 c = search needs
 
 returns : tie.Need-returns
 returns c =
-    let d = c .before .before .before .before in
-    let b = d .before .before .before in
-    let a = b .before .before .before in
-    let told = d .first-same .ensures in
-    subst (Numbered (lines b) (suc (line b)) (a .args .count) (a .args .heads .now) (a .args .links .now))
-    (sym (c .put .ensures ∙ ap (λ f. set (a .args .numbers .now) (line b) (getD (a .args .numbers .now) f 0)) told))
-    (numbered-earlier (lines b) (a .pre .1) (a .pre .0) (omega (arith, c .before .put-arg .given .0 .1, line-low b)) (omega (arith, told, c .before .before .before .if1 .taken)))
+    let b = c .before .before .before in
+    let a = start b in
+    let (same, number, read) = tally-met (lines b) (a .pre .1) (a .pre .0 .0) (omega (arith, sym (first-is b), c .before .before .if1 .taken)) in
+    (add-one (i b), tally-next (lines b) (a .pre .1) (a .pre .0 .0) _ _ _ (boat-is b) (ap (λ f. getD (a .args .numbers .now) f 0) (first-is b) ∙ number) (a .pre .0 .1) (a .pre .0 .2) (add-one (i b)) (b .before .before .before .pass-line .ensures .1) same (omega (arith, first-is b, read)))
 
--- ---- where none has it
+add-boats : tie.Need-add-boats
+add-boats c = let b = c .before .before in omega (arith, few b, low b)
 
-add-next : tie.Need-add-next
-add-next c = omega (arith, few (c .before .before .before .before), line-low (c .before .before .before .before))
+cast-numbers : tie.Need-cast-numbers
+cast-numbers c = let b = c .before .before in omega (arith, few b, low b)
 
-put-requires-2 : tie.Need-put-requires-2
-put-requires-2 c κs = omega (arith, c .put-arg2 .given .0 .1, line-low (c .before .before .before .before .before))
+mul-numbers-2 : tie.Need-mul-numbers-2
+mul-numbers-2 c = search needs
 
-add-put : tie.Need-add-put
-add-put c = omega (arith, line-low (c .before .before .before .before .before .before .before))
+slice-write-numbers-2 : tie.Need-slice-write-numbers-2
+slice-write-numbers-2 c = search needs
 
-cast-put : tie.Need-cast-put
-cast-put c = omega (arith, line-low (c .before .before .before .before .before .before .before))
+add-reads-2 : tie.Need-add-reads-2
+add-reads-2 c = let b = c .before .before .before in omega (arith, read b, low b)
 
-put-requires-3 : tie.Need-put-requires-3
-put-requires-3 c κs = search needs
+same-length-3 : tie.Need-same-length-3
+same-length-3 c = search needs
 
-put-requires-4 : tie.Need-put-requires-4
-put-requires-4 c κs = omega (arith, c .put-arg4 .given .0 .1, line-low (c .before .before .before .before .before .before .before .before .before))
+same-length-4 : tie.Need-same-length-4
+same-length-4 c = search needs
 
 returns-2 : tie.Need-returns-2
 returns-2 c =
-    let heads = c .before .before in
-    let links = heads .before .before in
-    let d = links .before .before .before in
-    let b = d .before .before .before in
-    let a = b .before .before .before in
-    let q = bucket-is b in
-    let own : firstSame (lines b) (line b) ≡ line b =
-    omega (arith, d .first-same .ensures, links .before .before .if1 .left, first-early (lines b) (line b) (a .pre .0)) in
-    let one = add-one (line b) in
-    let next = add-one (a .args .count) in
-    let made = numbered-new (lines b) (a .pre .1) (a .pre .0) (omega (arith, sym q, b .bucket-of .ensures .1)) (heads .before .put-arg3 .given .0 .1) (omega (arith, links .before .put-arg2 .given .0 .1, line-low b)) (omega (arith, c .before .put-arg4 .given .0 .1, line-low b)) own in
-    transport⁻¹ (λ t. Numbered (lines b) (suc (line b)) (next t)
-    ((heads .put3 .ensures ∙ (λ u. set (a .args .heads .now) (q u) (one u))) t)
-    ((links .put2 .ensures ∙ (λ u. set (a .args .links .now) (line b) (getD (a .args .heads .now) (q u) 0))) t)
-    ((c .put4 .ensures ∙ (λ u. set (a .args .numbers .now) (line b) (next u))) t)) made
+    let b = c .before .before .before in
+    let a = start b in
+    let (more, number, read) = tally-new (lines b) (a .pre .1) (a .pre .0 .0) (λ less. omega (arith, c .before .before .if1 .left, first-is b, less)) in
+    let next = add-one (a .args .t .boats) in
+    (add-one (i b), tally-next (lines b) (a .pre .1) (a .pre .0 .0) _ _ _ (boat-is b) (next ∙ number) (a .pre .0 .1) (a .pre .0 .2) (add-one (i b)) (b .before .before .before .pass-line .ensures .1) (next ∙ more) (omega (arith, read)))
 
 pub number-line-spec : {M : Type 1} → statement M
 number-line-spec =
     tie.close
     (tie.spec
-    boat-at-requires
-    bucket-of-requires
-    mul-head
-    element-copy-out-head
+    pass-line-requires
+    boat-of-requires
+    slice-reshare-prefix-first-same
+    slice-aggregate-first-same
     first-same-requires
+    mul-noted
+    slice-write-noted
+    add-line
     mul-number
-    element-copy-out-number
-    put-requires
+    slice-read-number
+    mul-numbers
+    slice-write-numbers
+    add-read
+    add-reads
+    same-length
+    same-length-2
     returns
-    add-next
-    put-requires-2
-    add-put
-    cast-put
-    put-requires-3
-    put-requires-4
+    add-boats
+    cast-numbers
+    mul-numbers-2
+    slice-write-numbers-2
+    add-reads-2
+    same-length-3
+    same-length-4
     returns-2)

@@ -32,11 +32,11 @@ returns c =
     let a = b .before .before .before .args in
     rw (told-passed (countsOf (readPattern noneGiven (a .pat .now))) _ (ap patternReply (sym (c .before .before .commands .given .1)) ∙ b .read-pattern .ensures .0), lt-leb 3 (length (a .counts .now)) (omega (arith, c .if1 .taken)), lt-leb 2 (length (a .counts .now)) (c .if1 .taken)) (refl, refl)
 
-put-counts-requires : tie.Need-put-counts-requires
-put-counts-requires c κs =
+put-two-requires : tie.Need-put-two-requires
+put-two-requires c κs =
     let b = c .before .before .before in
     let small = subst Small (b .commands .given .1) (b .before .before .read-pattern .ensures .1) in
-    (c .before .if1 .left, small .0, small .2)
+    (c .before .if1 .left, omega (arith, small .0), omega (arith, small .2))
 
 same-length : tie.Need-same-length
 same-length c = search needs
@@ -44,7 +44,7 @@ same-length c = search needs
 -- ---- where the first two are put
 
 abbrev At-two : Type 0
-At-two = tie.After-put-counts
+At-two = tie.After-put-two
 
 abbrev words : At-two → List ℕ
 words c = c .before .before .before .before .before .before .before .before .before .args .counts .now
@@ -65,13 +65,13 @@ passes c =
     told-passed (countsOf (readPattern noneGiven (bytes c))) (told-counts c) (ap patternReply (sym (b .commands .given .1)) ∙ b .before .before .read-pattern .ensures .0)
 
 -- as many words as before
-long : (c : At-two) → length (c .put-counts .last .0) ≡ length (words c)
-long c = ap length (c .put-counts .ensures) ∙ two-long (words c) (told-counts c .commands) (told-counts c .keeps) (room c)
+long : (c : At-two) → length (c .put-two .last .0) ≡ length (words c)
+long c = ap length (c .put-two .ensures) ∙ two-long (words c) (told-counts c .commands) (told-counts c .keeps) (room c)
 
 returns-2 : tie.Need-returns-2
 returns-2 c =
     let p = c .before .before .before in
-    rw (passes p, lt-leb 3 (length (words p)) (omega (arith, c .if2 .taken, long p)), le-leb 2 (length (words p)) (room p)) (refl, p .put-counts .ensures)
+    rw (passes p, lt-leb 3 (length (words p)) (omega (arith, c .if2 .taken, long p)), le-leb 2 (length (words p)) (room p)) (refl, p .put-two .ensures)
 
 put-unfolded-requires : tie.Need-put-unfolded-requires
 put-unfolded-requires c κs =
@@ -95,7 +95,7 @@ returns-4 c =
     let p = u .before .before .before .before .before in
     let three : 3 ≤ length (words p) = omega (arith, u .before .before .if2 .left, long p) in
     rw (passes p, le-leb 3 (length (words p)) three)
-    (refl, u .put-unfolded .ensures ∙ (ap (λ (l : List ℕ). set l 2 (told-counts p .unfolded)) (p .put-counts .ensures) ∙ set-third (words p) (told-counts p .commands) (told-counts p .keeps) (told-counts p .unfolded) three))
+    (refl, u .put-unfolded .ensures ∙ (ap (λ (l : List ℕ). set l 2 (told-counts p .unfolded)) (p .put-two .ensures) ∙ set-third (words p) (told-counts p .commands) (told-counts p .keeps) (told-counts p .unfolded) three))
 
 pub chains-pattern-spec : {M : Type 1} → statement M
 chains-pattern-spec =
@@ -106,7 +106,7 @@ chains-pattern-spec =
     refusal-requires
     enum-known-commands
     returns
-    put-counts-requires
+    put-two-requires
     same-length
     returns-2
     put-unfolded-requires

@@ -25,13 +25,13 @@ returns : tie.Need-returns
 returns c =
     let b = c .before .before .before in
     let a = b .before .before .before .args in
-    (sizing-above (linesOf (a .day .now)) (a .places) (a .unfolded) (a .keeps) _ (b .number-boats .ensures .0) (sym (c .enum-told .given .1) ∙ c .before .before .size-of .ensures), b .number-boats .ensures .2)
+    (sizing-above (linesOf (a .day .now)) (a .places) (a .unfolded) (a .keeps) _ (b .number-boats .ensures .0 .0) (sym (c .enum-told .given .1) ∙ c .before .before .size-of .ensures), b .number-boats .ensures .1)
 
 returns-2 : tie.Need-returns-2
 returns-2 c =
     let b = c .before .before .before .before in
     let a = b .before .before .before .args in
-    (sizing-size (linesOf (a .day .now)) (a .places) (a .unfolded) (a .keeps) _ (b .number-boats .ensures .0) _ (sym (c .before .sizing .given .1) ∙ c .before .before .before .size-of .ensures), b .number-boats .ensures .2)
+    (sizing-size (linesOf (a .day .now)) (a .places) (a .unfolded) (a .keeps) _ (b .number-boats .ensures .0 .0) _ (sym (c .before .sizing .given .1) ∙ c .before .before .before .size-of .ensures), b .number-boats .ensures .1)
 
 pub measure-spec : {M : Type 1} → statement M
 measure-spec =

@@ -1,4 +1,4 @@
--- `request::words_needed` meets its contract: questions 1 to 14 by what asking them ensures, 16 by what measuring ensures.
+-- `request::words_needed` meets its contract: questions 1 to 14 by what asking them ensures, 16 by what sizing ensures.
 -- Assumes nothing.
 use mathlib.Core.Path.{_≡_, sym, ap, _∙_, subst}
 use mathlib.Core.Bool.{true}
@@ -12,7 +12,7 @@ use Rattle.meaning.specs.Request.{need, askBoth}
 use Rattle.record.specs.Whole.{linesOf}
 use Rattle.request.specs.Layout.{largest}
 use Rattle.request.specs.Asking.{bothNumber, Small}
-use Rattle.request.proofs.Asking.{Counted, both-refused, both-counted, counted-size, above, measured, words-refused, words-above, words-are}
+use Rattle.request.proofs.Asking.{Counted, both-refused, both-counted, counted-size, told-above, told-size, words-refused, words-above, words-are}
 use borrow.Author.Needs.{needs}
 use Rattle.request.proofs.words_needed.Statement.{statement}
 use Rattle.request.proofs.words_needed.Tie as tie
@@ -62,44 +62,45 @@ passes c = both-counted (rec c) (pat c) _ _ _ _ (sym (c .before .both .given .1)
 small : (c : tie.After-known-told) → (0 < places c) × (places c ≤ 1024) × (lines c ≤ 4096) × (unfolded c ≤ 63) × (keeps c ≤ 3)
 small c = subst Small (c .before .both .given .1) (c .before .before .before .ask-both .ensures .1)
 
-measure-requires : tie.Need-measure-requires
-measure-requires c κs =
-    let h = passes (c .before) in
-    let s = small (c .before) in
+sized-requires : tie.Need-sized-requires
+sized-requires c κs =
+    let h = passes c in
+    let s = small c in
     (h .lines-are ∙ sym (ap length (h .lines-of)), s .1, s .3)
 
-enum-known-measured : tie.Need-enum-known-measured
-enum-known-measured c = search needs
+enum-known-sizing : tie.Need-enum-known-sizing
+enum-known-sizing c = search needs
 
 enum-told-2 : tie.Need-enum-told-2
 enum-told-2 c = search needs
 
+-- the size, by the counts
+abbrev size : tie.After-known-told → ℕ
+size c = places c * suc (unfolded c) * suc (length (boats (linesOf (rec c)))) ^ keeps c
+
 returns-2 : tie.Need-returns-2
 returns-2 c =
-    let b = c .before .before .before .before in
+    let b = c .before .before .before in
     let h = passes b in
-    let no = above _ _ _ _ (sym (c .enum-told2 .given .1) ∙ c .before .before .measure .ensures .0) in
+    let no = told-above (size b) (sym (c .enum-told2 .given .1) ∙ c .before .before .sized .ensures) in
     sym (ap told (words-above (rec b) (pat b) (h .asked) (h .both) (ap (λ (n : ℕ). leb n largest) (sym (counted-size _ _ _ _ _ _ h)) ∙ no)))
 
 -- ---- where the size is known
 
-size-is : (c : tie.After-known-told2) → let b = c .before .before .before .before .before in
-    (leb (places b * suc (unfolded b) * suc (length (boats (linesOf (rec b)))) ^ keeps b) largest ≡ true) × (c .before .measured .given .0 .0 ≡ length (boats (linesOf (rec b)))) × (c .before .measured .given .0 .1 .0 ≡ places b * suc (unfolded b) * suc (length (boats (linesOf (rec b)))) ^ keeps b) × (c .before .measured .given .0 .1 .0 ≤ largest)
-size-is c = measured _ _ _ _ _ _ (sym (c .before .measured .given .1) ∙ c .before .before .before .measure .ensures .0)
-
-fits : (c : tie.After-known-told2) → c .before .measured .given .0 .1 .0 ≤ largest
-fits c = size-is c .3
+size-is : (c : tie.After-known-told2) → let b = c .before .before .before .before in
+    (leb (size b) largest ≡ true) × (c .before .sizing .given .0 .0 ≡ size b) × (c .before .sizing .given .0 .0 ≤ largest)
+size-is c = told-size (size (c .before .before .before .before)) _ (sym (c .before .sizing .given .1) ∙ c .before .before .before .sized .ensures)
 
 words-for-requires : tie.Need-words-for-requires
-words-for-requires c κs = fits c
+words-for-requires c κs = size-is c .2
 
 returns-3 : tie.Need-returns-3
 returns-3 c =
-    let b = c .before .before .before .before .before .before in
+    let b = c .before .before .before .before .before in
     let h = passes b in
     let yes = size-is (c .before) in
     let whole = counted-size _ _ _ _ _ _ h in
-    ap value (c .words-for .ensures ∙ ap need (yes .2 ∙ whole)) ∙ sym (ap told (words-are (rec b) (pat b) (h .asked) (h .both) (ap (λ (n : ℕ). leb n largest) (sym whole) ∙ yes .0)))
+    ap value (c .words-for .ensures ∙ ap need (yes .1 ∙ whole)) ∙ sym (ap told (words-are (rec b) (pat b) (h .asked) (h .both) (ap (λ (n : ℕ). leb n largest) (sym whole) ∙ yes .0)))
 
 pub words-needed-spec : {M : Type 1} → statement M
 words-needed-spec =
@@ -110,8 +111,8 @@ words-needed-spec =
     enum-told
     number-requires
     returns
-    measure-requires
-    enum-known-measured
+    sized-requires
+    enum-known-sizing
     enum-told-2
     returns-2
     words-for-requires

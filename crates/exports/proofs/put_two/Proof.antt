@@ -1,8 +1,8 @@
--- `exports::put_counts` meets its contract: the two stores, at the front. Assumes nothing.
+-- `exports::put_two` meets its contract: the two stores, at the front. Assumes nothing.
 use Rattle.exports.proofs.Numbers.{set-two}
 use borrow.Author.Needs.{needs}
-use Rattle.exports.proofs.put_counts.Statement.{statement}
-use Rattle.exports.proofs.put_counts.Tie as tie
+use Rattle.exports.proofs.put_two.Statement.{statement}
+use Rattle.exports.proofs.put_two.Tie as tie
 
 cast-counts : tie.Need-cast-counts
 cast-counts c = search needs
@@ -22,8 +22,8 @@ same-length c = search needs
 returns : tie.Need-returns
 returns c = set-two (c .args .counts .now) _ _ (c .pre .0)
 
-pub put-counts-spec : {M : Type 1} → statement M
-put-counts-spec =
+pub put-two-spec : {M : Type 1} → statement M
+put-two-spec =
     tie.close
     (tie.spec
     cast-counts
