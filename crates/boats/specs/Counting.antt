@@ -16,24 +16,29 @@ use Rattle.boats.specs.Boats.{BoatIs, asNumber, agree-self, first-le, nu
 use Rattle.boats.specs.Codes.{codes, first-has}
 use Rattle.boats.specs.declared.Tally.{Tally}
 
--- no word before the r-th is w
+-- r words have been read, and none of them is w
 pub record NoneBefore (words : List ℕ) (w r : ℕ) : Type 0 where
+  pub early : r ≤ length words
   pub none : (k : ℕ) → k < r → getD words k 0 ≡ w → ⊥
 
 -- the first word that is w stands at r, which is their count where none is
 pub record FirstAt (words : List ℕ) (w r : ℕ) : Type 0 where
-  pub early : r ≤ length words
   pub before : NoneBefore words w r
   pub here : r < length words → getD words r 0 ≡ w
 
 module _ {words : List ℕ} {w j : ℕ} (b : NoneBefore words w j) where
-  -- the j-th is the first
-  pub first-here : j < length words → getD words j 0 ≡ w → FirstAt words w j
-  first-here h is = record { early = omega (arith, h); before = b; here = λ less. is }
+  -- the next is w
+  pub first-here : getD words j 0 ≡ w → FirstAt words w j
+  first-here is = record { before = b; here = λ less. is }
+
+  -- there is no next
+  pub first-none : (j < length words → ⊥) → FirstAt words w j
+  first-none end = record { before = b; here = λ less. absurd (end less) }
 
   -- it is not w either
-  pub none-next : (getD words j 0 ≡ w → ⊥) → NoneBefore words w (j + 1)
-  none-next other = record {
+  pub none-next : j < length words → (getD words j 0 ≡ w → ⊥) → NoneBefore words w (j + 1)
+  none-next h other = record {
+    early = omega (arith, h);
     none = λ k less e. elim (ℕ-discrete k j) [
       | yes q ↦ other (ap (λ n. getD words n 0) (sym q) ∙ e)
       | no n ↦ b .none k (omega (arith, less, n)) e
@@ -62,7 +67,7 @@ module _ (lines : List Line) (i : ℕ) (h : i < length lines) where
   -- of the words noted for the earlier lines
   module _ (noted : List ℕ) (room : i ≤ length noted) (words : Noted lines i noted) (w r : ℕ) (is : BoatIs its w) (f : FirstAt (take i noted) w r) where
     early : r ≤ i
-    early = omega (arith, f .early, length-take-le i noted room)
+    early = omega (arith, f .before .early, length-take-le i noted room)
 
     word-at : (k : ℕ) → k < i → getD (take i noted) k 0 ≡ asNumber (lineAt lines k .boat)
     word-at k less = getD-take i noted k 0 less ∙ words k less .is

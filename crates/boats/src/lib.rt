@@ -48,7 +48,7 @@ pub fn boat_of(l: Line) -> u32
 // The first line with a boat, by the boats of the lines as they were noted, where none before line `start` has it; how many lines there are
 // where none has it at all.
 fn first_from(noted: &[u32], start: usize, boat: u32) -> usize
-    requires { ⌜ (start ≤ length (now noted)) × NoneBefore (now noted) boat start ⌝ }
+    requires { ⌜ NoneBefore (now noted) boat start ⌝ }
     ensures { λ r. ⌜ FirstAt (now (noted .entry)) boat r ⌝ }
 {
     let mut j = start;
@@ -62,7 +62,7 @@ fn first_from(noted: &[u32], start: usize, boat: u32) -> usize
 }
 
 // The same from line 0 on. The lines are read one by one and none after the first with the boat; a turn of the loop has four of them, which
-// takes a third of the time.
+// takes less time than a turn for each.
 fn first_same(noted: &[u32], boat: u32) -> usize
     ensures { λ r. ⌜ FirstAt (now (noted .entry)) boat r ⌝ }
 {

@@ -1,4 +1,4 @@
-// The day's record: reading its bytes, and reading a line back.
+// The day's record: reading its bytes, going over its lines, and reading one back.
 ghost use mathlib.Core.Path.{_≡_};
 ghost use Prim.Native.Nat.{suc, _+_, _*_, _<_, _≤_};
 ghost use lib.ListN.{length, drop};

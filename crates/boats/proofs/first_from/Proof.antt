@@ -1,14 +1,14 @@
--- `boats::first_from` meets its contract: no word before the j-th is the boat's. Assumes nothing.
-use Prim.Native.Nat.{_-_, _≤_}
+-- `boats::first_from` meets its contract: of the words read so far none is the boat's. Assumes nothing.
+use Prim.Native.Nat.{_-_}
 use native.Mathlib.Omega.{arith}
 use lib.ListN.{length}
-use Rattle.boats.specs.Counting.{NoneBefore, first-here, none-next}
+use Rattle.boats.specs.Counting.{NoneBefore, first-here, first-none, none-next}
 use borrow.Author.Needs.{needs}
 use Rattle.boats.proofs.first_from.Statement.{statement}
 use Rattle.boats.proofs.first_from.Tie as tie
 
 abbrev Inv-loop : tie.InvT-loop
-Inv-loop noted start boat j₀ j = (j ≤ length noted) × NoneBefore noted boat j
+Inv-loop noted start boat j₀ j = NoneBefore noted boat j
 
 abbrev μ-loop : tie.MeasureT-loop
 μ-loop noted start boat j₀ j = length noted - j
@@ -23,9 +23,7 @@ shared-slice-read-if1 : tie.Need-shared-slice-read-if1 Inv-loop μ-loop
 shared-slice-read-if1 c = search needs
 
 returns : tie.Need-returns Inv-loop μ-loop
-returns c =
-    let l = c .before .before .before .loop in
-    first-here (l .inv .1) (c .before .before .loop-test .taken) (c .if1 .taken)
+returns c = first-here (c .before .before .before .loop .inv) (c .if1 .taken)
 
 add-j : tie.Need-add-j Inv-loop μ-loop
 add-j c = search needs
@@ -35,12 +33,10 @@ loop-less c = omega (arith, c .before .before .loop-test .taken)
 
 loop-again : tie.Need-loop-again Inv-loop μ-loop
 loop-again c =
-    (omega (arith, c .before .before .loop-test .taken), none-next (c .before .before .before .loop .inv .1) (c .if1 .left))
+    none-next (c .before .before .before .loop .inv) (c .before .before .loop-test .taken) (c .if1 .left)
 
 returns-2 : tie.Need-returns-2 Inv-loop μ-loop
-returns-2 c =
-    let l = c .before .loop in
-    record { early = l .inv .0; before = l .inv .1; here = λ less. absurd (omega (arith, less, c .loop-test .left)) }
+returns-2 c = first-none (c .before .loop .inv) (λ less. omega (arith, less, c .loop-test .left))
 
 pub first-from-spec : {M : Type 1} → statement M
 first-from-spec =

@@ -1,6 +1,5 @@
--- `boats::first_same` meets its contract: no word before the j-th is the boat's, nor is any that is read in a turn and is not the last read.
--- Assumes nothing.
-use Prim.Native.Nat.{_+_, _-_, _<_, _≤_}
+-- `boats::first_same` meets its contract: of the words read so far none is the boat's, in a turn and from turn to turn. Assumes nothing.
+use Prim.Native.Nat.{_+_, _-_, _<_}
 use native.Mathlib.Omega.{arith}
 use lib.ListN.{length}
 use Rattle.boats.specs.Counting.{NoneBefore, first-here, none-next}
@@ -9,13 +8,13 @@ use Rattle.boats.proofs.first_same.Statement.{statement}
 use Rattle.boats.proofs.first_same.Tie as tie
 
 abbrev Inv-loop : tie.InvT-loop
-Inv-loop noted boat j₀ j = (j ≤ length noted) × NoneBefore noted boat j
+Inv-loop noted boat j₀ j = NoneBefore noted boat j
 
 abbrev μ-loop : tie.MeasureT-loop
 μ-loop noted boat j₀ j = length noted - j
 
 loop-holds : tie.Need-loop-holds Inv-loop μ-loop
-loop-holds c = (omega arith, record { none = λ k less. absurd (omega (arith, less)) })
+loop-holds c = record { early = omega arith; none = λ k less. absurd (omega (arith, less)) }
 
 add-loop : tie.Need-add-loop Inv-loop μ-loop
 add-loop c = search needs
@@ -35,7 +34,7 @@ shared-slice-read-if1 c = omega (arith, four (c .before))
 returns : tie.Need-returns Inv-loop μ-loop
 returns c =
     let b = c .before .before in
-    first-here (b .before .loop .inv .1) (omega (arith, four b)) (c .if1 .taken)
+    first-here (b .before .loop .inv) (c .if1 .taken)
 
 add-k : tie.Need-add-k Inv-loop μ-loop
 add-k c = search needs
@@ -47,12 +46,10 @@ shared-slice-read-if2 : tie.Need-shared-slice-read-if2 Inv-loop μ-loop
 shared-slice-read-if2 c = omega (arith, four (c .before .before .before))
 
 none-1 : (c : tie.Else1 Inv-loop μ-loop) → NoneBefore (c .before .before .before .before .before .args .noted .now) (c .before .before .before .before .before .args .boat) (c .before .before .before .loop .j + 1)
-none-1 c = none-next (c .before .before .before .loop .inv .1) (c .if1 .left)
+none-1 c = none-next (c .before .before .before .loop .inv) (omega (arith, four (c .before .before))) (c .if1 .left)
 
 returns-2 : tie.Need-returns-2 Inv-loop μ-loop
-returns-2 c =
-    let b = c .before .before in
-    first-here (none-1 b) (omega (arith, four (b .before .before))) (c .if2 .taken)
+returns-2 c = first-here (none-1 (c .before .before)) (c .if2 .taken)
 
 add-l : tie.Need-add-l Inv-loop μ-loop
 add-l c = search needs
@@ -64,12 +61,10 @@ shared-slice-read-if3 : tie.Need-shared-slice-read-if3 Inv-loop μ-loop
 shared-slice-read-if3 c = omega (arith, four (c .before .before .before .before .before))
 
 none-2 : (c : tie.Else2 Inv-loop μ-loop) → let b = c .before .before .before .before .before in NoneBefore (b .before .before .args .noted .now) (b .before .before .args .boat) (b .loop .j + 1 + 1)
-none-2 c = none-next (none-1 (c .before .before)) (c .if2 .left)
+none-2 c = none-next (none-1 (c .before .before)) (omega (arith, four (c .before .before .before .before))) (c .if2 .left)
 
 returns-3 : tie.Need-returns-3 Inv-loop μ-loop
-returns-3 c =
-    let b = c .before .before in
-    first-here (none-2 b) (omega (arith, four (b .before .before .before .before))) (c .if3 .taken)
+returns-3 c = first-here (none-2 (c .before .before)) (c .if3 .taken)
 
 add-m : tie.Need-add-m Inv-loop μ-loop
 add-m c = search needs
@@ -81,12 +76,10 @@ shared-slice-read-if4 : tie.Need-shared-slice-read-if4 Inv-loop μ-loop
 shared-slice-read-if4 c = omega (arith, four (c .before .before .before .before .before .before .before))
 
 none-3 : (c : tie.Else3 Inv-loop μ-loop) → let b = c .before .before .before .before .before .before .before in NoneBefore (b .before .before .args .noted .now) (b .before .before .args .boat) (b .loop .j + 1 + 1 + 1)
-none-3 c = none-next (none-2 (c .before .before)) (c .if3 .left)
+none-3 c = none-next (none-2 (c .before .before)) (omega (arith, four (c .before .before .before .before .before .before))) (c .if3 .left)
 
 returns-4 : tie.Need-returns-4 Inv-loop μ-loop
-returns-4 c =
-    let b = c .before .before in
-    first-here (none-3 b) (omega (arith, four (b .before .before .before .before .before .before))) (c .if4 .taken)
+returns-4 c = first-here (none-3 (c .before .before)) (c .if4 .taken)
 
 -- ---- the turn after it, and the rest
 
@@ -98,7 +91,7 @@ loop-less c = omega (arith, four (c .before .before .before .before .before .bef
 
 loop-again : tie.Need-loop-again Inv-loop μ-loop
 loop-again c =
-    (omega (arith, four (c .before .before .before .before .before .before .before .before)), none-next (none-3 (c .before .before)) (c .if4 .left))
+    none-next (none-3 (c .before .before)) (omega (arith, four (c .before .before .before .before .before .before .before .before))) (c .if4 .left)
 
 first-from-requires : tie.Need-first-from-requires Inv-loop μ-loop
 first-from-requires c κs = c .before .loop .inv
