@@ -1,5 +1,5 @@
 /* Times the library's finder and checker, its count of boats (by the words needed with one keep), the same by hand in C, and the second
-   program, on the same requests in one run.
+   program, on the same requests in one run; and beside the finder the library's search in steps.
    Before anything is timed, each program's reply, output and cleared work area are compared with the others'. Work area and
    output are dirtied before every call, outside the clock. The calls of a sample alternate between the programs; each program
    makes as many as last at least BATCH together.
@@ -7,7 +7,10 @@
    bench [ROW...]                    the table, or these rows, numbered from 0; after it, where both were measured, the full days with
                                      a third of their lines unread by the same days read, and rounds counted by the same written out
    bench --slowest                   the slowest requests, one call each
-   bench --call ROW PROGRAM TIMES    calls alone, for a profiler; programs are 0 library, 1 C, 2 C grouped, 3 second
+   bench --steps [ROW...]            searches in steps beside the finder and the C: every row of the table that finds a chain, or these
+                                     rows, the slowest among them where they are named
+   bench --call ROW PROGRAM TIMES    calls alone, for a profiler; programs are 0 library, 1 C, 2 C grouped, 3 second, and in steps 5 begin
+                                     and finish, 6 with one move of everything between them, 7 with moves of 1,000
 
    Linked with an earlier build of the library, whose functions are then old_chains_*, it times that and the present one alone:
 
@@ -31,6 +34,10 @@ uint64_t chains_words(const uint8_t *, size_t, const uint8_t *, size_t);
 uint64_t chains_find(const uint8_t *, size_t, const uint8_t *, size_t, uint16_t, uint16_t, uint32_t *, size_t, uint16_t *, size_t);
 uint64_t chains_check(const uint8_t *, size_t, const uint8_t *, size_t, uint16_t, uint16_t, const uint16_t *, size_t, uint32_t *,
                       size_t);
+uint64_t chains_search_words(const uint8_t *, size_t, const uint8_t *, size_t);
+uint64_t chains_search_begin(const uint8_t *, size_t, const uint8_t *, size_t, uint16_t, uint16_t, uint32_t *, size_t);
+uint64_t chains_search_move(uint32_t *, size_t, size_t);
+uint64_t chains_search_finish(uint32_t *, size_t, uint16_t *, size_t);
 __attribute__((weak)) uint64_t old_chains_words(const uint8_t *, size_t, const uint8_t *, size_t);
 __attribute__((weak)) uint64_t old_chains_find(const uint8_t *, size_t, const uint8_t *, size_t, uint16_t, uint16_t, uint32_t *,
                                                size_t, uint16_t *, size_t);
@@ -43,7 +50,7 @@ uint64_t second_check(const uint8_t *, size_t, const uint8_t *, size_t, uint16_t
 size_t second_proposition_3_day(uint16_t n, uint8_t *buf);
 size_t second_proposition_3_pattern(uint8_t keeps, uint8_t *buf);
 
-enum { MOST_BYTES = 40964, MOST_WORDS = 4 * 1048576 + 8192, MOST_CHAIN = 1048576, MOST_SAMPLES = 401 };
+enum { MOST_BYTES = 40964, MOST_WORDS = 4 * 1048576 + 8192 + 3 * 4096, MOST_CHAIN = 1048576, MOST_SAMPLES = 401 };
 
 static const double BATCH = 0.004; /* seconds of one program's calls in a sample */
 static const double LONG = 1.5;    /* seconds of one call that is not repeated */
@@ -55,7 +62,10 @@ static const uint64_t NO_CHAIN = 4294967295u;
 
 /* ---- programs */
 
-enum { LIBRARY, HAND, GROUPED, SECOND, BEFORE, PROGRAMS };
+/* From STEPS on they are the library's search in steps: begin and finish, with one move of everything between them, with moves of 1,000. */
+enum { LIBRARY, HAND, GROUPED, SECOND, BEFORE, STEPS, ONE_MOVE, THOUSANDS, PROGRAMS };
+
+enum { IN_STEPS = 1 << STEPS | 1 << ONE_MOVE | 1 << THOUSANDS };
 
 /* Is an earlier build of the library linked; and may its replies differ from the present one's? */
 static int before, differ;
@@ -74,6 +84,29 @@ struct request {
     size_t chain_len, words[PROGRAMS]; /* the words lent */
     unsigned left_out;
 };
+
+static uint64_t begin_search(const struct request *r, size_t words)
+{
+    return chains_search_begin(r->rec, r->rec_len, r->pat, r->pat_len, r->from, r->to, work, words);
+}
+
+/* How many states were taken up by the moves of the last search that was moved. */
+static uint32_t taken_up;
+
+/* A search begun, moved to its end by moves of so many states, and finished; not moved where the amount is 0. */
+static uint64_t in_steps(const struct request *r, size_t words, size_t amount)
+{
+    uint64_t reply = begin_search(r, words), count = amount;
+    if (reply != 0)
+        return reply;
+    if (amount > 0)
+        taken_up = 0;
+    while (amount > 0 && count == amount) {
+        count = chains_search_move(work, words, amount);
+        taken_up += count;
+    }
+    return chains_search_finish(work, words, out, MOST_CHAIN);
+}
 
 static uint64_t call(const struct request *r, int program, uint32_t *reached)
 {
@@ -109,6 +142,12 @@ static uint64_t call(const struct request *r, int program, uint32_t *reached)
         return hand_find_grouped(r->rec, r->rec_len, r->pat, r->pat_len, r->from, r->to, work, words, out, MOST_CHAIN, reached);
     case BEFORE:
         return old_chains_find(r->rec, r->rec_len, r->pat, r->pat_len, r->from, r->to, work, words, out, MOST_CHAIN);
+    case STEPS:
+        return in_steps(r, words, 0);
+    case ONE_MOVE:
+        return in_steps(r, words, SIZE_MAX);
+    case THOUSANDS:
+        return in_steps(r, words, 1000);
     default:
         return second_find(r->rec, r->rec_len, r->pat, r->pat_len, r->from, r->to, work, words, out, MOST_CHAIN);
     }
@@ -167,11 +206,12 @@ static void fail(const struct request *r, const char *what)
     exit(1);
 }
 
-/* The words to lend each program: what chains_words says, none where that refuses. */
+/* The words to lend each program: what chains_words says, or chains_search_words, none where that refuses. */
 static void lend(struct request *r)
 {
     for (int p = 0; p < PROGRAMS; p++) {
-        uint64_t words = (p == BEFORE && before ? old_chains_words : chains_words)(r->rec, r->rec_len, r->pat, r->pat_len);
+        uint64_t (*needed)(const uint8_t *, size_t, const uint8_t *, size_t) = p >= STEPS ? chains_search_words : chains_words;
+        uint64_t words = (p == BEFORE && before ? old_chains_words : needed)(r->rec, r->rec_len, r->pat, r->pat_len);
         if (words >> 32 != 0 && !differ)
             fail(r, "refused");
         r->words[p] = words >> 32 != 0 ? 0 : words;
@@ -233,17 +273,24 @@ static void show_ratio(double x)
         printf(" | %9.2f", x);
 }
 
-/* Gives each program's least time, 0 where it was left out. */
-static void measure(struct request *r, double least[PROGRAMS])
-{
-    double time[PROGRAMS] = {0}, sample[PROGRAMS][MOST_SAMPLES], middle[PROGRAMS] = {0};
+/* What was measured: of each program the reply, the least time of a call and the median, 0 where it was left out; the states that the C's
+   phase one reached; and of before and after the median of the samples' ratios, and whether the replies differ. */
+struct measured {
     uint64_t reply[PROGRAMS];
+    double least[PROGRAMS], middle[PROGRAMS], ratio;
     uint32_t reached;
+    int differing;
+};
+
+static struct measured sampled(struct request *r)
+{
+    struct measured m = {0};
+    double time[PROGRAMS] = {0}, sample[PROGRAMS][MOST_SAMPLES];
     unsigned calls[PROGRAMS] = {0}, most = 0, samples = 15;
     lend(r);
     if (r->check || r->needed)
         r->left_out |= 1 << GROUPED;
-    int differing = compared(r, reply, &reached, time);
+    m.differing = compared(r, m.reply, &m.reached, time);
     double round = 0;
     for (int p = 0; p < PROGRAMS; p++) {
         if (r->left_out >> p & 1)
@@ -268,8 +315,8 @@ static void measure(struct request *r, double least[PROGRAMS])
                 uint64_t got;
                 if (time[p] >= LONG || (uint64_t)i * calls[p] / most == (uint64_t)(i + 1) * calls[p] / most)
                     continue;
-                sample[p][n] += timed(r, p, &got, &reached);
-                if (got != reply[p])
+                sample[p][n] += timed(r, p, &got, &m.reached);
+                if (got != m.reply[p])
                     fail(r, "the reply changed");
             }
     }
@@ -277,32 +324,86 @@ static void measure(struct request *r, double least[PROGRAMS])
     double ratio[MOST_SAMPLES];
     for (unsigned n = 0; before && n < samples; n++)
         ratio[n] = sample[LIBRARY][n] / sample[BEFORE][n];
+    m.ratio = before ? median(ratio, samples) : 0;
     for (int p = 0; p < PROGRAMS; p++)
         if (calls[p] != 0) {
-            middle[p] = median(sample[p], samples) / calls[p];
-            least[p] = sample[p][0] / calls[p];
+            m.middle[p] = median(sample[p], samples) / calls[p];
+            m.least[p] = sample[p][0] / calls[p];
         }
+    return m;
+}
+
+/* Gives each program's least time, 0 where it was left out. */
+static void measure(struct request *r, double least[PROGRAMS])
+{
+    const struct measured m = sampled(r);
+    memcpy(least, m.least, sizeof m.least);
     char said[24], was[24], both[56];
-    say(said, r, reply[LIBRARY]);
+    say(said, r, m.reply[LIBRARY]);
     if (before) {
-        say(was, r, reply[BEFORE]);
+        say(was, r, m.reply[BEFORE]);
         snprintf(both, sizeof both, "%s, was %s", said, strcmp(said, was) == 0 ? "another" : was);
-        printf("| %-52s | %-11s | %10.1f", r->name, differing ? both : said, least[BEFORE] * 1e6);
+        printf("| %-52s | %-11s | %10.1f", r->name, m.differing ? both : said, least[BEFORE] * 1e6);
         show_ratio(least[LIBRARY] / least[BEFORE]);
-        show_ratio(median(ratio, samples));
+        show_ratio(m.ratio);
         printf(" |\n");
         fflush(stdout);
         return;
     }
     char states[16] = "-";
     if (!r->check && !r->needed)
-        snprintf(states, sizeof states, "%u", reached);
+        snprintf(states, sizeof states, "%u", m.reached);
     printf("| %-52s | %-11s | %7s | %10.1f", r->name, said, states, least[HAND] * 1e6);
     show_ratio(least[LIBRARY] / least[HAND]);
-    show_ratio(middle[LIBRARY] / middle[HAND]);
+    show_ratio(m.middle[LIBRARY] / m.middle[HAND]);
     show_ratio(least[GROUPED] / least[HAND]);
     show_ratio(least[SECOND] / least[HAND]);
     printf(" |\n");
+    fflush(stdout);
+}
+
+/* The time of a move of 1, half way through a search of so many states: the least of some samples, each of as many moves as last BATCH, or as
+   there are states left. */
+static double move_of_one(const struct request *r, uint32_t states)
+{
+    static uint32_t half_way[MOST_WORDS];
+    const size_t words = r->words[STEPS];
+    if (begin_search(r, words) != 0 || chains_search_move(work, words, states / 2) != states / 2)
+        fail(r, "a search half way");
+    memcpy(half_way, work, sizeof work[0] * words);
+    double start = now(), least = 0;
+    chains_search_move(work, words, 1);
+    const double one = now() - start;
+    const uint32_t left = states - states / 2, many = one >= BATCH ? 1 : (uint32_t)(BATCH / one) + 2, moves = many < left ? many : left;
+    for (unsigned n = 0; n < 15; n++) {
+        memcpy(work, half_way, sizeof work[0] * words);
+        uint64_t count = 0;
+        start = now();
+        for (uint32_t i = 0; i < moves; i++)
+            count += chains_search_move(work, words, 1);
+        double time = (now() - start - clock_cost) / moves;
+        if (count != moves)
+            fail(r, "a move of 1");
+        least = n == 0 || time < least ? time : least;
+    }
+    return least;
+}
+
+/* A search in steps beside the finder, and the C. */
+static void measure_steps(struct request *r)
+{
+    r->left_out = 1 << GROUPED | 1 << SECOND | 1 << BEFORE;
+    const struct measured m = sampled(r);
+    const uint32_t states = taken_up;
+    char said[24];
+    say(said, r, m.reply[LIBRARY]);
+    printf("| %-52s | %-11s | %7u | %10.1f", r->name, said, states, m.least[LIBRARY] * 1e6);
+    show_ratio(m.least[STEPS] / m.least[LIBRARY]);
+    show_ratio(m.middle[STEPS] / m.middle[LIBRARY]);
+    show_ratio(m.least[HAND] / m.least[LIBRARY]);
+    show_ratio(m.least[ONE_MOVE] / m.least[STEPS]);
+    show_ratio(m.least[THOUSANDS] / m.least[ONE_MOVE]);
+    printf(" | %10.1f |\n", move_of_one(r, states) * 1e6);
     fflush(stdout);
 }
 
@@ -399,7 +500,7 @@ static struct request *fresh(const char *name)
 {
     struct request *r = calloc(1, sizeof *r);
     snprintf(r->name, sizeof r->name, "%s", name);
-    r->left_out = before ? 1 << HAND | 1 << GROUPED | 1 << SECOND : 1 << BEFORE;
+    r->left_out = (before ? 1 << HAND | 1 << GROUPED | 1 << SECOND : 1 << BEFORE) | IN_STEPS;
     seed = 1;
     return r;
 }
@@ -888,12 +989,17 @@ static void compare_twos(double least[][PROGRAMS])
     compare_pairs(least, ROUNDS, ROUNDS_END, "counted / written out", &counted);
 }
 
+/* Can the program be called alone? The earlier build only where it is linked. */
+static int callable(int program) { return program >= 0 && program < PROGRAMS && (program != BEFORE || before); }
+
 static int profiled(char **argument)
 {
     struct request *r = row(atoi(argument[0]));
     int program = atoi(argument[1]), times = atoi(argument[2]);
     uint64_t reply = 0;
     uint32_t reached = 0;
+    if (program >= STEPS && (r->check || r->needed))
+        fail(r, "no search");
     lend(r);
     while (times-- > 0)
         timed(r, program, &reply, &reached);
@@ -909,19 +1015,39 @@ static int not_known_before(const struct request *r)
     return before && !differ && old_chains_words(r->rec, r->rec_len, r->pat, r->pat_len) >> 32 == 8;
 }
 
+/* The rows that find a chain, or those that are named, in steps. */
+static void show_steps(int count, char **number)
+{
+    printf("| case | reply | taken up | find, us | begin + finish / find | the same, medians | C / find | with one move / begin + finish | "
+           "moves of 1,000 / one move | a move of 1, us |\n|---|---|---|---|---|---|---|---|---|---|\n");
+    for (int i = 0; i < (count > 0 ? count : ROWS); i++) {
+        int named = count > 0 ? atoi(number[i]) : i;
+        struct request *r = row(named);
+        if (!r->check && !r->needed && (count > 0 || !is_slowest(named)))
+            measure_steps(r);
+        free(r->chain);
+        free(r);
+    }
+}
+
 int main(int count, char **argument)
 {
     read_clock_cost();
     before = old_chains_find != NULL;
-    int slowest_too = 0;
+    int slowest_too = 0, steps = 0;
     if (before && count > 1 && strcmp(argument[1], "--differ") == 0) {
         differ = 1;
         count--;
         argument++;
     }
-    if (count == 5 && strcmp(argument[1], "--call") == 0 && (unsigned)atoi(argument[3]) < BEFORE + (unsigned)before)
+    if (count == 5 && strcmp(argument[1], "--call") == 0 && callable(atoi(argument[3])))
         return profiled(argument + 2);
-    if (count == 2 && strcmp(argument[1], "--slowest") == 0) {
+    if (!before && count > 1 && strcmp(argument[1], "--steps") == 0) {
+        steps = 1;
+        count--;
+        argument++;
+    }
+    if (!steps && count == 2 && strcmp(argument[1], "--slowest") == 0) {
         if (!before) {
             printf("| case | reply | states reached | C, s | C grouped, s | library, s |\n|---|---|---|---|---|---|\n");
             for (int i = 0; i < ROWS; i++)
@@ -934,10 +1060,14 @@ int main(int count, char **argument)
     }
     for (int i = 1; i < count; i++)
         if (strspn(argument[i], "0123456789") != strlen(argument[i]) || atoi(argument[i]) >= ROWS) {
-            fprintf(stderr, "bench %s[ROW... | --slowest | --call ROW PROGRAM TIMES], rows 0 to %d\n", before ? "[--differ] " : "",
-                    ROWS - 1);
+            fprintf(stderr, "bench %s[ROW... | --slowest | %s--call ROW PROGRAM TIMES], rows 0 to %d\n", before ? "[--differ] " : "",
+                    before ? "" : "--steps [ROW...] | ", ROWS - 1);
             return 2;
         }
+    if (steps) {
+        show_steps(count - 1, argument + 1);
+        return 0;
+    }
     if (before)
         printf("| case | reply | before, us | after / before | the same, medians |\n|---|---|---|---|---|\n");
     else

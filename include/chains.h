@@ -22,19 +22,27 @@
  * only read may.
  *
  * Replies. Every function replies with one number of 64 bits: value + 2^32 * number. The number is 0, and the value is then what
- * the function says below; or a question about what was given was answered no, and the number is that question's (1 to 25,
+ * the function says below; or a question about what was given was answered no, and the number is that question's (1 to 26,
  * enum chains_refusal). A refusal's value is 0, except with 19, where it is the length of the shortest chain. chains_length,
- * chains_needed, chains_written, chains_yes, chains_no, chains_none, chains_found and chains_too_long take a reply apart so that a
- * refusal is not taken for an answer.
+ * chains_needed, chains_written, chains_yes, chains_no, chains_none, chains_found, chains_too_long, chains_begun and chains_moved take a
+ * reply apart so that a refusal is not taken for an answer.
  *
  * Questions. A record is asked 1 to 7. A pattern is asked 8, 9, 10, 11, 24, 12 and 13 at each of its commands, in this order, and when it
  * is complete 14 and then 25.
+ *
+ * Searches in steps. chains_search_begin takes what it needs of a record and a pattern into the work area, and searches nothing;
+ * chains_search_move takes up so many states of the search (a state is a place, a spot in the pattern and the boats kept);
+ * chains_search_finish takes up the rest and replies as chains_find does. Lines may be added to the record in between: the reply is that
+ * for the record at the beginning, however the amounts are chosen. From begin to finish the area holds the search, in numbers that a copy
+ * of it holds as well; lend all of the words that begin was lent, each time. Where they were altered or are fewer, a call returns and
+ * writes to nothing but what it is lent, and no more is promised. The reply may then be 26, which leaves everything as it was.
  *
  * Stack. A call takes less than 64 KB of the thread's stack (CHAINS_STACK bytes), whatever it is given. The hungriest, chains_find
  * with 62 repeats inside each other, takes about 48,000 bytes as the library is built.
  *
  * No function fails in another way, whatever bytes and numbers it is given; none allocates, keeps a pointer or has a state, so
- * calls from several threads are safe as long as they do not share a buffer that is written to.
+ * calls from several threads are safe as long as they do not share a buffer that is written to. A search is in its area alone, so it may
+ * be moved on and finished by another thread than the one that began it.
  */
 #ifndef CHAINS_H
 #define CHAINS_H
@@ -78,7 +86,7 @@ enum chains_refusal {
     /* The request. */
     CHAINS_ASKED_PLACE_NOT_THERE = 15,  /* an asked place is not below the count of places */
     CHAINS_SEARCH_TOO_LARGE = 16,       /* the search size is above 1,048,576 */
-    CHAINS_WORK_AREA_TOO_SMALL = 17,    /* the work area has fewer words than chains_words says */
+    CHAINS_WORK_AREA_TOO_SMALL = 17,    /* the work area has fewer words than chains_words or chains_search_words says */
     CHAINS_LINE_NOT_THERE = 18,         /* a named line is not in the record */
     CHAINS_OUTPUT_TOO_SMALL = 19,       /* the output has fewer entries than the shortest chain, whose length is the value */
 
@@ -86,10 +94,13 @@ enum chains_refusal {
     CHAINS_LENGTH_BEYOND_BUFFER = 20,   /* the record's length is more than the buffer's */
     CHAINS_SAIL_NUMBER_TOO_LARGE = 21,  /* the sail number is not below 16,777,216 */
     CHAINS_RECORD_FULL = 22,            /* the record has 4,096 lines already */
-    CHAINS_BUFFER_TOO_SMALL = 23        /* the buffer does not hold the record after the act */
+    CHAINS_BUFFER_TOO_SMALL = 23,       /* the buffer does not hold the record after the act */
+
+    /* A search in steps. */
+    CHAINS_NO_SEARCH = 26               /* the work area holds no search, or not one as a begin and its moves left it */
 };
 
-/* The value of chains_find where no chain is accepted. */
+/* The value of chains_find and chains_search_finish where no chain is accepted. */
 #define CHAINS_NO_CHAIN UINT32_C(4294967295)
 
 /* No record is longer, in bytes: a buffer of this size holds every day. */
@@ -153,7 +164,7 @@ static inline bool chains_length(uint64_t reply, size_t *length)
     return true;
 }
 
-/* Of chains_words: true, and the words of work area; false, and *words as it was, where refused. */
+/* Of chains_words and chains_search_words: true, and the words of work area; false, and *words as it was, where refused. */
 static inline bool chains_needed(uint64_t reply, size_t *words)
 {
     return chains_length(reply, words);
@@ -178,19 +189,21 @@ static inline bool chains_no(uint64_t reply)
     return !chains_refused(reply) && chains_value(reply) == 0;
 }
 
-/* Of chains_find: is there no accepted chain? A refused find is neither found nor none. */
+/* Of chains_find and chains_search_finish: is there no accepted chain? A refused one is neither found nor none. */
 static inline bool chains_none(uint64_t reply)
 {
     return !chains_refused(reply) && chains_value(reply) == CHAINS_NO_CHAIN;
 }
 
-/* Of chains_find: true, and the chain's length, where it was found and stands in the output; else false, and *length as it was. */
+/* Of chains_find and chains_search_finish: true, and the chain's length, where it was found and stands in the output; else false, and
+   *length as it was. */
 static inline bool chains_found(uint64_t reply, size_t *length)
 {
     return !chains_none(reply) && chains_length(reply, length);
 }
 
-/* Of chains_find: true, and the chain's length, where the output was too short for it (19); else false, and *length as it was. */
+/* Of chains_find and chains_search_finish: true, and the chain's length, where the output was too short for it (19); else false, and
+   *length as it was. */
 static inline bool chains_too_long(uint64_t reply, size_t *length)
 {
     if (chains_number(reply) != CHAINS_OUTPUT_TOO_SMALL) {
@@ -198,6 +211,18 @@ static inline bool chains_too_long(uint64_t reply, size_t *length)
     }
     *length = chains_value(reply);
     return true;
+}
+
+/* Of chains_search_begin: does the work area hold the search? */
+static inline bool chains_begun(uint64_t reply)
+{
+    return !chains_refused(reply);
+}
+
+/* Of chains_search_move: true, and how many states were taken up; false, and *count as it was, where refused. */
+static inline bool chains_moved(uint64_t reply, size_t *count)
+{
+    return chains_length(reply, count);
 }
 
 /* A refusal's number as a sentence for a results officer, without a capital letter and a full stop. */
@@ -230,6 +255,7 @@ static inline const char *chains_message(uint32_t number)
     case 23: return "the buffer has no room for the day's record after this";
     case 24: return "the pattern has a count of rounds whose lowest is above its highest, or whose highest is above 20";
     case 25: return "the pattern is too long: with its rounds written out it has more than 63 commands";
+    case 26: return "the work area holds no search, or not one as a begin and its moves left it";
     default: return "this number is not that of a refusal";
     }
 }
@@ -326,6 +352,49 @@ uint64_t chains_check(const uint8_t *rec, size_t rec_len, const uint8_t *pat, si
  */
 uint64_t chains_find(const uint8_t *rec, size_t rec_len, const uint8_t *pat, size_t pat_len, uint16_t from, uint16_t to,
                      uint32_t *work, size_t work_len, uint16_t *out, size_t out_len);
+
+/*
+ * How many words of 32 bits chains_search_begin needs as its work area, for this record and this pattern: three for each line of the
+ * record more than chains_words says.
+ *
+ * Value: the words, 8,200 to 4,214,784.
+ * Refusals: those of a record and a pattern, then 16.
+ * rec, pat: only read.
+ */
+uint64_t chains_search_words(const uint8_t *rec, size_t rec_len, const uint8_t *pat, size_t pat_len);
+
+/*
+ * Begins a search for the shortest accepted chain from the first place to the second, and takes up no state of it.
+ *
+ * Value: 0.
+ * Refusals: those of a record and a pattern, then 15 to 17, which asks here for the words that chains_search_words says.
+ * rec, pat: only read, and not looked at again by moves and finish. work: may hold anything before. It holds the search afterwards, and
+ * its first word is not 0; a refusal leaves it untouched.
+ */
+uint64_t chains_search_begin(const uint8_t *rec, size_t rec_len, const uint8_t *pat, size_t pat_len, uint16_t from, uint16_t to,
+                             uint32_t *work, size_t work_len);
+
+/*
+ * Moves a search on: takes up so many states of it, or all that remain where those are fewer. 2 * search size + 2 moves of at least 1
+ * reach the end; a move there takes up none and changes nothing, as does a move of 0.
+ *
+ * Value: how many states were taken up.
+ * Refusals: 26, where the area is empty, where its first word is 0, and where it is seen not to be as a begin and its moves left it.
+ * work: holds the search as it stands then; 26 leaves it untouched.
+ */
+uint64_t chains_search_move(uint32_t *work, size_t work_len, size_t amount);
+
+/*
+ * Finishes a search: takes up all that remains, and replies as chains_find does for the record and the pattern at the beginning.
+ *
+ * Value: as with chains_find.
+ * Refusals: 26 as with chains_search_move, then 19, whose value is the shortest length. A chain has fewer lines than the search size, so
+ * an output of so many entries is never too short.
+ * work: all of it is zeros after found, after none and after 19, so that the search is over: a second finish gets 26, and where an output
+ * was too short the search must be begun again. out: the chain is written at its front when found; the rest of it, and all of it after
+ * none and after a refusal, is untouched. 26 leaves both untouched.
+ */
+uint64_t chains_search_finish(uint32_t *work, size_t work_len, uint16_t *out, size_t out_len);
 
 #ifdef __cplusplus
 }

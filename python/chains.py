@@ -6,6 +6,8 @@ not read: all four fail on such a line, and all four fail where the slot holds s
 they count as one boat. From so many to so many rounds of a pattern (2A) may come in a row; the search goes by the unfolded count, in which
 a command counts as often as it may come.
 
+A Search is begun, moved on and finished while lines are added to the record; its answer is that for the record at the beginning.
+
 CHAINS_LIB names the library's file; else it is looked for beside this module, in the folder above and in the repository's target. A
 question that was answered no is a Refused, which has its number, its second number (value) and, as its text, a sentence; a number
 that a function's type does not hold is an OverflowError."""
@@ -41,6 +43,7 @@ SENTENCES = (  # by number, from 1
     "the buffer has no room for the day's record after this",
     "the pattern has a count of rounds whose lowest is above its highest, or whose highest is above 20",
     "the pattern is too long: with its rounds written out it has more than 63 commands",
+    "the work area holds no search, or not one as a begin and its moves left it",
 )
 Line = namedtuple("Line", "from_ kind class_ sail to")
 Boats = namedtuple("Boats", "boats reads")
@@ -59,7 +62,8 @@ def _load():
     library = ctypes.CDLL(os.environ.get("CHAINS_LIB") or next((str(f) for f in files if f.exists()), "libchains.so"))
     types = {"1": ctypes.c_uint8, "2": ctypes.c_uint16, "4": ctypes.c_uint32, "n": ctypes.c_size_t, "p": ctypes.c_void_p}
     for name, taken in (("version", ""), ("begin", "pn2"), ("add", "pnn21142"), ("read", "pn2pn"), ("pattern", "pnpn"),
-                        ("boats", "pnpn"), ("words", "pnpn"), ("check", "pnpn22pnpn"), ("find", "pnpn22pnpn")):
+                        ("boats", "pnpn"), ("words", "pnpn"), ("check", "pnpn22pnpn"), ("find", "pnpn22pnpn"),
+                        ("search_words", "pnpn"), ("search_begin", "pnpn22pn"), ("search_move", "pnn"), ("search_finish", "pnpn")):
         function = getattr(library, "chains_" + name)
         function.argtypes, function.restype = [types[letter] for letter in taken], ctypes.c_uint64
     return library
@@ -143,12 +147,21 @@ def words(day, pattern):
     return _value(_library.chains_words(*_slice(day), *_slice(pattern)))
 
 
-def _request(day, pattern, from_, to):
-    """What check and find are both given, and a work area: of no words where `words` refuses, since 15 is asked before 16."""
+def search_words(day, pattern):
+    """The 32-bit words of work area that a Search has: three for each line of the record more than `words` says."""
+    return _value(_library.chains_search_words(*_slice(day), *_slice(pattern)))
+
+
+def _request(day, pattern, from_, to, words=_library.chains_words):
+    """What a request is given, and a work area: of no words where they are refused, since 15 is asked before 16."""
     asked = *_slice(day), *_slice(pattern), _u(16, from_), _u(16, to)
-    reply = _library.chains_words(*asked[:4])
+    reply = words(*asked[:4])
     needed = 0 if reply >> 32 else reply
     return asked, ((ctypes.c_uint32 * max(1, needed))(), needed)
+
+
+def _chain(reply, out):
+    return None if _value(reply) == 0xFFFFFFFF else out[:reply]
 
 
 def check(day, pattern, from_, to, chain):
@@ -165,5 +178,27 @@ def find(day, pattern, from_, to):
         out = (ctypes.c_uint16 * room)()
         reply = _library.chains_find(*asked, *area, out, room)
         if reply >> 32 != 19:
-            return None if _value(reply) == 0xFFFFFFFF else out[:reply]
+            return _chain(reply, out)
         room = reply & 0xFFFFFFFF
+
+
+class Search:
+    """A search in steps for the chain that `find` finds. It holds what it needs of record and pattern, so lines may be added to the record
+    before it is finished."""
+
+    def __init__(self, day, pattern, from_, to):
+        """Begins the search, and searches nothing yet."""
+        asked, self._area = _request(day, pattern, from_, to, _library.chains_search_words)
+        _value(_library.chains_search_begin(*asked, *self._area))
+
+    def move(self, amount):
+        """Takes up so many states, each a place, a spot in the pattern and the boats kept, or all that remain; gives how many. Where these are
+        fewer than the amount, the search is at its end."""
+        return _value(_library.chains_search_move(*self._area, _u(8 * ctypes.sizeof(ctypes.c_size_t), amount)))
+
+    def finish(self):
+        """Takes up all that remains: the line numbers of the first shortest accepted chain of the record at the beginning, or None. The search
+        is over then, and a move or a second finish is refused with 26."""
+        room = (self._area[1] - 8192) // 4  # the search size at least, and a chain has fewer lines than that
+        out = (ctypes.c_uint16 * room)()
+        return _chain(_library.chains_search_finish(*self._area, out, room), out)

@@ -5,6 +5,7 @@ Run from the repository's root, after `rt check chains` and `make lib`:
 python3 tests/program.py                     the program
 python3 tests/program.py example COMMAND     an example worked_day, which answers as the program does, built before
 python3 tests/program.py one_boat COMMAND    the example one_boat, built before
+python3 tests/program.py in_steps COMMAND    the example in_steps, built before
 
 When the program and the library are built is tested in a small tree of a few crates and an `rt` that only notes how it is called."""
 import fcntl
@@ -151,7 +152,7 @@ class Answered(Case):
 
     def test_every_refusal_in_words(self):
         tree = Tree.of(self)
-        self.assertEqual([str(i + 1) for i in range(25)], list(sentences()))
+        self.assertEqual([str(i + 1) for i in range(26)], list(sentences()))
         for number, sentence in sentences().items():
             tree.says("echo refused " + number)
             self.assertEqual((0, "refused %s\n" % number, sentence + "\n"), tree.built())
@@ -497,23 +498,35 @@ class Example(Case):
         self.assertFails(self.run_in(self.command), 2, "day.rec and ask.pat")
 
 
-class OneBoat(Case):
-    """The Rust example one_boat: what it prints, and that a failure is a line in words."""
+class OfRecord(Case):
+    """A Rust example that is given the file of a record: what it prints, and that a failure is a line in words."""
+    name, record, printed = None, None, None
 
-    def test_answers(self):
-        folder = ROOT + "/examples/one_boat"
-        self.assertEqual((0, read(folder + "/by_slip.txt"), ""), self.run_in(self.command, folder + "/day.rec"))
+    def test_answers(self): self.assertEqual((0, self.printed, ""), self.run_in(self.command, self.record))
 
     def test_failures(self):
-        self.assertFails(self.run_in(self.command, ROOT + "/tests/data/damaged/day.rec"), 1, "one_boat: " + sentences()["3"])
-        self.assertFails(self.run_in(self.command, self.folder), 1, "one_boat: Is a directory")
-        self.assertFails(self.run_in(self.command), 1, "one_boat: name a file")
-        with open("/dev/full", "w") as full:
-            self.assertFails(self.run_in(self.command, ROOT + "/examples/one_boat/day.rec", stdout=full), 1, "one_boat: No space left")
+        said = self.name + ": "
+        self.assertFails(self.run_in(self.command, ROOT + "/tests/data/damaged/day.rec"), 1, said + sentences()["3"])
+        self.assertFails(self.run_in(self.command, self.folder), 1, said + "Is a directory")
+        self.assertFails(self.run_in(self.command), 1, said + "name a file")
+        with open("/dev/full", "w") as full: self.assertFails(self.run_in(self.command, self.record, stdout=full), 1, said + "No space left")
 
+
+class OneBoat(OfRecord):
+    name, record, printed = "one_boat", ROOT + "/examples/one_boat/day.rec", read(ROOT + "/examples/one_boat/by_slip.txt")
+
+
+class InSteps(OfRecord):
+    name, record = "in_steps", DAY + "/day.rec"
+    printed = "after 3 states line 7: from 2, kind 4, class 1, sail number 150, to 3\nas it was: found 3: [1, 2, 5]\nas it is: found 3: [0, 3, 7]\n"
+
+    def test_readme(self): self.assertIn("".join("      " + row for row in self.printed.splitlines(True)), read(ROOT + "/README.md"))
+
+
+EXAMPLES = {"example": "Example", "one_boat": "OneBoat", "in_steps": "InSteps"}
 
 if __name__ == "__main__":
-    if sys.argv[1:2] in (["example"], ["one_boat"]):
+    if sys.argv[1:2] and sys.argv[1] in EXAMPLES:
         Case.command = os.path.abspath(sys.argv[2])
-        unittest.main(argv=sys.argv[:1], defaultTest="Example" if sys.argv[1] == "example" else "OneBoat")
+        unittest.main(argv=sys.argv[:1], defaultTest=EXAMPLES[sys.argv[1]])
     unittest.main(defaultTest=["Called", "Answered", "Built", "Changed", "Library", "Trust"])

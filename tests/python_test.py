@@ -102,6 +102,51 @@ class Requests(Asking):
         self.assertEqual(chains.find(day, b"\x26\x21\x01", 0, 16), list(range(16)))
         self.assertEqual(chains.find(day, b"\x26\x21\x01", 0, 17), list(range(17)))
 
+    def test_search(self):
+        r, two = day_of(4, LINES), day_of(1, [(0, 1, 1, 1, 0), (0, 1, 1, 2, 0)])
+        # How many states: those gone through backward, and with a chain all that were found but the goal.
+        for day, pattern, from_, to, states, chain in (
+                (r, P, 0, 3, 4 + 4, [1, 2, 5]), (day_of(4, LINES + [(2, 4, 1, 150, 3)]), P, 0, 3, 7 + 7, [0, 3, 7]),
+                (day_of(4, LINES[:5] + LINES[6:]), P, 0, 3, 2, None), (two, S, 0, 0, 9 + 9, [0, 0, 1, 0]), (r, NOTHING, 0, 0, 0, []),
+                (r, NOTHING, 0, 1, 1, None)):
+            self.assertEqual(chains.find(day, pattern, from_, to), chain)
+            for count in range(states + 1):
+                search = chains.Search(day, pattern, from_, to)
+                self.assertEqual((search.move(0), search.move(count)), (0, count))
+                self.assertEqual(search.finish(), chain)
+            for amount in (1, 2, 5, 2 ** 64 - 1):
+                search, left = chains.Search(day, pattern, from_, to), states
+                while left:
+                    moved = min(amount, left)
+                    self.assertEqual(search.move(amount), moved)
+                    left -= moved
+                self.assertEqual((search.move(1), search.move(amount)), (0, 0))
+                self.assertEqual(search.finish(), chain)
+                for call, given in ((search.finish, ()), (search.move, (0,)), (search.move, (1,))): self.refused(26, call, *given)
+
+    def test_lines_added_meanwhile(self):
+        for count in range(9):
+            day, pattern = day_of(4, LINES), bytearray(P)
+            search = chains.Search(day, pattern, 0, 3)
+            self.assertEqual(search.move(count), count)
+            chains.add(day, 2, 4, 1, 150, 3)
+            self.assertEqual(chains.find(day, pattern, 0, 3), [0, 3, 7])
+            day[:], pattern[:] = b"", b""
+            self.assertEqual(search.finish(), [1, 2, 5])
+
+    def test_long_search(self):
+        day = day_of(40, [(place, 1, 1, 1, place + 1) for place in range(39)])
+        for to in (16, 17, 39): self.assertEqual(chains.Search(day, b"\x26\x21\x01", 0, to).finish(), list(range(to)))
+
+    def test_search_refused(self):
+        day = day_of(4, LINES)
+        self.assertEqual(chains.search_words(day, P), 8704 + 3 * 7)
+        self.assertEqual(chains.search_words(chains.begin(1), NOTHING), 8200)
+        for number, given in ((2, (b"", P, 0, 3)), (7, (day + b"\0", P, 0, 3)), (8, (day, b"", 9, 9)), (10, (day, P[:-1], 9, 9)),
+                              (24, (day, b"\x2a\1\0\x20", 9, 9)), (15, (day, P, 0, 4))):
+            self.refused(number, chains.Search, *given)
+            if number != 15: self.refused(number, chains.search_words, *given[:2])
+
     def test_check(self):
         day = day_of(4, LINES)
         self.assertIs(chains.check(day, P, 0, 3, [1, 2, 5]), True)
@@ -170,10 +215,11 @@ class Requests(Asking):
     def test_order_of_refusals(self):
         many = day_of(1024, [(0, 1, 1, boat, 0) for boat in range(64)])
         large = bytes.fromhex("270100") + b"\x26" * 13 + b"\x21\x01"
-        self.refused(16, chains.words, many, large)
-        self.refused(16, chains.find, many, large, 0, 0)
-        self.refused(15, chains.find, many, large, 0, 1024)
-        self.refused(8, chains.find, many, b"", 0, 1024)
+        for call in (chains.words, chains.search_words): self.refused(16, call, many, large)
+        for call in (chains.find, chains.Search):
+            self.refused(16, call, many, large, 0, 0)
+            self.refused(15, call, many, large, 0, 1024)
+            self.refused(8, call, many, b"", 0, 1024)
 
     def test_pattern(self):
         self.assertEqual(chains.counts(P), (7, 1))
@@ -196,25 +242,34 @@ class Module(unittest.TestCase):
 
     def test_numbers_that_do_not_fit(self):
         day = chains.begin(2)
+        search = chains.Search(day, NOTHING, 0, 0)
         for call, given in ((chains.begin, (65537,)), (chains.begin, (-1,)), (chains.add, (day, 65536, 1, 1, 1, 0)),
                             (chains.add, (day, 0, 257, 1, 1, 0)), (chains.add, (day, 0, 1, 256, 1, 0)),
                             (chains.add, (day, 0, 1, 1, 1 << 32, 0)), (chains.find, (day, NOTHING, 65536, 0)),
-                            (chains.check, (day, NOTHING, 0, 0, [65536])), (chains.check, (day, NOTHING, 0, 0, [-1]))):
+                            (chains.check, (day, NOTHING, 0, 0, [65536])), (chains.check, (day, NOTHING, 0, 0, [-1])),
+                            (chains.Search, (day, NOTHING, 0, 65536)), (search.move, (1 << 64,)), (search.move, (-1,))):
             with self.assertRaises(OverflowError):
                 call(*given)
         self.assertEqual(day, chains.begin(2))
+        self.assertEqual(search.finish(), [])
 
     def test_version(self):
         header = (HOME / "include/chains.h").read_text()
         self.assertIn(f"#define CHAINS_VERSION {chains.version()}\n", header)
 
     def test_readme(self):
-        """README's program prints what its comments say."""
-        program = re.search(r"```python\n(.*?)```", (HOME / "README.md").read_text(), re.S)[1]
-        printed = [[chains.Line(0, 1, 2, 150, 1)], *map(eval, re.findall(r"# (\[0\]|True|\(1, 0\))", program))]
-        self.assertEqual(len(printed), 4)
-        ran = subprocess.run([sys.executable, "-c", program], capture_output=True, text=True, env=FOUND)
-        self.assertEqual((ran.stdout, ran.stderr), ("".join(f"{line}\n" for line in printed), ""))
+        """README's programs print what their comments say."""
+        first, second = re.findall(r"```python\n(.*?)```", (HOME / "README.md").read_text(), re.S)
+        said = re.findall(r"# (\[0\]|True|\(1, 0\))", first)
+        self.assertEqual(len(said), 3)
+        self.printed(first, [chains.Line(0, 1, 2, 150, 1)], *map(eval, said))
+        said = re.findall(r"print.*# (\[.*?\])", second)
+        self.assertEqual(said, ["[1, 2, 5]", "[0, 3, 7]"])
+        self.printed(second, *map(eval, said))
+
+    def printed(self, program, *lines):
+        ran = subprocess.run([sys.executable, "-c", program], capture_output=True, text=True, env=FOUND, cwd=HOME)
+        self.assertEqual((ran.stdout, ran.stderr), ("".join(f"{line}\n" for line in lines), ""))
 
 
 if __name__ == "__main__":

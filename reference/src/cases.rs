@@ -1,14 +1,16 @@
 //! Requests with replies written down by hand: document 01's rows, the places where it can
 //! be misread, request One's unread numbers, request Two's classes, request Three's rounds, request
-//! Four's counts of boats, and the vectors that tell wrong programs apart. Each is compared with
-//! this program and with the reply that stands here, so that it tests this program too.
+//! Four's counts of boats, request Five's searches, and the vectors that tell wrong programs apart.
+//! Each is compared with this program and with the reply that stands here, so that it tests this
+//! program too.
 
-use crate::compare::{self, shown};
+use crate::compare::{self, shown, Searching};
 use crate::generator::{counting_to, dirt, dirty_bytes, dirty_entries};
 use crate::library::{boats_values, pattern_values, Ask, Library};
 use crate::random::Random;
 use crate::record::{read_record, written, Line, LONGEST, MOST_LINES};
 use crate::request::{self, refused, search_size, FindReply, NO_CHAIN};
+use crate::search::{self, NO_SEARCH};
 use std::time::Instant;
 
 /// A named group of requests.
@@ -34,7 +36,6 @@ pub const ALL: &[Case] = &[
     case("A 21: a missing line after a bad join", missing_lines),
     case("A 22: dirty, exact, short and over-long areas", areas),
     case("A 25: empty chains", empty_chains),
-    case("A 26: a chain of a million entries", million),
     case("A 29: repeat and other", repeat_and_other),
     case("One: unread numbers", unread_numbers),
     case("One: lines between two places, some unread", unread_runs),
@@ -65,7 +66,18 @@ pub const ALL: &[Case] = &[
     case("Four: boats and reads", boat_counts),
     case("Four: full records", boat_counts_of_full_records),
     case("Four: the questions", boat_questions),
+    case("Five: words and questions", search_questions),
+    case("Five: areas, word by word", search_areas),
+    case("Five: empty chains, and none", search_empty),
+    case("Five: V1-V7, V12, taken up", search_vectors),
+    case("Five: lines in order", search_lines),
+    case("Five: outputs, 19 and 26", search_outputs),
+    case("Five: amounts", search_amounts),
+    case("Five: lines added meanwhile", search_meanwhile),
+    case("Five: altered areas", search_altered),
+    case("A 26: a chain of a million entries", million),
     case("V11: a chain of 92,400 lines", vector_11),
+    case("Five: V11, and 4,096 boats", search_long),
     case("the largest size, found and none", largest),
     case("Two: the largest size, found and none", largest_by_class),
     case("Three: the largest size, found and none", largest_of_rounds),
@@ -224,6 +236,65 @@ impl Bench<'_> {
             self.find_in(ask, work_len, 0, refused(19, length as u64))?;
         }
         self.check(ask, chain, 1)
+    }
+
+    /// Begins a search in a dirty area of so many words.
+    fn begin_in(&self, ask: Ask, work_len: usize, expected: u64) -> Result<Searching<'_>, String> {
+        let work = dirt(&mut Random::new(work_len as u64), work_len);
+        let (got, search) = Searching::begin(self.library, ask, &work)?;
+        expect(&format!("search with {:02x?}", ask.pat), got, expected)?;
+        Ok(search)
+    }
+
+    /// The same in an area that fits exactly.
+    fn begun(&self, ask: Ask) -> Result<Searching<'_>, String> {
+        let needed = search::words(ask.rec, ask.pat).unwrap_or(9_000);
+        self.begin_in(ask, needed as usize, 0)
+    }
+
+    /// A search takes up so many states, whatever the amounts, and comes to this chain, or to none,
+    /// from wherever it is finished. Then it is gone.
+    fn searched(&self, ask: Ask, states: usize, chain: Option<&[u16]>) -> Done {
+        let mut search = self.begun(ask)?;
+        for _ in 0..states {
+            expect("a move of 1", search.moved(1)?, 1)?;
+        }
+        for amount in [1, 0, usize::MAX] {
+            expect("a move at the end", search.moved(amount)?, 0)?;
+        }
+        let length = chain.map_or(0, |chain| chain.len());
+        let said = match search::finish(search.area(), length) {
+            FindReply::Found(chain) => Some(chain),
+            _ => None,
+        };
+        if said.as_deref() != chain {
+            return Err(format!(
+                "this program finishes with {said:?}, but the case says {chain:?}"
+            ));
+        }
+        for count in 0..=states + 1 {
+            for room in [length, length + 3, length.saturating_sub(1)] {
+                let mut search = self.begun(ask)?;
+                let taken = count.min(states) as u64;
+                expect("a move", search.moved(count)?, taken)?;
+                self.finished(&mut search, room, chain.map(<[u16]>::len))?;
+            }
+        }
+        Ok(())
+    }
+
+    /// A search is finished with so much room, its chain having this length; and then it is gone.
+    fn finished(&self, search: &mut Searching, room: usize, length: Option<usize>) -> Done {
+        let out = dirty_entries(&mut Random::new(room as u64), room);
+        let expected = match length {
+            None => NO_CHAIN,
+            Some(length) if length > room => refused(19, length as u64),
+            Some(length) => length as u64,
+        };
+        expect("finish", search.finish(&out)?, expected)?;
+        let gone = refused(NO_SEARCH, 0);
+        expect("a second finish", search.finish(&out)?, gone)?;
+        expect("a move after it", search.moved(room)?, gone)
     }
 
     fn none(&self, ask: Ask) -> Done {
@@ -2257,4 +2328,397 @@ fn boat_questions(b: &Bench) -> Result<String, String> {
     b.boats(&full, Ok([1, 4_095]))?;
     b.boats(&[&full[..], &[0]].concat(), Err(1))?;
     ok()
+}
+
+// ---- Five: searches under way
+
+fn search_questions(b: &Bench) -> Result<String, String> {
+    let (r, t) = (r(), t());
+    let words = |rec: &[u8], pat: &[u8], expected: u64| -> Done {
+        let got = compare::search_words(b.library, rec, pat)?;
+        expect(&format!("words of a search with {pat:02x?}"), got, expected)
+    };
+    // Three words more for each line.
+    words(&E, &[0x20], 8_200)?;
+    words(&r, &P, 8_704 + 21)?;
+    words(&t, &S, words_of(54) + 6)?;
+    let full = written(1, &vec![line(0, 1, 1, 1, 0); MOST_LINES]);
+    words(&full, &[0x20], 8_200 + 3 * 4_096)?;
+    words(&[1, 0, 1], &[0xFF], refused(3, 0))?;
+    words(&r, &[0xFF], refused(8, 0))?;
+    let over = boats(1_024, 64);
+    let mut pat = vec![0x27, 1, 0];
+    pat.extend(repeats(13, &[0x21, 1]));
+    words(&over, &pat, refused(16, 0))?;
+    // The finder's questions, in its order.
+    for (ask, work_len, number) in [
+        (ask(&[1, 0, 1], &[0xFF], 9, 9), 0, 3),
+        (ask(&r, &[0xFF], 9, 9), 0, 8),
+        (ask(&r, &[0x2A, 2, 1, 0xFF], 9, 9), 0, 24),
+        (ask(&r, &[0x2A, 20, 20, 0x2A, 20, 20, 0x20], 9, 9), 0, 25),
+        (ask(&over, &pat, 1_024, 0), 10, 15),
+        (ask(&over, &pat, 0, 1_024), 10, 15),
+        (ask(&over, &pat, 0, 0), 10, 16),
+        (ask(&over, &pat, 0, 0), 4_300_000, 16),
+        (ask(&r, &P, 0, 3), 0, 17),
+        (ask(&r, &P, 0, 3), 8_703, 17),
+        (ask(&r, &P, 0, 3), 8_704, 17),
+        (ask(&r, &P, 0, 3), 8_724, 17),
+        (ask(&full, &[0x21, 1], 0, 0), 8_200 + 3 * 4_096 - 1, 17),
+    ] {
+        b.begin_in(ask, work_len, refused(number, 0))?;
+    }
+    // Dirty areas, of every length from what is needed on.
+    for more in [0, 1, 63, 100_000] {
+        let mut search = b.begin_in(ask(&r, &P, 0, 3), 8_725 + more, 0)?;
+        b.finished(&mut search, 3, Some(3))?;
+    }
+    for word in [0, 1, 2, 7, 1_024, u32::MAX, 0x8000_0000] {
+        let work = vec![word; 8_414 + 5];
+        let (begun, mut search) = Searching::begin(b.library, ask(&t, &S, 0, 0), &work)?;
+        expect("begin", begun, 0)?;
+        b.finished(&mut search, 4, Some(4))?;
+    }
+    ok()
+}
+
+/// What an area holds at one count: the phase, the states expanded and found, far, rest, chosen and
+/// noted; then the distances, the queue, how each state was reached and the marks, as pairs of a
+/// place in the table and a word.
+struct Held {
+    numbers: [u32; 7],
+    tables: [&'static [(usize, u32)]; 4],
+}
+
+const fn held(numbers: [u32; 7], tables: [&'static [(usize, u32)]; 4]) -> Held {
+    Held { numbers, tables }
+}
+
+/// The areas of a search, from its begin to its end by moves of 1. `front` has the first word, then
+/// places, lines, from and the pattern's length; `loaded` what comes before the tables.
+fn held_areas(b: &Bench, ask: Ask, front: [u32; 5], loaded: &[u32], all: &[Held]) -> Done {
+    let size = (request::words(ask.rec, ask.pat).unwrap_or(0) as usize - 8_192) / 4;
+    let mut search = b.begun(ask)?;
+    for (count, held) in all.iter().enumerate() {
+        if count > 0 {
+            expect("a move of 1", search.moved(1)?, 1)?;
+        }
+        let mut area = vec![0; search.area().len()];
+        area[..5].copy_from_slice(&front);
+        area[5..12].copy_from_slice(&held.numbers);
+        for (word, byte) in area[17..].iter_mut().zip(ask.pat) {
+            *word = *byte as u32;
+        }
+        area[209..209 + loaded.len()].copy_from_slice(loaded);
+        for (number, table) in held.tables.iter().enumerate() {
+            for (at, word) in *table {
+                area[209 + loaded.len() + number * size + at] = *word;
+            }
+        }
+        if let Some(at) = (0..area.len()).find(|&at| area[at] != search.area()[at]) {
+            return Err(format!(
+                "at count {count} word {at} is {}, but the case says {}",
+                search.area()[at],
+                area[at]
+            ));
+        }
+    }
+    expect("a move at the end", search.moved(1)?, 0)
+}
+
+/// A line's number in how a state was reached.
+const BY: u32 = 1_048_576;
+
+#[rustfmt::skip]
+fn search_areas(b: &Bench) -> Result<String, String> {
+    // V4. Position 1 takes kind 1, position 2 takes kind 2, 3 is the end; a state is 4 x place and
+    // the position. No boat is kept: both lines have the number 1, and the boats have no words.
+    let rec = written(2, &[line(0, 1, 1, 1, 0), line(0, 2, 1, 1, 1)]);
+    let pat = [0x25, 0x21, 1, 0x21, 2];
+    held_areas(b, ask(&rec, &pat, 0, 1), [2, 2, 2, 0, 5], &[1, 1, 1, 16 + 2], &[
+        held([0, 0, 1, 0, 0, 0, 0], [&[(7, 1)], &[(0, 7)], &[], &[]]),
+        held([0, 1, 2, 0, 0, 0, 0], [&[(7, 1), (2, 2)], &[(0, 7), (1, 2)], &[(1, BY + 7)], &[]]),
+        // State 1, a first state, is found, and nothing nearer waits.
+        held([1, 2, 3, 3, 3, 2, 2], [&[(7, 1), (2, 2), (1, 3)], &[(0, 7), (1, 2), (2, 1)],
+            &[(1, BY + 7), (2, 2)], &[(1, 3)]]),
+        held([1, 2, 3, 3, 2, 0, 2], [&[(7, 1), (2, 2), (1, 3)], &[(0, 7), (1, 2), (2, 1)],
+            &[(1, BY + 7), (2, 2)], &[(1, 3), (2, 1)]]),
+        held([1, 2, 3, 3, 1, 1, 2], [&[(7, 1), (2, 2), (1, 3)], &[(0, 7), (1, 2), (2, 1)],
+            &[(1, BY + 7), (2, 2)], &[(1, 3), (2, 1), (7, 2)]]),
+    ])?;
+    // A boat kept at position 0 and met again at 1; 2 is the end. A state is 3 x position and the
+    // boat's number: 1 for 1-1, 2 for 1-2.
+    let rec = written(1, &[line(0, 1, 1, 1, 0), line(0, 1, 1, 2, 0)]);
+    let pat = [0x27, 1, 0, 0x22, 1, 0];
+    let loaded = [0, (1 << 24) + 1, (1 << 24) + 2, 1, 2, 1, 1];
+    const WORDS: &[(usize, u32)] = &[(6, 1), (4, 2), (5, 2), (0, 3)];
+    const QUEUE: &[(usize, u32)] = &[(0, 6), (1, 4), (2, 5), (3, 0)];
+    const TAGS: &[(usize, u32)] = &[(1, 6), (2, BY + 6), (3, 4)];
+    held_areas(b, ask(&rec, &pat, 0, 0), [3, 1, 2, 0, 6], &loaded, &[
+        held([0, 0, 1, 0, 0, 0, 0], [&[(6, 1)], &[(0, 6)], &[], &[]]),
+        held([0, 1, 3, 0, 0, 0, 0], [&[(6, 1), (4, 2), (5, 2)], &[(0, 6), (1, 4), (2, 5)],
+            &[(1, 6), (2, BY + 6)], &[]]),
+        // The first state is found, but one of the level waits.
+        held([0, 2, 4, 0, 0, 0, 0], [WORDS, QUEUE, TAGS, &[]]),
+        held([1, 3, 4, 3, 4, 2, 2], [WORDS, QUEUE, TAGS, &[(0, 3)]]),
+        held([1, 3, 4, 3, 3, 0, 2], [WORDS, QUEUE, TAGS, &[(0, 3), (4, 1)]]),
+        held([1, 3, 4, 3, 2, 0, 2], [WORDS, QUEUE, TAGS, &[(0, 3), (4, 1)]]),
+        held([1, 3, 4, 3, 1, 0, 2], [WORDS, QUEUE, TAGS, &[(0, 3), (4, 1), (6, 1)]]),
+    ])?;
+    // A boat that is forgotten can be any, or none at all: positions 0 and 1 as before, 1 takes all.
+    let pat = [0x27, 1, 0, 0x21, 2];
+    let rec = written(1, &[line(0, 2, 7, 7, 0)]);
+    let loaded = [0, (7 << 24) + 7, 1, 2];
+    held_areas(b, ask(&rec, &pat, 0, 0), [2, 1, 1, 0, 5], &loaded, &[
+        held([0, 0, 1, 0, 0, 0, 0], [&[(4, 1)], &[(0, 4)], &[], &[]]),
+        held([0, 1, 3, 0, 0, 0, 0], [&[(4, 1), (2, 2), (3, 2)], &[(0, 4), (1, 2), (2, 3)], &[(1, 4), (2, 4)], &[]]),
+        held([0, 2, 3, 0, 0, 0, 0], [&[(4, 1), (2, 2), (3, 2)], &[(0, 4), (1, 2), (2, 3)], &[(1, 4), (2, 4)], &[]]),
+        // Nothing waits, and there is no chain.
+        held([2, 3, 3, 0, 0, 0, 0], [&[(4, 1), (2, 2), (3, 2)], &[(0, 4), (1, 2), (2, 3)], &[(1, 4), (2, 4)], &[]]),
+    ])?;
+    ok()
+}
+
+fn search_empty(b: &Bench) -> Result<String, String> {
+    let r = r();
+    // The empty chain is there before anything is taken up.
+    b.searched(ask(&E, &[0x20], 0, 0), 0, Some(&[]))?;
+    b.searched(ask(&r, &[0x26, 0x21, 1], 2, 2), 0, Some(&[]))?;
+    b.searched(ask(&r, &[0x26, 0x20], 3, 3), 0, Some(&[]))?;
+    // It leads to no other place.
+    b.searched(ask(&r, &[0x26, 0x20], 0, 1), 1, None)?;
+    b.searched(ask(&E, &[0x21, 3], 0, 0), 1, None)?;
+    // None: all that leads to the goal is expanded, as with R without its line 5.
+    let mut fewer = lines_of_r();
+    fewer.remove(5);
+    b.searched(ask(&written(4, &fewer), &P, 0, 3), 2, None)?;
+    b.searched(ask(&r, &P, 1, 3), 5, None)?;
+    ok()
+}
+
+fn search_vectors(b: &Bench) -> Result<String, String> {
+    let states = [3, 7, 3, 7, 6, 4, 0, 1, 0];
+    let vectors = vector_list();
+    expect("vectors", vectors.len() as u64, states.len() as u64)?;
+    for (v, states) in vectors.iter().zip(states) {
+        b.searched(ask(&v.rec, &v.pat, 0, v.to), states, v.found.as_deref())?;
+    }
+    ok()
+}
+
+fn search_lines(b: &Bench) -> Result<String, String> {
+    let (r, t) = (r(), t());
+    b.searched(ask(&r, &P, 0, 3), 8, Some(&[1, 2, 5]))?;
+    b.searched(ask(&t, &S, 0, 0), 18, Some(&[0, 0, 1, 0]))?;
+    // What line 1 leads to is marked before line 0 is met, and would go on by line 2.
+    let four: Vec<Line> = (1..=4).map(|kind| line(0, kind, 1, 1, 0)).collect();
+    let pat = [0x24, 0x25, 0x21, 1, 0x21, 4, 0x25, 0x21, 2, 0x21, 3];
+    b.searched(ask(&written(1, &four), &pat, 0, 0), 7, Some(&[0, 3]))?;
+    // The same line from two states of a level, one of which goes on by a lower one.
+    let three: Vec<Line> = [1, 3, 2].map(|kind| line(0, kind, 1, 1, 0)).to_vec();
+    let pat = [0x24, 0x25, 0x21, 1, 0x21, 3, 0x25, 0x21, 1, 0x21, 2];
+    b.searched(ask(&written(1, &three), &pat, 0, 0), 7, Some(&[0, 1]))?;
+    // Lines between two places, twice each, and a self-loop.
+    let lines = [(0, 0), (0, 1), (0, 1), (1, 2), (1, 2), (2, 0)];
+    let lines = lines.map(|(from, to)| line(from, 1, 1, 1, to));
+    b.searched(
+        ask(&written(3, &lines), &[0x26, 0x21, 1], 0, 2),
+        4,
+        Some(&[1, 3]),
+    )?;
+    // Rounds, each with positions of its own: two, three, and one too many.
+    let one = written(1, &[line(0, 1, 1, 1, 0)]);
+    let then_2 = written(1, &[line(0, 1, 1, 1, 0), line(0, 2, 1, 1, 0)]);
+    b.searched(ask(&one, &[0x2A, 2, 3, 0x21, 1], 0, 0), 6, Some(&[0, 0]))?;
+    let pat = [
+        0x25, 0x2A, 0, 2, 0x21, 1, 0x25, 0x21, 2, 0x2A, 1, 1, 0x21, 1,
+    ];
+    b.searched(ask(&then_2, &pat, 0, 0), 4, Some(&[1, 0]))?;
+    // An unread number is kept, and met by nothing.
+    let unread = written(1, &[line(0, 1, 0, 0, 0), line(0, 2, 0, 0, 0)]);
+    b.searched(ask(&unread, &[0x27, 1, 0, 0x23, 2, 0], 0, 0), 1, None)?;
+    b.searched(ask(&unread, &[0x27, 1, 0, 0x21, 2], 0, 0), 6, Some(&[0, 1]))?;
+    ok()
+}
+
+fn search_outputs(b: &Bench) -> Result<String, String> {
+    let (r, gone) = (r(), refused(NO_SEARCH, 0));
+    for (room, expected) in [
+        (3, 3),
+        (70_000, 3),
+        (2, refused(19, 3)),
+        (0, refused(19, 3)),
+    ] {
+        for count in [0, 3, 6, 8] {
+            let mut search = b.begun(ask(&r, &P, 0, 3))?;
+            search.moved(count)?;
+            let out = dirty_entries(&mut Random::new(5), room);
+            expect("finish", search.finish(&out)?, expected)?;
+            // 26 comes before everything, with whatever output and amount.
+            for room in [0, 2, 3, 70_000] {
+                expect("finish again", search.finish(&vec![7; room])?, gone)?;
+            }
+            for amount in [0, 1, usize::MAX] {
+                expect("move", search.moved(amount)?, gone)?;
+            }
+        }
+    }
+    // No room for no chain, and for a chain of no lines.
+    b.finished(&mut b.begun(ask(&r, &P, 1, 3))?, 0, None)?;
+    b.finished(&mut b.begun(ask(&E, &[0x20], 0, 0))?, 0, Some(0))?;
+    // Areas in which no search was begun: empty, or with a first word of 0.
+    let search = b.begun(ask(&r, &P, 0, 3))?;
+    let dirty = dirt(&mut Random::new(6), 9_000);
+    for area in [vec![], vec![0], vec![0; 9_000], [&[0], &dirty[..]].concat()] {
+        for room in [0, 3] {
+            expect(
+                "finish",
+                search.altered_finish(&area, &vec![7; room])?,
+                gone,
+            )?;
+        }
+        for amount in [0, 1, usize::MAX] {
+            expect("move", search.altered_move(&area, amount)?, gone)?;
+        }
+    }
+    ok()
+}
+
+fn search_amounts(b: &Bench) -> Result<String, String> {
+    let (r, t) = (r(), t());
+    // Eighteen states are to be taken up: four levels backward, and forward again.
+    for amounts in [
+        &[18][..],
+        &[17, 1],
+        &[1, 17],
+        &[9, 9],
+        &[8, 2, 8],
+        &[0, 10, 0, 5, 3],
+        &[3, 3, 3, 3, 3, 3],
+    ] {
+        let mut search = b.begun(ask(&t, &S, 0, 0))?;
+        for &amount in amounts {
+            expect("a move", search.moved(amount)?, amount as u64)?;
+        }
+        expect("the end", search.moved(1)?, 0)?;
+        b.finished(&mut search, 4, Some(4))?;
+    }
+    // More than is left, and more than 32 bits hold.
+    for amount in [
+        19,
+        20,
+        1 << 32,
+        (1 << 32) + 1,
+        (1 << 33) + 5,
+        usize::MAX - 1,
+        usize::MAX,
+    ] {
+        let mut search = b.begun(ask(&t, &S, 0, 0))?;
+        expect("a move", search.moved(amount)?, 18)?;
+        let mut search = b.begun(ask(&t, &S, 0, 0))?;
+        expect("a move of 11", search.moved(11)?, 11)?;
+        expect("a move", search.moved(amount)?, 7)?;
+        expect("a move", search.moved(amount)?, 0)?;
+        b.finished(&mut search, 3, Some(4))?;
+    }
+    // The area may be longer from one call to the next, or shorter, if what begin asked for is there.
+    let mut search = b.begin_in(ask(&r, &P, 0, 3), 8_725 + 9, 0)?;
+    for words in [8_725, 8_800, 8_726, 20_000] {
+        expect("a move of 1", search.moved(1)?, 1)?;
+        search.lend(words);
+    }
+    b.finished(&mut search, 3, Some(3))?;
+    ok()
+}
+
+/// The reply is that for the record at the beginning.
+fn search_meanwhile(b: &Bench) -> Result<String, String> {
+    let r = r();
+    let better = line(2, 4, 1, 150, 3);
+    let mut more = lines_of_r();
+    more.push(better);
+    let longer = written(4, &more);
+    b.found(ask(&longer, &P, 0, 3), &[0, 3, 7])?;
+    for count in [0, 1, 4, 5, 8, usize::MAX] {
+        let mut search = b.begun(ask(&r, &P, 0, 3))?;
+        let length = r.len() as u64 + 10;
+        expect("add", search.add(better)?, length)?;
+        search.moved(count)?;
+        expect("add", search.add(line(0, 4, 2, 150, 3))?, length + 10)?;
+        let said = search::finish(search.area(), 3);
+        if said != FindReply::Found(vec![1, 2, 5]) {
+            return Err(format!("this program finishes with {said:?}"));
+        }
+        b.finished(&mut search, 3, Some(3))?;
+    }
+    b.searched(ask(&longer, &P, 0, 3), 14, Some(&[0, 3, 7]))?;
+    ok()
+}
+
+/// Every word of an area altered, and the area cut at every word: the calls return, and write to
+/// what was lent only.
+fn search_altered(b: &Bench) -> Result<String, String> {
+    let v4 = written(2, &[line(0, 1, 1, 1, 0), line(0, 2, 1, 1, 1)]);
+    let kept = written(1, &[line(0, 1, 1, 1, 0), line(0, 1, 1, 2, 0)]);
+    let v4 = ask(&v4, &[0x25, 0x21, 1, 0x21, 2], 0, 1);
+    let kept = ask(&kept, &[0x27, 1, 0, 0x22, 1, 0], 0, 0);
+    // The words in use, and a few after them.
+    for (ask, used) in [(v4, 213 + 4 * 8 + 3), (kept, 216 + 4 * 9 + 3)] {
+        for count in [0, 2, 4, 6] {
+            let mut search = b.begun(ask)?;
+            search.moved(count)?;
+            let area = search.area().to_vec();
+            for at in 0..used {
+                let word = area[at];
+                for other in [0, 1, word ^ 1, word.wrapping_sub(1), 4_097, BY, u32::MAX] {
+                    let mut altered = area.clone();
+                    altered[at] = other;
+                    search.altered_move(&altered, at % 3)?;
+                    search.altered_finish(&altered, &vec![7; at % 4])?;
+                }
+                search.altered_move(&area[..at], 2)?;
+                search.altered_finish(&area[..at], &[7; 2])?;
+            }
+            search.altered_move(&area[..area.len() - 1], usize::MAX)?;
+            search.altered_finish(&area[..area.len() - 1], &[7; 2])?;
+        }
+    }
+    ok()
+}
+
+/// The longest chain that there is a vector of, and tags with the last line.
+fn search_long(b: &Bench) -> Result<String, String> {
+    let clock = Instant::now();
+    let (rec, pat) = vector_11_day();
+    let asked = ask(&rec, &pat, 0, 100);
+    let mut search = b.begun(asked)?;
+    for amount in [0, 1, 1_000, 120_000] {
+        expect("a move", search.moved(amount)?, amount as u64)?;
+    }
+    b.finished(&mut search, 92_399, Some(92_400))?;
+    let mut search = b.begun(asked)?;
+    search.moved(usize::MAX)?;
+    expect("a move at the end", search.moved(1)?, 0)?;
+    let said = search::finish(search.area(), 92_400);
+    if said != FindReply::Found(vector_11_chain()) {
+        return Err("this program's search finds another chain for V11".to_string());
+    }
+    b.finished(&mut search, 92_400, Some(92_400))?;
+
+    // Each boat has a line; the last one alone is seen twice.
+    let mut lines: Vec<Line> = (0..4_095).map(|n| line(0, 1, 1, n, 0)).collect();
+    lines.push(line(0, 2, 1, 4_094, 0));
+    let rec = written(1, &lines);
+    let pat = [0x27, 1, 0, 0x22, 2, 0];
+    let mut search = b.begun(ask(&rec, &pat, 0, 0))?;
+    for _ in 0..4 {
+        expect("a move of 1", search.moved(1)?, 1)?;
+    }
+    expect("a move at the end", search.moved(1)?, 0)?;
+    let said = search::finish(search.area(), 2);
+    if said != FindReply::Found(vec![4_094, 4_095]) {
+        return Err(format!("this program finishes with {said:?}"));
+    }
+    b.finished(&mut search, 2, Some(2))?;
+    Ok(format!("{:?} with the comparison", clock.elapsed()))
 }

@@ -3,7 +3,8 @@
 
 use crate::library::{boats_values, pattern_values, read_values, Ask, Library};
 use crate::record::{self, Line};
-use crate::request::{self, refused, CheckReply, FindReply};
+use crate::request::{self, fitted, refused, CheckReply, FindReply, NO_CHAIN};
+use crate::search::{self, NO_SEARCH};
 use std::fmt::Debug;
 
 /// What a comparison comes to: the reply, or a text that says where the two differ.
@@ -47,8 +48,14 @@ impl<T: Copy + PartialEq + Debug> Lent<T> {
                 expected[at]
             ));
         }
-        let margins = self.all[..MARGIN].iter().chain(&self.all[end..]);
-        if margins.into_iter().any(|entry| *entry != self.edge) {
+        self.compare_margins(name)
+    }
+
+    /// Are the margins as they were?
+    fn compare_margins(&self, name: &str) -> Result<(), String> {
+        let end = self.all.len() - MARGIN;
+        let mut margins = self.all[..MARGIN].iter().chain(&self.all[end..]);
+        if margins.any(|entry| *entry != self.edge) {
             return Err(format!("{name}: an entry outside of it was written"));
         }
         Ok(())
@@ -293,4 +300,209 @@ pub fn find_against(
             )
         })?;
     Ok(got)
+}
+
+// ---- searches under way
+
+pub fn search_words(library: &dyn Library, rec: &[u8], pat: &[u8]) -> Compared {
+    let expected = search::words(rec, pat).unwrap_or_else(|number| refused(number, 0));
+    let given = (rec.to_vec(), pat.to_vec());
+    let got = library.search_words(&given.0, &given.1);
+    compare_reply(got, expected)
+        .and_then(|()| unchanged(&given, rec, pat))
+        .map_err(|what| {
+            let (rec, pat) = (hex(rec), hex(pat));
+            format!("words of a search, record {rec}, pattern {pat}: {what}")
+        })?;
+    Ok(got)
+}
+
+/// A search of a library's beside this program's. Each call is lent a copy of the area as this
+/// program says that it stands, so at another address.
+pub struct Searching<'a> {
+    library: &'a dyn Library,
+    /// The record that was asked about is in front; there is room for lines.
+    buf: Vec<u8>,
+    len: usize,
+    /// Where the pattern was.
+    pat: Vec<u8>,
+    /// What the finder says about the record as it was.
+    first: Result<Option<Vec<u16>>, u8>,
+    area: Vec<u32>,
+    /// The calls so far, as text.
+    told: String,
+}
+
+impl<'a> Searching<'a> {
+    /// Gives the reply to begin too. After a refusal the area is the lent one, and no search.
+    pub fn begin(
+        library: &'a dyn Library,
+        ask: Ask,
+        work: &[u32],
+    ) -> Result<(u64, Searching<'a>), String> {
+        let (expected, after) = search::begin_values(ask.rec, ask.pat, ask.from, ask.to, work);
+        let first = request::shortest(ask.rec, ask.pat, ask.from, ask.to, work.len());
+        let mut searching = Searching {
+            library,
+            buf: [ask.rec, &[0xA5; 60]].concat(),
+            len: ask.rec.len(),
+            pat: ask.pat.to_vec(),
+            first,
+            area: after,
+            told: format!(
+                "search, record {}, pattern {}, {} to {}, area {}",
+                hex(ask.rec),
+                hex(ask.pat),
+                ask.from,
+                ask.to,
+                work.len()
+            ),
+        };
+        let mut lent = Lent::new(work, 0xA5A5_A5A5);
+        let call = Ask {
+            rec: &searching.buf[..searching.len],
+            pat: &searching.pat,
+            ..ask
+        };
+        let got = library.search_begin(call, lent.inside());
+        let given = (call.rec.to_vec(), call.pat.to_vec());
+        compare_reply(got, expected)
+            .and_then(|()| lent.compare("area", &searching.area))
+            .and_then(|()| unchanged(&given, ask.rec, ask.pat))
+            .map_err(|what| searching.difference(&format!("begin: {what}")))?;
+        // From here on nothing may hang on the pattern's bytes where they were.
+        searching.pat.fill(0xA5);
+        Ok((got, searching))
+    }
+
+    /// The area as it stands.
+    pub fn area(&self) -> &[u32] {
+        &self.area
+    }
+
+    /// The first shortest chain's length, 0 where there is none.
+    pub fn length(&self) -> usize {
+        match &self.first {
+            Ok(Some(chain)) => chain.len(),
+            _ => 0,
+        }
+    }
+
+    /// A difference as text, with all that was called.
+    pub fn difference(&self, what: &str) -> String {
+        format!("{}; {what}", self.told)
+    }
+
+    pub fn moved(&mut self, amount: usize) -> Compared {
+        let (expected, after) = search::move_values(&self.area, amount);
+        let mut lent = Lent::new(&self.area, 0xA5A5_A5A5);
+        let got = self.library.search_move(lent.inside(), amount);
+        self.told += &format!(", move {amount}");
+        compare_reply(got, expected)
+            .and_then(|()| lent.compare("area", &after))
+            .map_err(|what| self.difference(&what))?;
+        self.area = after;
+        Ok(got)
+    }
+
+    /// Where a search is under way, this program has to say what its finder says.
+    pub fn finish(&mut self, out: &[u16]) -> Compared {
+        let expected = search::finish(&self.area, out.len());
+        if is_begun(&self.area) {
+            let found = fitted(self.first.clone(), out.len());
+            assert_eq!(expected, found, "the two ways differ");
+        }
+        let mut lent = Lent::new(&self.area, 0xA5A5_A5A5);
+        let mut lent_out = Lent::new(out, 0xA5A5);
+        let got = self.library.search_finish(lent.inside(), lent_out.inside());
+        self.told += &format!(", finish with {} entries", out.len());
+        let after = expected.work_after(&self.area);
+        compare_reply(got, expected.number())
+            .and_then(|()| lent_out.compare("output", &expected.out_after(out)))
+            .and_then(|()| lent.compare("area", &after))
+            .map_err(|what| self.difference(&what))?;
+        self.area = after;
+        Ok(got)
+    }
+
+    /// Adds a line to the record, where it stood when the search was begun.
+    pub fn add(&mut self, line: Line) -> Compared {
+        let (expected, after) = values_after(record::add(&self.buf, self.len, line), &self.buf);
+        let got = self.library.add(&mut self.buf, self.len, line);
+        self.told += &format!(", add {line:?}");
+        compare_reply(got, expected).map_err(|what| self.difference(&what))?;
+        if self.buf != after {
+            return Err(self.difference("the record is another"));
+        }
+        if got >> 32 == 0 {
+            self.len = got as usize;
+        }
+        Ok(got)
+    }
+
+    /// Goes on in an area of another length, no shorter than begin asked for: what is there beyond
+    /// the search is zeros.
+    pub fn lend(&mut self, words: usize) {
+        self.told += &format!(", {words} words from here on");
+        self.area.resize(words, 0);
+    }
+
+    /// A move of an area that was altered: it says 26 and leaves it, or a count up to the amount.
+    pub fn altered_move(&self, altered: &[u32], amount: usize) -> Compared {
+        let mut lent = Lent::new(altered, 0xA5A5_A5A5);
+        let got = self.library.search_move(lent.inside(), amount);
+        let told = match (got >> 32, got as u32) {
+            _ if got == refused(NO_SEARCH, 0) => lent.compare("altered area", altered),
+            (0, taken) if is_begun(altered) && taken as usize <= amount => {
+                lent.compare_margins("altered area")
+            }
+            _ => Err(format!("reply: {}", shown(got))),
+        };
+        told.map_err(|what| {
+            let altered = self.altered(altered);
+            self.difference(&format!("{altered}, then move {amount}: {what}"))
+        })?;
+        Ok(got)
+    }
+
+    /// A finish of such an area: it says 26 and leaves area and output, or one of the other
+    /// replies.
+    pub fn altered_finish(&self, altered: &[u32], out: &[u16]) -> Compared {
+        let mut lent = Lent::new(altered, 0xA5A5_A5A5);
+        let mut lent_out = Lent::new(out, 0xA5A5);
+        let got = self.library.search_finish(lent.inside(), lent_out.inside());
+        let fits = got == NO_CHAIN || got <= out.len() as u64;
+        let told = match got >> 32 {
+            _ if got == refused(NO_SEARCH, 0) => lent
+                .compare("altered area", altered)
+                .and_then(|()| lent_out.compare("output", out)),
+            0 | 19 if is_begun(altered) && (fits || got >> 32 == 19) => lent
+                .compare_margins("altered area")
+                .and_then(|()| lent_out.compare_margins("output")),
+            _ => Err(format!("reply: {}", shown(got))),
+        };
+        told.map_err(|what| {
+            let (altered, entries) = (self.altered(altered), out.len());
+            self.difference(&format!(
+                "{altered}, then finish with {entries} entries: {what}"
+            ))
+        })?;
+        Ok(got)
+    }
+
+    /// What was altered, as text.
+    fn altered(&self, altered: &[u32]) -> String {
+        let mut text = format!("altered, {} words", altered.len());
+        let pairs = self.area.iter().zip(altered).enumerate();
+        let changed = pairs.filter(|(_, (was, is))| was != is);
+        for (at, (_, is)) in changed.clone().take(50) {
+            text += &format!(", word {at} is {is}");
+        }
+        text + &format!(" ({} in all)", changed.count())
+    }
+}
+
+/// Is the area neither empty nor one whose first word is 0?
+fn is_begun(area: &[u32]) -> bool {
+    area.first().is_some_and(|&word| word != 0)
 }

@@ -1,11 +1,12 @@
 //! Planted faults: copies of this program, each wrong in one way that a reader of document 01
-//! or of requests One to Four could fall into. The comparison must tell every one of them from
+//! or of requests One to Five could fall into. The comparison must tell every one of them from
 //! this program, so that its silence about the library says something.
 
 mod counting;
 mod faulty;
 mod reading;
 mod searching;
+mod stepping;
 
 use crate::cases::{Bench, ALL};
 use crate::library::{Ask, Library};
@@ -181,6 +182,37 @@ pub enum Fault {
     ThirdPastBoats,
     RoomBeforeRecord,
     WritesWhereRefused,
+    // A search under way: its begin.
+    SearchWordsAsFind,
+    SearchAsks17AsFind,
+    BeginSearches,
+    BeginLeavesRest,
+    NumbersWhereKept,
+    // States expanded.
+    PositionsDownward,
+    LinesDownward,
+    NoBoatLeftOut,
+    TagsFromOne,
+    TagsWithItself,
+    StopsLate,
+    StopsAtFirst,
+    // States taken up once more.
+    LeastBelow,
+    UndercutMarks,
+    NotedStays,
+    // Its moves.
+    SweepUncounted,
+    OneTooMany,
+    SaysAmount,
+    AmountIn32Bits,
+    // Its finish.
+    FinishSweepsAgain,
+    LeavesSearchAfter19,
+    Only26OfEmpty,
+    // An area that was altered.
+    ClearsAltered,
+    PastCutArea,
+    CountsAltered,
 }
 
 /// A fault, in words, and the sorts of rounds that meet it.
@@ -204,12 +236,14 @@ const W: &[&str] = &["writes"];
 const C: &[&str] = &["checks"];
 const F: &[&str] = &["finds"];
 const N: &[&str] = &["boats"];
+const S: &[&str] = &["searches"];
 const BW: &[&str] = &["bytes", "writes"];
 const BN: &[&str] = &["bytes", "boats"];
 const BWN: &[&str] = &["bytes", "writes", "boats"];
 const BCF: &[&str] = &["bytes", "checks", "finds"];
 const BCFN: &[&str] = &["bytes", "checks", "finds", "boats"];
 const CF: &[&str] = &["checks", "finds"];
+const FS: &[&str] = &["finds", "searches"];
 
 /// Every fault.
 #[rustfmt::skip]
@@ -313,12 +347,12 @@ pub const PLANTED: &[Planted] = &[
     planted(ClearsAt17, CF, "clears the area at 17"),
     planted(CountsInArea, CF, "counts boats in the area and then refuses with 16"),
     planted(PastArea, CF, "writes one word past the area"),
-    planted(ClearsOutput, F, "clears the rest of the output"),
-    planted(WritesPrefix, F, "writes what fits and then refuses with 19"),
-    planted(InventsLength, F, "19 with the output's length and one"),
-    planted(RefusesExact, F, "refuses an output that fits exactly"),
-    planted(NoneWhenShort, F, "says none when the output is too short"),
-    planted(NoneWhenEmpty, F, "says none when the output is empty"),
+    planted(ClearsOutput, FS, "clears the rest of the output"),
+    planted(WritesPrefix, FS, "writes what fits and then refuses with 19"),
+    planted(InventsLength, FS, "19 with the output's length and one"),
+    planted(RefusesExact, FS, "refuses an output that fits exactly"),
+    planted(NoneWhenShort, FS, "says none when the output is too short"),
+    planted(NoneWhenEmpty, FS, "says none when the output is empty"),
     planted(BeginLowFirst, W, "begin writes the count's low byte first"),
     planted(BeginClears, W, "begin clears the whole buffer"),
     planted(AddAsks1OfBuffer, W, "add asks 1 of the buffer's length"),
@@ -354,6 +388,31 @@ pub const PLANTED: &[Planted] = &[
     planted(ThirdPastBoats, N, "writes a third word after boats and reads where two are lent"),
     planted(RoomBeforeRecord, N, "says 0 for too few words before it asks about the record"),
     planted(WritesWhereRefused, N, "writes zeros for boats and reads where the record is refused"),
+    planted(SearchWordsAsFind, S, "says of a search that it needs the finder's words"),
+    planted(SearchAsks17AsFind, S, "begins a search with the finder's words"),
+    planted(BeginSearches, S, "begin takes up the goal"),
+    planted(BeginLeavesRest, S, "begin leaves the words of the area that a search does not use"),
+    planted(NumbersWhereKept, S, "takes boat numbers into the area only where a boat is kept"),
+    planted(PositionsDownward, S, "expands a state by the positions from the last one down"),
+    planted(LinesDownward, S, "expands a state by the lines from the last one down"),
+    planted(NoBoatLeftOut, S, "finds no state that has no boat at a level"),
+    planted(TagsFromOne, S, "counts lines from 1 in how a state was reached"),
+    planted(TagsWithItself, S, "says the state itself in how it was reached"),
+    planted(StopsLate, S, "expands the first states' level too"),
+    planted(StopsAtFirst, S, "stops as soon as a first state is found"),
+    planted(LeastBelow, S, "marks where a line leads only from the first state that has it"),
+    planted(UndercutMarks, S, "takes every marked state for one in front"),
+    planted(NotedStays, S, "keeps the least line of one level for the next"),
+    planted(SweepUncounted, S, "leaves the states that are taken up once more to the finish"),
+    planted(OneTooMany, S, "takes up a state more than the amount"),
+    planted(SaysAmount, S, "says the amount where less is left"),
+    planted(AmountIn32Bits, S, "takes an amount in 32 bits"),
+    planted(FinishSweepsAgain, S, "finish takes up again what moves took up forward"),
+    planted(LeavesSearchAfter19, S, "leaves the search in the area after 19"),
+    planted(Only26OfEmpty, S, "gives 26 only where the area is empty"),
+    planted(ClearsAltered, S, "clears an altered area and says 26"),
+    planted(PastCutArea, S, "writes past an area that was cut short"),
+    planted(CountsAltered, S, "says of an altered area how many states it has expanded"),
 ];
 
 /// What found a fault, and after how many requests.
@@ -458,5 +517,17 @@ impl Library for Counted {
     }
     fn find(&self, ask: Ask, work: &mut [u32], out: &mut [u16]) -> u64 {
         self.asked().find(ask, work, out)
+    }
+    fn search_words(&self, rec: &[u8], pat: &[u8]) -> u64 {
+        self.asked().search_words(rec, pat)
+    }
+    fn search_begin(&self, ask: Ask, work: &mut [u32]) -> u64 {
+        self.asked().search_begin(ask, work)
+    }
+    fn search_move(&self, work: &mut [u32], amount: usize) -> u64 {
+        self.asked().search_move(work, amount)
+    }
+    fn search_finish(&self, work: &mut [u32], out: &mut [u16]) -> u64 {
+        self.asked().search_finish(work, out)
     }
 }

@@ -1019,6 +1019,89 @@ fn work_len(random: &mut Random, needed: Option<u64>) -> usize {
     }
 }
 
+/// The same for a search, of which no area is large; and as many words as the finder needs.
+pub fn search_len(random: &mut Random, needed: u64, finders: u64) -> usize {
+    let (needed, finders) = (needed as usize, finders as usize);
+    if needed >= 60_000 {
+        return random.below(60_000);
+    }
+    match random.below(24) {
+        0 | 1 => needed - 1,
+        2 => random.between(finders, needed) - 1,
+        3 => random.below(needed),
+        4 => 0,
+        5..=10 => needed + random.between(1, 70),
+        _ => needed,
+    }
+}
+
+/// How many states a search of this size is moved on by.
+pub fn amount(random: &mut Random, size: usize) -> usize {
+    match random.below(16) {
+        0 => 0,
+        1..=5 => 1,
+        6..=9 => random.between(2, 6),
+        10..=13 => random.between(1, size),
+        14 => random.pick(&[1 << 32, (1 << 32) + 1, usize::MAX - 1]),
+        _ => random.pick(&[2 * size + 2, usize::MAX]),
+    }
+}
+
+/// An area in which a search stands, or did: some words are others, or it is cut short, or both.
+pub fn altered(random: &mut Random, area: &[u32]) -> Vec<u32> {
+    let mut altered = area.to_vec();
+    // Words beyond the last that is not 0 are slack, or tables that are still empty.
+    let used = area
+        .iter()
+        .rposition(|&word| word != 0)
+        .map_or(0, |at| at + 1);
+    for _ in 0..random.pick(&[1, 1, 1, 2, 4]) {
+        if altered.is_empty() {
+            break;
+        }
+        let last = altered.len() - 1;
+        let in_front = random.below(17).min(last);
+        let in_pattern = random.between(17, 208).min(last);
+        let in_use = random.below(used + 8).min(last);
+        let anywhere = random.below(last + 1);
+        let at = random.pick(&[
+            in_front, in_front, in_front, in_pattern, in_use, in_use, anywhere,
+        ]);
+        altered[at] = other_word(random, &altered, at);
+        match random.below(12) {
+            0 => altered.truncate(random.below(last + 1)),
+            1 => altered.truncate(random.below(used + 8)),
+            2 => altered.swap(at, in_use),
+            3 => altered[at..].fill(0),
+            _ => {}
+        }
+    }
+    altered
+}
+
+/// A word at the edges of what can stand there, one like those that do, or any.
+fn other_word(random: &mut Random, area: &[u32], at: usize) -> u32 {
+    let word = area[at];
+    let like = area[random.below(area.len())];
+    let any = random.draw() as u32;
+    let edge = random.pick(&[
+        0,
+        1,
+        2,
+        3,
+        63,
+        1_024,
+        1_025,
+        4_096,
+        4_097,
+        4_098,
+        1 << 20,
+        1 << 31,
+    ]);
+    let near = random.pick(&[word.wrapping_add(1), word.wrapping_sub(1)]);
+    random.pick(&[near, near, edge, edge, like, any, u32::MAX, 0x28])
+}
+
 fn room(random: &mut Random) -> Room {
     match random.below(8) {
         0 | 1 => Room::OneShort,

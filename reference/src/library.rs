@@ -1,9 +1,10 @@
-//! The eight functions that scoring software calls, as a trait: the linked library is one
+//! The twelve functions that scoring software calls, as a trait: the linked library is one
 //! of these, and this program is another.
 
 use crate::pattern::read_pattern;
 use crate::record::{self, Line};
 use crate::request::{self, refused};
+use crate::search;
 
 /// Each reply is n · 2^32 + value: n is 0 or the number of the refused question, value
 /// the second number then.
@@ -16,9 +17,13 @@ pub trait Library {
     fn words(&self, rec: &[u8], pat: &[u8]) -> u64;
     fn check(&self, ask: Ask, chain: &[u16], work: &mut [u32]) -> u64;
     fn find(&self, ask: Ask, work: &mut [u32], out: &mut [u16]) -> u64;
+    fn search_words(&self, rec: &[u8], pat: &[u8]) -> u64;
+    fn search_begin(&self, ask: Ask, work: &mut [u32]) -> u64;
+    fn search_move(&self, work: &mut [u32], amount: usize) -> u64;
+    fn search_finish(&self, work: &mut [u32], out: &mut [u16]) -> u64;
 }
 
-/// What checker and finder are both given.
+/// What checker, finder and the begin of a search are given.
 #[derive(Clone, Copy)]
 pub struct Ask<'a> {
     pub rec: &'a [u8],
@@ -27,7 +32,7 @@ pub struct Ask<'a> {
     pub to: u16,
 }
 
-/// This program behind the same eight functions.
+/// This program behind the same twelve functions.
 pub struct Own;
 
 impl Library for Own {
@@ -69,6 +74,29 @@ impl Library for Own {
 
     fn find(&self, ask: Ask, work: &mut [u32], out: &mut [u16]) -> u64 {
         let reply = request::find(ask.rec, ask.pat, ask.from, ask.to, work.len(), out.len());
+        work.copy_from_slice(&reply.work_after(work));
+        out.copy_from_slice(&reply.out_after(out));
+        reply.number()
+    }
+
+    fn search_words(&self, rec: &[u8], pat: &[u8]) -> u64 {
+        search::words(rec, pat).unwrap_or_else(|number| refused(number, 0))
+    }
+
+    fn search_begin(&self, ask: Ask, work: &mut [u32]) -> u64 {
+        let (reply, after) = search::begin_values(ask.rec, ask.pat, ask.from, ask.to, work);
+        work.copy_from_slice(&after);
+        reply
+    }
+
+    fn search_move(&self, work: &mut [u32], amount: usize) -> u64 {
+        let (reply, after) = search::move_values(work, amount);
+        work.copy_from_slice(&after);
+        reply
+    }
+
+    fn search_finish(&self, work: &mut [u32], out: &mut [u16]) -> u64 {
+        let reply = search::finish(work, out.len());
         work.copy_from_slice(&reply.work_after(work));
         out.copy_from_slice(&reply.out_after(out));
         reply.number()

@@ -1,4 +1,4 @@
-//! The static library behind the eight functions. Nothing checks these declarations
+//! The static library behind the twelve functions. Nothing checks these declarations
 //! against its source: the comparison does.
 
 use crate::library::{Ask, Library};
@@ -51,6 +51,19 @@ extern "C" {
         out: *mut u16,
         out_len: usize,
     ) -> u64;
+    fn chains_search_words(rec: *const u8, rec_len: usize, pat: *const u8, pat_len: usize) -> u64;
+    fn chains_search_begin(
+        rec: *const u8,
+        rec_len: usize,
+        pat: *const u8,
+        pat_len: usize,
+        from: u16,
+        to: u16,
+        work: *mut u32,
+        work_len: usize,
+    ) -> u64;
+    fn chains_search_move(work: *mut u32, work_len: usize, amount: usize) -> u64;
+    fn chains_search_finish(work: *mut u32, work_len: usize, out: *mut u16, out_len: usize) -> u64;
 }
 
 /// The linked library.
@@ -134,5 +147,32 @@ impl Library for Linked {
                 out.len(),
             )
         }
+    }
+
+    fn search_words(&self, rec: &[u8], pat: &[u8]) -> u64 {
+        unsafe { chains_search_words(rec.as_ptr(), rec.len(), pat.as_ptr(), pat.len()) }
+    }
+
+    fn search_begin(&self, ask: Ask, work: &mut [u32]) -> u64 {
+        unsafe {
+            chains_search_begin(
+                ask.rec.as_ptr(),
+                ask.rec.len(),
+                ask.pat.as_ptr(),
+                ask.pat.len(),
+                ask.from,
+                ask.to,
+                work.as_mut_ptr(),
+                work.len(),
+            )
+        }
+    }
+
+    fn search_move(&self, work: &mut [u32], amount: usize) -> u64 {
+        unsafe { chains_search_move(work.as_mut_ptr(), work.len(), amount) }
+    }
+
+    fn search_finish(&self, work: &mut [u32], out: &mut [u16]) -> u64 {
+        unsafe { chains_search_finish(work.as_mut_ptr(), work.len(), out.as_mut_ptr(), out.len()) }
     }
 }

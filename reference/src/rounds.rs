@@ -1,25 +1,27 @@
 //! One round of the random comparison, of each sort. A round gives the replies it saw, to
 //! be counted, or says where the two programs differ.
 
-use crate::compare;
+use crate::compare::{self, Searching};
 use crate::generator::{
-    any_bytes, counted_day, damage_record, dirt, dirty_bytes, dirty_entries, new_line, request,
+    altered, amount, any_bytes, counted_day, damage_record, dirt, dirty_bytes, dirty_entries,
+    new_line, request, search_len,
 };
 use crate::library::{Ask, Library};
 use crate::random::Random;
 use crate::record::{written, Line, MOST_LINES};
-use crate::request::{fitted, shortest};
+use crate::request::{fitted, shortest, words};
 
 pub type Replies = Result<Vec<u64>, String>;
 pub type Round = fn(&dyn Library, &mut Random) -> Replies;
 
 /// The sorts of rounds, by name.
-pub const SORTS: [(&str, Round); 5] = [
+pub const SORTS: [(&str, Round); 6] = [
     ("bytes", bytes),
     ("writes", writes),
     ("checks", check),
     ("finds", find),
     ("boats", boats),
+    ("searches", search),
 ];
 
 /// Records and patterns of any bytes: words, one line read back, and the pattern's counts.
@@ -146,3 +148,100 @@ pub fn boats(library: &dyn Library, random: &mut Random) -> Replies {
 
 /// A boat kept, and nothing after it.
 const ONE_KEEP: [u8; 4] = [0x27, 1, 0, 0x20];
+
+/// So many moves of 1 at most, before the rest is taken up in one.
+const MOST_ONES: usize = 300;
+
+/// A search begun, moved on and finished, with lines added to its record meanwhile; and areas that
+/// were altered.
+pub fn search(library: &dyn Library, random: &mut Random) -> Replies {
+    let asked = request(random);
+    let ask = Ask {
+        rec: &asked.rec,
+        pat: &asked.pat,
+        from: asked.from,
+        to: asked.to,
+    };
+    let needed = compare::search_words(library, ask.rec, ask.pat)?;
+    let finders = words(ask.rec, ask.pat).unwrap_or(0);
+    let work_len = match needed >> 32 {
+        0 => search_len(random, needed, finders),
+        _ => random.below(12_000),
+    };
+    let work = dirt(random, work_len);
+    let (begun, mut search) = Searching::begin(library, ask, &work)?;
+    let mut replies = vec![needed, begun];
+    if begun != 0 {
+        // The area is as it was, and no search is there.
+        replies.push(search.altered_move(&work, random.below(9))?);
+        return Ok(replies);
+    }
+    let size = (finders as usize - 8_192) / 4;
+    let earlier = search.area().to_vec();
+    if random.once_in(5) {
+        replies.extend(by_ones(&mut search, size)?);
+    }
+    for _ in 0..random.below(4) {
+        replies.extend(meanwhile(&mut search, random, needed as usize, &earlier)?);
+        replies.push(search.moved(amount(random, size))?);
+    }
+    replies.extend(meanwhile(&mut search, random, needed as usize, &earlier)?);
+    let out = dirty_entries(random, asked.room.entries(search.length()));
+    replies.push(search.finish(&out)?);
+    // Nothing is there any more.
+    replies.push(search.finish(&out)?);
+    replies.push(search.moved(amount(random, size))?);
+    Ok(replies)
+}
+
+/// Moves of 1 to the end: of those that take up a state there are at most 2 × size + 2.
+fn by_ones(search: &mut Searching, size: usize) -> Replies {
+    let mut replies = Vec::new();
+    for moves in 0..MOST_ONES {
+        let reply = search.moved(1)?;
+        replies.push(reply);
+        if reply == 0 {
+            break;
+        }
+        if moves >= 2 * size + 2 {
+            return Err(search.difference("so many moves of 1 should reach the end"));
+        }
+    }
+    Ok(replies)
+}
+
+/// What comes between two calls: nothing; lines that are added; another length of the area, which
+/// still has what is needed; and what becomes of a copy that was altered, or that is in part the
+/// area as it was earlier.
+fn meanwhile(
+    search: &mut Searching,
+    random: &mut Random,
+    needed: usize,
+    earlier: &[u32],
+) -> Replies {
+    let altered = match random.below(16) {
+        0 | 1 => {
+            let lines = random.between(1, 3);
+            return (0..lines)
+                .map(|_| search.add(new_line(random, 2)))
+                .collect();
+        }
+        2 => {
+            search.lend(needed + random.below(40));
+            return Ok(Vec::new());
+        }
+        3..=6 => altered(random, search.area()),
+        7 => {
+            let cut = random.below(needed);
+            [&search.area()[..cut], &earlier[cut..]].concat()
+        }
+        _ => return Ok(Vec::new()),
+    };
+    let amount = random.pick(&[0, 1, 2, 7, usize::MAX]);
+    let room = random.pick(&[0, 1, 3, 40]);
+    let out = dirty_entries(random, room);
+    Ok(vec![
+        search.altered_move(&altered, amount)?,
+        search.altered_finish(&altered, &out)?,
+    ])
+}

@@ -5,8 +5,9 @@ use reference::cases::{Bench, ALL};
 use reference::library::Own;
 
 /// Long searches are left to the release build.
-const LONG: [&str; 4] = [
+const LONG: [&str; 5] = [
     "V11: a chain of 92,400 lines",
+    "Five: V11, and 4,096 boats",
     "the largest size, found and none",
     "Two: the largest size, found and none",
     "Three: the largest size, found and none",

@@ -2,13 +2,14 @@
 
 use reference::chains::search;
 use reference::generator::{counted_day, request, Room};
-use reference::library::Own;
+use reference::library::{Ask, Library, Own};
 use reference::membership::compared;
 use reference::pattern::{Node, Rule};
 use reference::random::Random;
 use reference::record::{count_boats, read_record, written, Boat, Line, UNREAD};
 use reference::request::{ask, shortest, NO_CHAIN};
 use reference::rounds::{self, Round};
+use std::cell::RefCell;
 use std::collections::{BTreeMap, BTreeSet};
 
 fn tally(round: Round, seed: u64, count: usize) -> BTreeMap<u64, usize> {
@@ -41,6 +42,8 @@ fn every_question_is_met() {
     let of_find = (2..=17).chain([0, 19, 24, 25]);
     all_met(&tally(rounds::find, 4, 20_000), of_find);
     all_met(&tally(rounds::boats, 5, 4_000), 0..=7);
+    let of_search = (2..=17).chain([0, 19, 24, 25, 26]);
+    all_met(&tally(rounds::search, 6, 10_000), of_search);
 }
 
 #[test]
@@ -149,6 +152,113 @@ fn boats_to_count_are_met() {
     println!("{none} days with no boat, {one} with one, {few} with few, {many} with many, {again} with one again, {unread} with unread ones, {classes} with a number in several classes, {far} with many reads; {refused} refused");
     assert!(none > 150 && one > 400 && few > 800 && many > 100 && again > 1_200);
     assert!(unread > 1_000 && classes > 800 && refused > 400 && far > 20);
+}
+
+/// This program, and how often it was asked what about searches.
+#[derive(Default)]
+struct Watched(RefCell<BTreeMap<String, usize>>);
+
+impl Watched {
+    fn met(&self, what: String) {
+        *self.0.borrow_mut().entry(what).or_insert(0) += 1;
+    }
+
+    fn count(&self, what: &str) -> usize {
+        self.0.borrow().get(what).copied().unwrap_or(0)
+    }
+}
+
+#[rustfmt::skip]
+impl Library for Watched {
+    fn begin(&self, buf: &mut [u8], places: u16) -> u64 { Own.begin(buf, places) }
+    fn add(&self, buf: &mut [u8], len: usize, line: Line) -> u64 {
+        self.met("a line added".to_string());
+        Own.add(buf, len, line)
+    }
+    fn read(&self, rec: &[u8], number: u16, fields: &mut [u32]) -> u64 { Own.read(rec, number, fields) }
+    fn pattern(&self, pat: &[u8], counts: &mut [u32]) -> u64 { Own.pattern(pat, counts) }
+    fn boats(&self, rec: &[u8], counts: &mut [u32]) -> u64 { Own.boats(rec, counts) }
+    fn words(&self, rec: &[u8], pat: &[u8]) -> u64 { Own.words(rec, pat) }
+    fn check(&self, ask: Ask, chain: &[u16], work: &mut [u32]) -> u64 { Own.check(ask, chain, work) }
+    fn find(&self, ask: Ask, work: &mut [u32], out: &mut [u16]) -> u64 { Own.find(ask, work, out) }
+    fn search_words(&self, rec: &[u8], pat: &[u8]) -> u64 { Own.search_words(rec, pat) }
+    fn search_begin(&self, ask: Ask, work: &mut [u32]) -> u64 {
+        let needed = Own.search_words(ask.rec, ask.pat);
+        let reply = Own.search_begin(ask, work);
+        if reply == 0 {
+            let exact = work.len() as u64 == needed;
+            self.met(format!("begun, {}", if exact { "exact" } else { "longer" }));
+        } else if work.len() as u64 + 1 == needed {
+            self.met("one word short".to_string());
+        }
+        reply
+    }
+    fn search_move(&self, work: &mut [u32], amount: usize) -> u64 {
+        let phase = work.get(5).copied().unwrap_or(0);
+        let reply = Own.search_move(work, amount);
+        match reply {
+            _ if reply >> 32 != 0 => self.met("26 for a move".to_string()),
+            0 if amount == 0 => self.met("no amount".to_string()),
+            0 => self.met("at the end".to_string()),
+            taken if taken < amount as u64 => self.met(format!("phase {phase}, all that was left")),
+            _ => self.met(format!("phase {phase}, the amount")),
+        }
+        if (21..1 << 32).contains(&reply) {
+            self.met("many states".to_string());
+        }
+        reply
+    }
+    fn search_finish(&self, work: &mut [u32], out: &mut [u16]) -> u64 {
+        let phase = work.get(5).copied().unwrap_or(0);
+        let reply = Own.search_finish(work, out);
+        match (reply, reply >> 32) {
+            (NO_CHAIN, _) => self.met(format!("phase {phase}, none")),
+            (_, 0) if reply == out.len() as u64 => self.met(format!("phase {phase}, exact")),
+            (_, 0) => self.met(format!("phase {phase}, longer")),
+            (_, number) => self.met(format!("{number} for a finish")),
+        }
+        reply
+    }
+}
+
+/// Searches begin in areas that fit and that are longer, are moved on and finished in every phase,
+/// by amounts that are taken up whole and such that are not, and lines are added meanwhile.
+#[test]
+fn searches_are_met() {
+    let watched = Watched::default();
+    let mut random = Random::new(11);
+    for _ in 0..8_000 {
+        rounds::search(&watched, &mut random).expect("same");
+    }
+    println!("{:?}", watched.0.borrow());
+    for (what, least) in [
+        ("begun, exact", 2_000),
+        ("begun, longer", 1_000),
+        ("one word short", 300),
+        ("a line added", 1_000),
+        ("no amount", 500),
+        ("at the end", 3_000),
+        ("phase 0, the amount", 3_000),
+        ("phase 0, all that was left", 500),
+        ("phase 1, the amount", 2_000),
+        ("phase 1, all that was left", 100),
+        ("many states", 100),
+        ("26 for a move", 4_000),
+        ("26 for a finish", 4_000),
+        ("19 for a finish", 500),
+        ("phase 0, exact", 150),
+        ("phase 0, longer", 150),
+        ("phase 0, none", 100),
+        ("phase 1, exact", 1_000),
+        ("phase 1, longer", 500),
+        ("phase 2, none", 300),
+    ] {
+        assert!(
+            watched.count(what) > least,
+            "{what}: {}",
+            watched.count(what)
+        );
+    }
 }
 
 /// The pattern with one of its tests in place of another.

@@ -1,9 +1,9 @@
 //! The library's functions as they are, on buffers that the caller lends: one function for
 //! each, and an enum for each sort of reply. Nothing is allocated.
 //!
-//! What becomes of each lent buffer is said with each function. [`Record`](crate::Record)
-//! and [`Finder`](crate::Finder) do the lending for you. A later version may add cases to a
-//! reply, so a `match` needs an arm for the rest.
+//! What becomes of each lent buffer is said with each function. [`Record`](crate::Record),
+//! [`Finder`](crate::Finder) and [`Search`](crate::Search) do the lending for you. A later version
+//! may add cases to a reply, so a `match` needs an arm for the rest.
 //!
 //! ```
 //! use chains::lent::{self, FindReply, PatternReply, WordsReply};
@@ -68,7 +68,7 @@ pub enum BoatsReply {
     Refused(Refusal),
 }
 
-/// The reply of [`words`].
+/// The reply of [`words`] and [`search_words`].
 #[derive(Clone, Copy, PartialEq, Eq, Debug)]
 #[must_use]
 #[non_exhaustive]
@@ -92,7 +92,7 @@ pub enum CheckReply {
     Refused(Refusal),
 }
 
-/// The reply of [`find`].
+/// The reply of [`find`] and [`search_finish`].
 #[derive(Clone, Copy, PartialEq, Eq, Debug)]
 #[must_use]
 #[non_exhaustive]
@@ -102,6 +102,28 @@ pub enum FindReply {
     /// No chain, of any length, is accepted.
     NoChain,
     /// A question was answered no.
+    Refused(Refusal),
+}
+
+/// The reply of [`search_begin`].
+#[derive(Clone, Copy, PartialEq, Eq, Debug)]
+#[must_use]
+#[non_exhaustive]
+pub enum BeginReply {
+    /// The work area holds the search.
+    Begun,
+    /// A question was answered no; no word was altered.
+    Refused(Refusal),
+}
+
+/// The reply of [`search_move`].
+#[derive(Clone, Copy, PartialEq, Eq, Debug)]
+#[must_use]
+#[non_exhaustive]
+pub enum MoveReply {
+    /// So many states were taken up.
+    Moved(usize),
+    /// A question was answered no; no word was altered.
     Refused(Refusal),
 }
 
@@ -193,14 +215,18 @@ pub fn boats(record: &[u8]) -> BoatsReply {
     }
 }
 
+fn words_reply(reply: u64) -> WordsReply {
+    match taken_apart(reply) {
+        Ok(words) => WordsReply::Words(words as usize),
+        Err(refusal) => WordsReply::Refused(refusal),
+    }
+}
+
 /// How many words of work area [`check`] and [`find`] need, for this record and pattern.
 ///
 /// Refusals: 1 to 14, 24 and 25, then 16.
 pub fn words(record: &[u8], pattern: &[u8]) -> WordsReply {
-    match taken_apart(linked::words(record, pattern)) {
-        Ok(words) => WordsReply::Words(words as usize),
-        Err(refusal) => WordsReply::Refused(refusal),
-    }
+    words_reply(linked::words(record, pattern))
 }
 
 /// Does the chain lead from the first place to the second, and does the pattern accept it?
@@ -222,6 +248,14 @@ pub fn check(
     }
 }
 
+fn find_reply(reply: u64) -> FindReply {
+    match taken_apart(reply) {
+        Ok(NO_CHAIN) => FindReply::NoChain,
+        Ok(length) => FindReply::Found(length as usize),
+        Err(refusal) => FindReply::Refused(refusal),
+    }
+}
+
 /// Finds the shortest accepted chain from the first place to the second; of several, the one
 /// with the lower line number at the first difference.
 ///
@@ -236,9 +270,71 @@ pub fn find(
     work: &mut [u32],
     out: &mut [u16],
 ) -> FindReply {
-    match taken_apart(linked::find(record, pattern, from, to, work, out)) {
-        Ok(NO_CHAIN) => FindReply::NoChain,
-        Ok(length) => FindReply::Found(length as usize),
-        Err(refusal) => FindReply::Refused(refusal),
+    find_reply(linked::find(record, pattern, from, to, work, out))
+}
+
+/// How many words of work area [`search_begin`] needs, for this record and pattern: three for
+/// each line of the record more than [`words`] says.
+///
+/// Refusals: 1 to 14, 24 and 25, then 16.
+pub fn search_words(record: &[u8], pattern: &[u8]) -> WordsReply {
+    words_reply(linked::search_words(record, pattern))
+}
+
+/// Begins a search in steps for the chain that [`find`] finds, and takes up no state of it.
+///
+/// Refusals: 1 to 14, 24 and 25, then 15 to 17, which asks for what [`search_words`] says. The
+/// work area may hold anything before; it holds the search afterwards, until it is finished, and
+/// its first word is not 0. A refusal leaves it untouched. Neither the record nor the pattern is
+/// looked at again.
+///
+/// ```
+/// use chains::lent::{self, BeginReply, FindReply, MoveReply, WordsReply};
+///
+/// let day = [1, 0, 2, 2, 0, 0, 1, 2, 0, 0, 150, 0, 1, 0]; // two places, one line
+/// let pattern = [0x21, 1];
+/// let WordsReply::Words(words) = lent::search_words(&day, &pattern) else { panic!("refused") };
+/// let (mut work, mut out) = (vec![0; words], [0; 8]);
+/// let begun = lent::search_begin(&day, &pattern, 0, 1, &mut work);
+/// assert_eq!(begun, BeginReply::Begun);
+/// assert_eq!(lent::search_move(&mut work, 1), MoveReply::Moved(1));
+/// assert_eq!(lent::search_finish(&mut work, &mut out), FindReply::Found(1));
+/// assert_eq!(out[..1], [0]);
+/// ```
+pub fn search_begin(
+    record: &[u8],
+    pattern: &[u8],
+    from: u16,
+    to: u16,
+    work: &mut [u32],
+) -> BeginReply {
+    match taken_apart(linked::search_begin(record, pattern, from, to, work)) {
+        Ok(_) => BeginReply::Begun,
+        Err(refusal) => BeginReply::Refused(refusal),
     }
+}
+
+/// Moves a search on: takes up so many states of it, a state being a place, a spot in the pattern
+/// and the boats kept, or all that remain where those are fewer.
+///
+/// Refusal: 26, where the work area is empty or its first word is 0, and where it is seen not to
+/// be as [`search_begin`] and its moves left it. Lend all the words that [`search_begin`] was lent,
+/// as they were left, or a copy of them. Of any other area nothing is promised but that the call
+/// returns, and that 26 leaves it untouched.
+pub fn search_move(work: &mut [u32], amount: usize) -> MoveReply {
+    match taken_apart(linked::search_move(work, amount)) {
+        Ok(count) => MoveReply::Moved(count as usize),
+        Err(refusal) => MoveReply::Refused(refusal),
+    }
+}
+
+/// Finishes a search: takes up all that remains, and replies as [`find`] does for the record and
+/// the pattern that were given to [`search_begin`].
+///
+/// Refusals: 26 as with [`search_move`], which leaves area and output untouched, then 19 with the
+/// shortest length. 19 and every reply that is no refusal leave all of the area zeros: the search
+/// is over. A chain that is found stands at the front of the output; the rest of it, and all of it
+/// after every other reply, is untouched.
+pub fn search_finish(work: &mut [u32], out: &mut [u16]) -> FindReply {
+    find_reply(linked::search_finish(work, out))
 }

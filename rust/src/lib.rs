@@ -21,6 +21,7 @@
 //! - [`read_pattern`] tests a pattern before there is a record.
 //! - [`count_boats`] counts the different boats of a record.
 //! - [`Finder`] finds and checks chains, and keeps its buffers between requests.
+//! - [`Search`] finds a chain in steps, while lines are added to the record.
 //! - [`Refusal`] says why a request was refused, in words.
 //! - [`lent`] has the library's functions as they are, on buffers that you lend.
 //!
@@ -46,7 +47,8 @@
 //! lends buffers of the right size and takes replies apart. All `unsafe` stands in one module.
 //!
 //! `cargo run --example worked_day -- ../examples/day` prints the grounds that README's worked
-//! day has.
+//! day has, and `cargo run --example in_steps -- ../examples/day/day.rec` adds a line to that day
+//! while a search is under way.
 #![deny(unsafe_code)]
 
 mod finder;
@@ -55,11 +57,13 @@ mod linked;
 mod pattern;
 mod record;
 mod refusal;
+mod search;
 
 pub use finder::{Finder, Question};
 pub use pattern::{read_pattern, Counts};
 pub use record::{count_boats, BoatCount, Line, Lines, Record, RecordIn};
 pub use refusal::Refusal;
+pub use search::Search;
 
 /// The version of the library that is linked: 1,000,000 × major + 1,000 × minor + patch.
 ///

@@ -55,6 +55,19 @@ extern "C" {
         out: *mut u16,
         out_len: usize,
     ) -> u64;
+    fn chains_search_words(rec: *const u8, rec_len: usize, pat: *const u8, pat_len: usize) -> u64;
+    fn chains_search_begin(
+        rec: *const u8,
+        rec_len: usize,
+        pat: *const u8,
+        pat_len: usize,
+        from: u16,
+        to: u16,
+        work: *mut u32,
+        work_len: usize,
+    ) -> u64;
+    fn chains_search_move(work: *mut u32, work_len: usize, amount: usize) -> u64;
+    fn chains_search_finish(work: *mut u32, work_len: usize, out: *mut u16, out_len: usize) -> u64;
     fn chains_version() -> u64;
 }
 
@@ -188,6 +201,46 @@ pub fn find(
             out.len(),
         )
     }
+}
+
+pub fn search_words(record: &[u8], pattern: &[u8]) -> u64 {
+    // SAFETY: pointers and lengths of slices.
+    unsafe {
+        chains_search_words(
+            record.as_ptr(),
+            record.len(),
+            pattern.as_ptr(),
+            pattern.len(),
+        )
+    }
+}
+
+pub fn search_begin(record: &[u8], pattern: &[u8], from: u16, to: u16, work: &mut [u32]) -> u64 {
+    // SAFETY: pointers and lengths of slices, the last borrowed for writing.
+    unsafe {
+        chains_search_begin(
+            record.as_ptr(),
+            record.len(),
+            pattern.as_ptr(),
+            pattern.len(),
+            from,
+            to,
+            work.as_mut_ptr(),
+            work.len(),
+        )
+    }
+}
+
+pub fn search_move(work: &mut [u32], amount: usize) -> u64 {
+    // SAFETY: pointer and length of a slice that is borrowed for writing; what it holds and
+    // `amount` may be anything.
+    unsafe { chains_search_move(work.as_mut_ptr(), work.len(), amount) }
+}
+
+pub fn search_finish(work: &mut [u32], out: &mut [u16]) -> u64 {
+    // SAFETY: pointers and lengths of slices, both borrowed for writing and so apart; what the
+    // first holds may be anything.
+    unsafe { chains_search_finish(work.as_mut_ptr(), work.len(), out.as_mut_ptr(), out.len()) }
 }
 
 pub fn version() -> u64 {

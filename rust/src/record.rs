@@ -1,7 +1,7 @@
 //! Records: one that grows, and one in a buffer that is given; and counting a record's boats.
 
 use crate::lent::{self, BoatsReply, LineReply, WriteReply};
-use crate::{Finder, Question, Refusal};
+use crate::{Finder, Question, Refusal, Search};
 use std::fmt;
 use std::iter::FusedIterator;
 use std::slice::ChunksExact;
@@ -272,6 +272,23 @@ impl Record {
         Finder::new().check(&Question::about(self, pattern, from, to), chain)
     }
 
+    /// Begins a search in steps for the chain that [`Record::find`] finds. Lines may be added before
+    /// it is finished; its reply is that for the record as it is now. Refusals: 8 to 16, 24, 25.
+    ///
+    /// ```
+    /// use chains::{Line, Record};
+    ///
+    /// let mut day = Record::begin(2)?;
+    /// let search = day.search(&[0x21, 1], 0, 1)?;
+    /// day.add(Line { from: 0, kind: 1, class: 2, sail: 150, to: 1 })?;
+    /// assert_eq!(search.finish(), None);
+    /// assert_eq!(day.find(&[0x21, 1], 0, 1)?, Some(vec![0]));
+    /// # Ok::<(), chains::Refusal>(())
+    /// ```
+    pub fn search(&self, pattern: &[u8], from: u16, to: u16) -> Result<Search, Refusal> {
+        Search::begin(&Question::about(self, pattern, from, to))
+    }
+
     /// The record's bytes.
     pub fn bytes(&self) -> &[u8] {
         &self.bytes
@@ -381,6 +398,12 @@ impl<'a> RecordIn<'a> {
         chain: &[u16],
     ) -> Result<bool, Refusal> {
         Finder::new().check(&Question::about(self, pattern, from, to), chain)
+    }
+
+    /// Begins a search in steps for the chain that [`RecordIn::find`] finds, as [`Record::search`]
+    /// does. Refusals: 8 to 16, 24, 25.
+    pub fn search(&self, pattern: &[u8], from: u16, to: u16) -> Result<Search, Refusal> {
+        Search::begin(&Question::about(self, pattern, from, to))
     }
 
     /// The record's bytes.

@@ -73,6 +73,8 @@ pub enum Refusal {
     RoundsOutOfRange,
     /// 25: the pattern's unfolded count is above 63.
     UnfoldedTooLong,
+    /// 26: the work area holds no search, or not one as a begin and its moves left it.
+    NoSearch,
     /// A number that this crate has no name for: a question of another version of the library.
     #[non_exhaustive]
     Other {
@@ -84,7 +86,7 @@ pub enum Refusal {
 }
 
 impl Refusal {
-    /// The number of the question: 1 to 25, and that of [`Refusal::Other`].
+    /// The number of the question: 1 to 26, and that of [`Refusal::Other`].
     pub fn number(self) -> u32 {
         match self {
             Refusal::RecordTooLong => 1,
@@ -112,6 +114,7 @@ impl Refusal {
             Refusal::BufferTooSmall => 23,
             Refusal::RoundsOutOfRange => 24,
             Refusal::UnfoldedTooLong => 25,
+            Refusal::NoSearch => 26,
             Refusal::Other { number, .. } => number,
         }
     }
@@ -146,6 +149,7 @@ impl Refusal {
             23 => Refusal::BufferTooSmall,
             24 => Refusal::RoundsOutOfRange,
             25 => Refusal::UnfoldedTooLong,
+            26 => Refusal::NoSearch,
             _ => Refusal::Other { number, second },
         }
     }
@@ -210,6 +214,9 @@ impl fmt::Display for Refusal {
             Refusal::UnfoldedTooLong => {
                 "the pattern is too long: with its rounds written out it has more than 63 commands"
             }
+            Refusal::NoSearch => {
+                "the work area holds no search, or not one as a begin and its moves left it"
+            }
             Refusal::Other { number, .. } => {
                 return write!(
                     f,
@@ -232,7 +239,7 @@ mod tests {
 
     #[test]
     fn sentences_are_those_of_the_list() {
-        assert_eq!(SENTENCES.lines().count(), 25);
+        assert_eq!(SENTENCES.lines().count(), 26);
         for (number, row) in (1..).zip(SENTENCES.lines()) {
             let refusal = Refusal::of(number, 92_400);
             assert_eq!(refusal.number(), number);
@@ -248,7 +255,7 @@ mod tests {
 
     #[test]
     fn unknown_numbers_do_not_panic() {
-        for number in [26, 32, 255, u32::MAX] {
+        for number in [27, 32, 255, u32::MAX] {
             let refusal = Refusal::of(number, 7);
             assert_eq!(refusal, Refusal::Other { number, second: 7 });
             assert_eq!(refusal.number(), number);

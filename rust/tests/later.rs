@@ -3,8 +3,8 @@
 //! enums were not `#[non_exhaustive]`.
 #![deny(unreachable_patterns)]
 
-use chains::lent::{self, BoatsReply, CheckReply, FindReply, LineReply};
-use chains::lent::{PatternReply, WordsReply, WriteReply};
+use chains::lent::{self, BeginReply, BoatsReply, CheckReply, FindReply, LineReply};
+use chains::lent::{MoveReply, PatternReply, WordsReply, WriteReply};
 use chains::Refusal;
 
 fn known(refusal: Refusal) -> bool {
@@ -16,7 +16,7 @@ fn known(refusal: Refusal) -> bool {
         BytesAfterPattern | AskedPlaceNotThere | SearchTooLarge | WorkAreaTooSmall => true,
         LineNotThere | LengthBeyondBuffer | SailNumberTooLarge | RecordFull => true,
         BufferTooSmall | OutputTooSmall { length: _ } => true,
-        RoundsOutOfRange | UnfoldedTooLong => true,
+        RoundsOutOfRange | UnfoldedTooLong | NoSearch => true,
         Other {
             number: _,
             second: _,
@@ -70,4 +70,19 @@ fn matches_have_an_arm_for_the_rest() {
             _ => false,
         }
     );
+    assert!(match lent::search_begin(&day, &pattern, 0, 0, &mut work) {
+        BeginReply::Begun => true,
+        BeginReply::Refused(_) => false,
+        _ => false,
+    });
+    assert!(match lent::search_move(&mut work, 9) {
+        MoveReply::Moved(count) => count == 1,
+        MoveReply::Refused(_) => false,
+        _ => false,
+    });
+    assert!(match lent::search_finish(&mut [], &mut out) {
+        FindReply::Found(_) | FindReply::NoChain => false,
+        FindReply::Refused(refusal) => known(refusal),
+        _ => false,
+    });
 }

@@ -2,9 +2,9 @@
 
 mod common;
 
-use chains::lent::{self, BoatsReply, CheckReply, FindReply, LineReply};
-use chains::lent::{PatternReply, WordsReply, WriteReply};
-use chains::{count_boats, read_pattern, Finder, Question, Record, RecordIn, Refusal};
+use chains::lent::{self, BeginReply, BoatsReply, CheckReply, FindReply, LineReply};
+use chains::lent::{MoveReply, PatternReply, WordsReply, WriteReply};
+use chains::{count_boats, read_pattern, Finder, Question, Record, RecordIn, Refusal, Search};
 use common::*;
 
 /// Bytes of records that questions 1 to 7 refuse.
@@ -190,15 +190,18 @@ fn of_boats() {
 fn of_words() {
     for (number, rec, pat, to) in refused_requests() {
         let reply = lent::words(&rec, &pat);
+        let in_steps = lent::search_words(&rec, &pat);
         if to != 0 {
             // The two places are not given to it.
             assert_eq!(reply, WordsReply::Words(8_704));
+            assert_eq!(in_steps, WordsReply::Words(8_704 + 3 * 7));
             continue;
         }
         let WordsReply::Refused(refusal) = reply else {
             panic!("{number} passes");
         };
         assert_eq!(refusal.number(), number);
+        assert_eq!(in_steps, reply);
     }
 }
 
@@ -281,5 +284,126 @@ fn of_areas_and_outputs() {
         let mut work = dirty();
         assert_eq!(lent::check(rec, &P, 0, 3, &chain, &mut work), expected);
         assert_eq!(work, vec![0; 8_800]);
+    }
+}
+
+#[test]
+fn of_search_begin() {
+    for (number, rec, pat, to) in refused_requests() {
+        let mut work = vec![DIRT; 9_000];
+        let reply = lent::search_begin(&rec, &pat, 0, to, &mut work);
+        let BeginReply::Refused(refusal) = reply else {
+            panic!("{number} passes");
+        };
+        assert_eq!(refusal.number(), number);
+        assert_eq!(work, vec![DIRT; 9_000]);
+        let question = Question::about(&rec, &pat, 0, to);
+        assert_eq!(Search::begin(&question).map(Search::finish), Err(refusal));
+        // A record that passes can be asked directly.
+        if let Ok(day) = Record::from_bytes(rec) {
+            let searched = day.search(&pat, 0, to).map(Search::finish);
+            assert_eq!(searched, Err(refusal));
+        }
+    }
+    // 17 asks for three words more for each of the seven lines than with a find.
+    let day = r();
+    for words in [0, 8_704, 8_724] {
+        let mut work = vec![DIRT; words];
+        let reply = lent::search_begin(day.bytes(), &P, 0, 3, &mut work);
+        assert_eq!(reply, BeginReply::Refused(Refusal::WorkAreaTooSmall));
+        assert_eq!(work, vec![DIRT; words]);
+    }
+    let reply = lent::search_begin(day.bytes(), &P, 0, 3, &mut vec![DIRT; 8_725]);
+    assert_eq!(reply, BeginReply::Begun);
+}
+
+/// 26 for an area without a search, and everything as it was.
+fn no_search_in(work: &[u32]) {
+    for (amount, entries) in [(0, 0), (1, 3), (usize::MAX, 9)] {
+        let (mut after, mut out) = (work.to_vec(), vec![OUT_DIRT; entries]);
+        let moved = lent::search_move(&mut after, amount);
+        assert_eq!(moved, MoveReply::Refused(Refusal::NoSearch));
+        let finished = lent::search_finish(&mut after, &mut out);
+        assert_eq!(finished, FindReply::Refused(Refusal::NoSearch));
+        assert_eq!(after, work);
+        assert_eq!(out, vec![OUT_DIRT; entries]);
+    }
+}
+
+/// Areas that hold no search; and found, none and 19 end one, with an area of zeros.
+#[test]
+fn of_searches() {
+    assert_eq!(Refusal::NoSearch.number(), 26);
+    no_search_in(&[]);
+    for words in [1, 8_725, 9_000] {
+        no_search_in(&vec![0; words]);
+        let mut dirty = vec![DIRT; words];
+        dirty[0] = 0;
+        no_search_in(&dirty);
+    }
+
+    let day = r();
+    let short = FindReply::Refused(Refusal::OutputTooSmall { length: 3 });
+    for (from, to, entries, expected, written) in [
+        (0, 3, 3, FindReply::Found(3), &[1, 2, 5][..]),
+        (0, 3, 5, FindReply::Found(3), &[1, 2, 5, OUT_DIRT, OUT_DIRT]),
+        (0, 3, 2, short, &[OUT_DIRT; 2]),
+        (0, 3, 0, short, &[]),
+        (3, 0, 1, FindReply::NoChain, &[OUT_DIRT]),
+    ] {
+        for moves in [0, 1, 5, 100] {
+            let (mut work, mut out) = (vec![DIRT; 8_800], vec![OUT_DIRT; entries]);
+            let begun = lent::search_begin(day.bytes(), &P, from, to, &mut work);
+            assert_eq!(begun, BeginReply::Begun);
+            assert_ne!(work[0], 0);
+            for _ in 0..moves {
+                let MoveReply::Moved(0 | 1) = lent::search_move(&mut work, 1) else {
+                    panic!("a move of 1 is none or one");
+                };
+            }
+            assert_eq!(lent::search_finish(&mut work, &mut out), expected);
+            assert_eq!(out, written);
+            assert_eq!(work, vec![0; 8_800]);
+            no_search_in(&work);
+        }
+    }
+}
+
+/// An area with a word altered, or cut short: the calls return, and 26 leaves it as it was.
+#[test]
+fn of_altered_searches() {
+    let day = r();
+    let mut work = vec![0; 8_725];
+    let begun = lent::search_begin(day.bytes(), &P, 0, 3, &mut work);
+    assert_eq!(begun, BeginReply::Begun);
+    assert_eq!(lent::search_move(&mut work, 5), MoveReply::Moved(5));
+    let harmless = |area: Vec<u32>| {
+        let (mut after, mut out) = (area.clone(), [OUT_DIRT; 2]);
+        match lent::search_move(&mut after, 3) {
+            MoveReply::Moved(count) => assert!(count <= 3),
+            reply => {
+                assert_eq!(reply, MoveReply::Refused(Refusal::NoSearch));
+                assert_eq!(after, area);
+            }
+        }
+        let mut after = area.clone();
+        match lent::search_finish(&mut after, &mut out) {
+            FindReply::Found(length) => assert!(length <= 2),
+            FindReply::NoChain | FindReply::Refused(Refusal::OutputTooSmall { .. }) => {}
+            reply => {
+                assert_eq!(reply, FindReply::Refused(Refusal::NoSearch));
+                assert_eq!((after, out), (area, [OUT_DIRT; 2]));
+            }
+        }
+    };
+    for at in (0..1_000).chain((1_000..8_725).step_by(97)) {
+        for word in [0, 1, work[at].wrapping_add(1), DIRT, u32::MAX] {
+            let mut altered = work.clone();
+            altered[at] = word;
+            harmless(altered);
+        }
+    }
+    for length in (0..8_725).step_by(31) {
+        harmless(work[..length].to_vec());
     }
 }

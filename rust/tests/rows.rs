@@ -3,7 +3,7 @@
 mod common;
 
 use chains::{count_boats, read_pattern, version, Finder, Line, Question};
-use chains::{Record, RecordIn, Refusal};
+use chains::{Record, RecordIn, Refusal, Search};
 use common::*;
 
 /// One finder for all rows, so that its buffers come dirty and of other sizes to each.
@@ -39,6 +39,78 @@ fn rows_of_the_checker() -> Result<(), Refusal> {
         assert!(!finder.check(&ask(&t, &S, 0, 0), &[0, 1, 0, 1])?);
         assert!(finder.check(&ask(&e, &NOTHING, 0, 0), &[])?);
         assert!(!finder.check(&ask(&r, &NOTHING, 0, 1), &[])?);
+    }
+    Ok(())
+}
+
+/// The same rows in steps: by whatever amounts, so many states are taken up and no more, and the
+/// chain is the finder's wherever the search is finished. States are those gone through backward,
+/// and with a chain all that were found but the goal.
+#[test]
+fn rows_of_searches() -> Result<(), Refusal> {
+    let (r, t, e) = (r(), t(), e());
+    let mut more = r.clone();
+    assert_eq!(more.add(line(2, 4, 1, 150, 3)), Ok(7));
+    let mut fewer = lines_of_r();
+    fewer.remove(5);
+    let fewer = record(4, &fewer);
+    for (question, states, chain) in [
+        (ask(&r, &P, 0, 3), 4 + 4, Some(vec![1, 2, 5])),
+        (ask(&more, &P, 0, 3), 7 + 7, Some(vec![0, 3, 7])),
+        (ask(&fewer, &P, 0, 3), 2, None),
+        (ask(&t, &S, 0, 0), 9 + 9, Some(vec![0, 0, 1, 0])),
+        (ask(&e, &NOTHING, 0, 0), 0, Some(vec![])),
+        (ask(&e, &[0x21, 3], 0, 0), 1, None),
+        (ask(&r, &[0x26, 0x20], 0, 1), 1, None),
+    ] {
+        assert_eq!(Finder::new().find_owned(&question)?, chain);
+        for amount in [1, 2, 3, 7, usize::MAX] {
+            let mut search = Search::begin(&question)?;
+            let mut left = states;
+            while left > 0 {
+                assert_eq!(search.moved(0), 0);
+                assert_eq!(search.moved(amount), amount.min(left));
+                left -= amount.min(left);
+            }
+            assert_eq!((search.moved(1), search.moved(usize::MAX)), (0, 0));
+            assert_eq!(search.finish(), chain);
+        }
+        for count in 0..=states {
+            let mut search = Search::begin(&question)?;
+            assert_eq!(search.moved(count), count);
+            let mut again = search.clone();
+            assert_eq!(search.finish(), chain);
+            assert_eq!(again.moved(usize::MAX), states - count);
+            assert_eq!(again.finish(), chain);
+        }
+    }
+    Ok(())
+}
+
+/// Lines are added while a search is under way, here or in a buffer of the caller's; the record may
+/// be no more, and the search with another thread, when it is finished.
+#[test]
+fn lines_are_added_meanwhile() -> Result<(), Refusal> {
+    for count in 0..=8 {
+        let mut day = r();
+        let mut search = day.search(&P, 0, 3)?;
+        assert_eq!(search.moved(count), count);
+        day.add(line(2, 4, 1, 150, 3))?;
+        assert_eq!(day.find(&P, 0, 3)?, Some(vec![0, 3, 7]));
+        let (old, new) = (search.clone(), day.search(&P, 0, 3)?);
+        assert_eq!(search.finish(), Some(vec![1, 2, 5]));
+
+        let mut buffer = [r().bytes(), &[0; 10]].concat();
+        let mut given = RecordIn::open(&mut buffer, 74)?;
+        let search = given.search(&P, 0, 3)?;
+        given.add(line(2, 4, 1, 150, 3))?;
+        assert_eq!(search.finish(), Some(vec![1, 2, 5]));
+        assert_eq!(given.search(&P, 0, 3)?.finish(), Some(vec![0, 3, 7]));
+
+        drop((day, buffer));
+        let finish = |search: Search| std::thread::spawn(|| search.finish()).join();
+        assert_eq!(finish(old).expect("no panic"), Some(vec![1, 2, 5]));
+        assert_eq!(finish(new).expect("no panic"), Some(vec![0, 3, 7]));
     }
     Ok(())
 }
@@ -203,6 +275,8 @@ fn rows_of_the_largest_size() -> Result<(), Refusal> {
     let (fits, over) = (boats(63), boats(64));
     assert_eq!(finder.find(&ask(&fits, &pattern, 0, 0))?, Some(&[0][..]));
     assert_eq!(finder.find(&ask(&fits, &pattern, 0, 1))?, None);
+    assert_eq!(fits.search(&pattern, 0, 0)?.finish(), Some(vec![0]));
+    assert_eq!(fits.search(&pattern, 0, 1)?.finish(), None);
     let question = ask(&over, &pattern, 0, 0);
     assert_eq!(finder.find(&question), Err(Refusal::SearchTooLarge));
     assert_eq!(finder.check(&question, &[0]), Err(Refusal::SearchTooLarge));
@@ -223,6 +297,8 @@ fn outputs_grow() -> Result<(), Refusal> {
         pattern.extend([0x21, 1]);
         let found = finder.find(&ask(&lap, &pattern, 0, 0))?;
         assert_eq!(found, Some(&vec![0; laps][..]));
+        let search = lap.search(&pattern, 0, 0)?;
+        assert_eq!(search.finish(), Some(vec![0; laps]));
     }
     Ok(())
 }

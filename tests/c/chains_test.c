@@ -1,7 +1,7 @@
 /*
- * Every function of chains.h, called from C: document 01's worked rows, unread numbers, classes, counted rounds, boats counted, every refusal
- * number, and each lent buffer afterwards; the helpers that take a reply apart; and chains_message, held to the list of sentences. Prints what fails; the status
- * is 1 if something did.
+ * Every function of chains.h, called from C: document 01's worked rows, unread numbers, classes, counted rounds, boats counted, searches in
+ * steps, every refusal number, and each lent buffer afterwards; the helpers that take a reply apart; and chains_message, held to the list of
+ * sentences. Prints what fails; the status is 1 if something did.
  *
  *     gcc -std=c11 -Wall -Wextra -Werror -pedantic -Iinclude tests/c/chains_test.c target/libchains.a -o target/chains_test
  *     target/chains_test include/refusals.txt
@@ -756,6 +756,398 @@ static void test_rounds(void)
     find_in("find, 25", too_long, 8704, 3, CHAINS_UNFOLDED_TOO_LONG, 0, c0);
 }
 
+/* ---- searches in steps */
+
+/* How many states the searches of R and P, and of T and S, take up: those expanded backward, and then all that were found but the goal. */
+enum { STATES_R_P = 4 + 4, STATES_T_S = 9 + 9 };
+
+/* Area and output, all of them, at an earlier time. */
+static uint32_t kept_area[EDGE + WORDS + EDGE];
+static uint16_t kept_output[EDGE + ENTRIES + EDGE];
+
+static void keep(void)
+{
+    memcpy(kept_area, area, sizeof area);
+    memcpy(kept_output, output, sizeof output);
+}
+
+static void put_back(void)
+{
+    memcpy(area, kept_area, sizeof area);
+    memcpy(output, kept_output, sizeof output);
+}
+
+static int as_kept(void)
+{
+    return memcmp(area, kept_area, sizeof area) == 0 && memcmp(output, kept_output, sizeof output) == 0;
+}
+
+/* Is what stands around so many words and entries as it was kept? */
+static int around_as_kept(size_t words, size_t entries)
+{
+    const size_t w = EDGE + words, n = EDGE + entries;
+    return memcmp(area, kept_area, EDGE * sizeof *area) == 0 && memcmp(area + w, kept_area + w, sizeof area - w * sizeof *area) == 0 &&
+           memcmp(output, kept_output, EDGE * sizeof *output) == 0 &&
+           memcmp(output + n, kept_output + n, sizeof output - n * sizeof *output) == 0;
+}
+
+static uint32_t search_needed(struct ask a)
+{
+    return chains_value(chains_search_words(a.rec->at, a.rec->len, a.pat, a.pat_len));
+}
+
+static uint64_t search_begin(struct ask a, size_t words)
+{
+    return chains_search_begin(a.rec->at, a.rec->len, a.pat, a.pat_len, a.from, a.to, area + EDGE, words);
+}
+
+static uint64_t search_move(size_t words, size_t amount)
+{
+    return chains_search_move(area + EDGE, words, amount);
+}
+
+static uint64_t search_finish(size_t words, size_t entries)
+{
+    return chains_search_finish(area + EDGE, words, output + EDGE, entries);
+}
+
+/* A search begun in so many words, which were dirty: its first word is not 0, and all around it is dirty as before. */
+static void begin_in(const char *what, struct ask a, size_t words)
+{
+    make_dirty();
+    expect_reply(what, search_begin(a, words), 0, 0);
+    int holds = area[EDGE] != 0;
+    for (size_t i = 0; i < EDGE + WORDS + EDGE; i++) {
+        holds = holds && ((i >= EDGE && i < EDGE + words) || area[i] == DIRT);
+    }
+    expect(what, holds);
+}
+
+/* A begin that is refused: the area is as it was. */
+static void begin_refused(const char *what, struct ask a, size_t words, uint32_t number)
+{
+    make_dirty();
+    expect_reply(what, search_begin(a, words), number, 0);
+    expect_area(what, words, 0);
+}
+
+/* The search in the area finished: the reply, the area, which is zeros, and the output. After it a move and a second finish find no search. */
+static void finish_in(const char *what, size_t words, size_t entries, uint32_t number, uint32_t value, const uint16_t *chain)
+{
+    expect_reply(what, search_finish(words, entries), number, value);
+    expect_area(what, words, 1);
+    expect_output(what, chain, number == 0 && value != CHAINS_NO_CHAIN ? value : 0);
+    keep();
+    expect_reply(what, search_finish(words, entries), CHAINS_NO_SEARCH, 0);
+    expect_reply(what, search_move(words, 1), CHAINS_NO_SEARCH, 0);
+    expect(what, as_kept());
+}
+
+/* Moves of 1 up to the end, so many of them; there no amount changes anything. */
+static void move_to_end(const char *what, struct ask a, size_t words, uint32_t states)
+{
+    const uint32_t size = (needed(a) - 8192) / 4;
+    expect(what, states <= 2 * size + 2);
+    for (uint32_t i = 0; i < states; i++) {
+        expect_reply(what, search_move(words, 1), 0, 1);
+    }
+    keep();
+    expect_reply(what, search_move(words, 1), 0, 0);
+    expect_reply(what, search_move(words, 0), 0, 0);
+    expect_reply(what, search_move(words, SIZE_MAX), 0, 0);
+    expect(what, as_kept());
+}
+
+/* A search of so many states, finished at once, half way, and at its end, which is reached by moves of 1 and by one move. */
+static void stepped_in(const char *what, struct ask a, size_t words, size_t entries, uint32_t states, uint32_t number, uint32_t value,
+                       const uint16_t *chain)
+{
+    begin_in(what, a, words);
+    finish_in(what, words, entries, number, value, chain);
+
+    begin_in(what, a, words);
+    expect_reply(what, search_move(words, states / 2), 0, states / 2);
+    expect_reply(what, search_move(words, 0), 0, 0);
+    finish_in(what, words, entries, number, value, chain);
+
+    begin_in(what, a, words);
+    move_to_end(what, a, words, states);
+    finish_in(what, words, entries, number, value, chain);
+
+    begin_in(what, a, words);
+    expect_reply(what, search_move(words, SIZE_MAX), 0, states);
+    finish_in(what, words, entries, number, value, chain);
+}
+
+/* The chain is found, in an exact output and in a longer one; one entry fewer is refused with its length. */
+static void stepped(const char *what, struct ask a, uint32_t states, const uint16_t *chain, uint32_t length)
+{
+    const size_t words = search_needed(a);
+    stepped_in(what, a, words, length, states, 0, length, chain);
+    stepped_in(what, a, words + 100, ENTRIES, states, 0, length, chain);
+    if (length > 0) {
+        stepped_in(what, a, words, length - 1, states, CHAINS_OUTPUT_TOO_SMALL, length, chain);
+        stepped_in(what, a, words, 0, states, CHAINS_OUTPUT_TOO_SMALL, length, chain);
+    }
+}
+
+static void stepped_none(const char *what, struct ask a, uint32_t states)
+{
+    stepped_in(what, a, search_needed(a), 0, states, 0, CHAINS_NO_CHAIN, output);
+    stepped_in(what, a, search_needed(a) + 100, ENTRIES, states, 0, CHAINS_NO_CHAIN, output);
+}
+
+/* The words needed, and the questions of a begin: those of a find but 19, and 17 for three words more for each line. */
+static void test_search_begin(void)
+{
+    expect("words of a search, R and P", search_needed(R_P) == 8704 + 3 * 7);
+    expect("words of a search, T and S", search_needed(T_S) == needed(T_S) + 3 * 2);
+    expect("words of a search, E and 20", search_needed((struct ask){&e, NOTHING, 1, 0, 0}) == 8200);
+    begin_refused("search, a word too few", R_P, 8704 + 3 * 7 - 1, CHAINS_WORK_AREA_TOO_SMALL);
+    begin_refused("search, the words of a find", R_P, 8704, CHAINS_WORK_AREA_TOO_SMALL);
+    begin_refused("search, no words", R_P, 0, CHAINS_WORK_AREA_TOO_SMALL);
+
+    const uint8_t turned[4] = {0x2A, 1, 0, 0x20}, too_long[9] = {0x26, 0x26, 0x26, 0x2A, 0, 20, 0x24, 0x20, 0x20};
+    begin_refused("search, to place 4 of 4 in no words", (struct ask){&r, P, 15, 0, 4}, 0, CHAINS_ASKED_PLACE_NOT_THERE);
+    begin_refused("search, from place 4 of 4", (struct ask){&r, P, 15, 4, 0}, WORDS, CHAINS_ASKED_PLACE_NOT_THERE);
+    begin_refused("search, an empty pattern", (struct ask){&r, P, 0, 9, 9}, WORDS, CHAINS_COMMAND_NOT_KNOWN);
+    begin_refused("search, a pattern cut short", (struct ask){&r, P, 14, 9, 9}, WORDS, CHAINS_OPERANDS_MISSING);
+    begin_refused("search, 24", (struct ask){&r, turned, 4, 9, 9}, WORDS, CHAINS_ROUNDS_OUT_OF_RANGE);
+    begin_refused("search, 25", (struct ask){&r, too_long, 9, 9, 9}, WORDS, CHAINS_UNFOLDED_TOO_LONG);
+    static struct record day;
+    day = r;
+    day.len--;
+    begin_refused("search, a record without its end", (struct ask){&day, P, 0, 9, 9}, WORDS, CHAINS_ENTRY_NOT_KNOWN);
+    expect_reply("words of a search, a record without its end", chains_search_words(day.at, day.len, P, 0), CHAINS_ENTRY_NOT_KNOWN, 0);
+    expect_reply("words of a search, a pattern cut short", chains_search_words(r.at, r.len, P, 14), CHAINS_OPERANDS_MISSING, 0);
+
+    /* 1,024 places, 15 commands, one keep: 63 boats are the most. A place that is not there is told before the size. */
+    uint8_t pattern[18] = {0x27, 1, 0};
+    memset(pattern + 3, 0x26, 13);
+    pattern[16] = 0x21;
+    pattern[17] = 1;
+    const struct ask large = {&day, pattern, 18, 0, 0}, nowhere = {&day, pattern, 18, 0, 1024};
+    begin(&day, 1024);
+    for (uint32_t boat = 0; boat < 63; boat++) {
+        add(&day, (struct line){0, 1, 1, boat, 0});
+    }
+    expect("words of a search, 63 boats", search_needed(large) == 4202496 + 3 * 63);
+    add(&day, (struct line){0, 1, 1, 63, 0});
+    expect_reply("words of a search, 64 boats", chains_search_words(day.at, day.len, pattern, 18), CHAINS_SEARCH_TOO_LARGE, 0);
+    begin_refused("search, 64 boats", large, WORDS, CHAINS_SEARCH_TOO_LARGE);
+    begin_refused("search, 64 boats and no such place", nowhere, WORDS, CHAINS_ASKED_PLACE_NOT_THERE);
+}
+
+/* The rows of find, each with the count of its states. Where the empty chain is accepted, or nothing is found but the goal, that is 0 or 1. */
+static void test_search(void)
+{
+    const uint16_t c125[3] = {1, 2, 5}, c037[3] = {0, 3, 7}, c0010[4] = {0, 0, 1, 0}, c0[1] = {0};
+    const uint8_t line_1[2] = {0x21, 1}, line_3[2] = {0x21, 3}, repeat_nothing[2] = {0x26, 0x20};
+    stepped("search R, P, 0 to 3", R_P, STATES_R_P, c125, 3);
+    stepped("search R with line 7, P, 0 to 3", (struct ask){&r_with_7, P, 15, 0, 3}, 7 + 7, c037, 3);
+    stepped_none("search R without line 5, P, 0 to 3", (struct ask){&r_without_5, P, 15, 0, 3}, 2);
+    stepped("search T, S, 0 to 0", T_S, STATES_T_S, c0010, 4);
+    stepped("search R, 21 01, 0 to 1", (struct ask){&r, line_1, 2, 0, 1}, 1 + 1, c0, 1);
+    stepped("search E, 20, 0 to 0", (struct ask){&e, NOTHING, 1, 0, 0}, 0, c0, 0);
+    stepped_none("search E, 21 03, 0 to 0", (struct ask){&e, line_3, 2, 0, 0}, 1);
+    stepped_none("search R, 26 20, 0 to 1", (struct ask){&r, repeat_nothing, 2, 0, 1}, 1);
+
+    /* Line 0 leads on from two first states, and the lower line after it from one of the two only. */
+    static struct record day;
+    const uint8_t one_two[11] = {0x24, 0x25, 0x21, 1, 0x21, 2, 0x25, 0x21, 1, 0x21, 1};
+    const uint8_t two_one[11] = {0x24, 0x25, 0x21, 1, 0x21, 1, 0x25, 0x21, 1, 0x21, 2};
+    const uint16_t c00[2] = {0, 0};
+    begin(&day, 1);
+    add(&day, (struct line){0, 1, 1, 1, 0});
+    add(&day, (struct line){0, 2, 1, 1, 0});
+    stepped("search, two ways from one line", (struct ask){&day, one_two, 11, 0, 0}, 3 + 4, c00, 2);
+    stepped("search, two ways from one line, the other first", (struct ask){&day, two_one, 11, 0, 0}, 3 + 4, c00, 2);
+}
+
+/* The area after so many states is the same by whatever amounts, and whatever it held before begin. */
+static void test_search_moves(void)
+{
+    const struct ask asked[2] = {R_P, T_S};
+    const uint32_t states[2] = {STATES_R_P, STATES_T_S};
+    for (size_t i = 0; i < 2; i++) {
+        const size_t words = search_needed(asked[i]) + 100;
+        for (uint32_t count = 0; count <= states[i]; count++) {
+            begin_in("moves of 1", asked[i], words);
+            for (uint32_t j = 0; j < count; j++) {
+                expect_reply("a move of 1", search_move(words, 1), 0, 1);
+            }
+            keep();
+            begin_in("other moves", asked[i], words);
+            memset(area + EDGE, 0, words * sizeof *area);
+            expect_reply("begun in zeros", search_begin(asked[i], words), 0, 0);
+            expect_reply("a first move", search_move(words, count / 3), 0, count / 3);
+            expect_reply("a move of 0", search_move(words, 0), 0, 0);
+            expect_reply("a second move", search_move(words, count - count / 3), 0, count - count / 3);
+            expect("the area by whatever amounts", as_kept());
+        }
+    }
+}
+
+/* Lines are added while the search is under way: the reply is that for the record at the beginning. */
+static void test_search_lines_added(void)
+{
+    static struct record day;
+    uint8_t pattern[15];
+    const uint16_t c125[3] = {1, 2, 5}, c037[3] = {0, 3, 7};
+    const struct ask asked = {&day, pattern, 15, 0, 3};
+    for (uint32_t count = 0; count <= STATES_R_P; count++) {
+        day = r;
+        memcpy(pattern, P, 15);
+        const size_t words = search_needed(asked);
+        begin_in("lines added", asked, words);
+        expect_reply("lines added, moved", search_move(words, count), 0, count);
+        add(&day, (struct line){2, 4, 1, 150, 3});
+        finish_in("lines added", words, 3, 0, 3, c125);
+        found("lines added, asked anew", asked, c037, 3);
+
+        /* A record and a pattern that are no more. */
+        day = r;
+        begin_in("nothing left of the day", asked, words);
+        memset(day.at, 0xFF, sizeof day.at);
+        memset(pattern, 0xFF, 15);
+        expect_reply("nothing left of the day, moved", search_move(words, count), 0, count);
+        finish_in("nothing left of the day", words, 3, 0, 3, c125);
+    }
+}
+
+/* A copy of the area is the same search: it is finished as the first one is, and neither knows of the other. */
+static void test_search_copied(void)
+{
+    const uint16_t c125[3] = {1, 2, 5};
+    const size_t words = search_needed(R_P);
+    for (uint32_t count = 0; count <= STATES_R_P; count++) {
+        static uint32_t copy[WORDS];
+        uint16_t out[4] = {9, 9, 9, 9};
+        begin_in("copied", R_P, words);
+        expect_reply("copied, moved", search_move(words, count), 0, count);
+        memcpy(copy, area + EDGE, words * sizeof *copy);
+        finish_in("copied", words, 3, 0, 3, c125);
+        expect_reply("a copy", chains_search_finish(copy, words, out, 4), 0, 3);
+        expect("a copy", memcmp(out, c125, sizeof c125) == 0 && out[3] == 9);
+    }
+}
+
+/* 26, before all other questions and with everything as it was: no words, zeros, and a first word of 0 whatever comes after it. */
+static void test_no_search(void)
+{
+    const size_t words[5] = {0, 1, 2, 8725, WORDS}, entries[3] = {0, 1, ENTRIES}, amounts[3] = {0, 1, SIZE_MAX};
+    for (size_t i = 0; i < 5; i++) {
+        for (size_t zeros = 0; zeros < 2; zeros++) {
+            make_dirty();
+            if (words[i] > 0) {
+                memset(area + EDGE, 0, (zeros ? words[i] : 1) * sizeof *area);
+            }
+            keep();
+            for (size_t j = 0; j < 3; j++) {
+                expect_reply("a move without a search", search_move(words[i], amounts[j]), CHAINS_NO_SEARCH, 0);
+                expect_reply("a finish without a search", search_finish(words[i], entries[j]), CHAINS_NO_SEARCH, 0);
+                expect("26 leaves area and output", as_kept());
+            }
+        }
+    }
+
+    /* A search whose first word is gone, and the search with it again. */
+    const uint16_t c125[3] = {1, 2, 5};
+    begin_in("a first word gone", R_P, 8725);
+    const uint32_t first = area[EDGE];
+    area[EDGE] = 0;
+    keep();
+    expect_reply("a move, its first word gone", search_move(8725, 1), CHAINS_NO_SEARCH, 0);
+    expect_reply("a finish, its first word gone", search_finish(8725, 3), CHAINS_NO_SEARCH, 0);
+    expect("26 leaves what is left of a search", as_kept());
+    area[EDGE] = first;
+    finish_in("a first word back", 8725, 3, 0, 3, c125);
+}
+
+/* A move and a finish in an area that may not be as it was left: they return and write to nothing but what is lent, 26 leaves all as it was,
+   and no answer is longer than the output. The area is afterwards as it was before. */
+static void harmless(const char *what, size_t words, size_t entries, size_t amount)
+{
+    keep();
+    const uint64_t moved = search_move(words, amount);
+    int holds = around_as_kept(words, 0);
+    if (chains_refused(moved)) {
+        holds = holds && chains_number(moved) == CHAINS_NO_SEARCH && chains_value(moved) == 0 && as_kept();
+    } else {
+        holds = holds && chains_value(moved) <= amount;
+    }
+    put_back();
+    const uint64_t finished = search_finish(words, entries);
+    holds = holds && around_as_kept(words, entries);
+    size_t length = 0;
+    if (chains_number(finished) == CHAINS_NO_SEARCH) {
+        holds = holds && chains_value(finished) == 0 && as_kept();
+    } else {
+        holds = holds && (!chains_refused(finished) || chains_too_long(finished, &length));
+        holds = holds && (!chains_found(finished, &length) || length <= entries);
+    }
+    put_back();
+    tests++;
+    if (!holds) {
+        failures++;
+        printf("fails: %s: what a move and a finish write\n", what);
+    }
+}
+
+/* Every word of an area in turn altered, in several ways, at the beginning, in each phase and at the end. */
+static void alter_each(struct ask a, uint32_t count)
+{
+    const size_t words = search_needed(a);
+    begin_in("altered", a, words);
+    expect_reply("altered, moved", search_move(words, count), 0, count);
+    for (size_t i = 0; i < words; i++) {
+        const uint32_t word = area[EDGE + i];
+        const uint32_t altered[7] = {0, 1, word + 1, word - 1, 2 * word + 7, word ^ 0x80000000u, UINT32_MAX};
+        for (size_t j = 0; j < 7; j++) {
+            area[EDGE + i] = altered[j];
+            harmless("a word altered", words, 3, 1000);
+        }
+        area[EDGE + i] = word;
+    }
+}
+
+static void test_search_altered(void)
+{
+    alter_each(R_P, 0);
+    alter_each(R_P, 2);
+    alter_each(R_P, STATES_R_P - 2);
+    alter_each(R_P, STATES_R_P);
+    alter_each(T_S, 3);
+    alter_each(T_S, STATES_T_S - 5);
+    make_dirty();
+    harmless("dirt", WORDS, ENTRIES, 1000);
+
+    /* The front of one search and the end of another, parted at every word. */
+    static uint32_t other[WORDS];
+    const size_t words = search_needed(R_P);
+    begin_in("parted", T_S, words);
+    expect_reply("parted, moved", search_move(words, 7), 0, 7);
+    memcpy(other, area + EDGE, words * sizeof *other);
+    begin_in("parted", R_P, words);
+    expect_reply("parted, moved", search_move(words, 5), 0, 5);
+    for (size_t i = 0; i < words; i++) {
+        area[EDGE + i] = other[i];
+        harmless("two searches in one area", words, ENTRIES, 1000);
+    }
+}
+
+/* An area cut short at every word: what lies past the cut is not lent. */
+static void test_search_cut(void)
+{
+    for (uint32_t count = 1; count < STATES_R_P; count += 5) {
+        begin_in("cut short", R_P, 8725);
+        expect_reply("cut short, moved", search_move(8725, count), 0, count);
+        for (size_t words = 0; words < 8725; words++) {
+            harmless("an area cut short", words, 3, 1000);
+        }
+    }
+}
+
 /* ---- replies taken apart, and the version */
 
 static uint64_t reply_of(uint64_t number, uint64_t value)
@@ -767,13 +1159,14 @@ static uint64_t reply_of(uint64_t number, uint64_t value)
 static void test_refused_replies(void)
 {
     const uint64_t values[6] = {0, 1, 2, 3, 5, CHAINS_NO_CHAIN};
-    for (uint64_t number = 1; number <= 25; number++) {
+    for (uint64_t number = 1; number <= 26; number++) {
         for (size_t i = 0; i < 6; i++) {
             const uint64_t value = values[i], reply = reply_of(number, value);
             size_t length = 77;
             expect("a refusal is refused", chains_refused(reply));
             expect("a refusal has no length", !chains_length(reply, &length));
             expect("a refusal has no words", !chains_needed(reply, &length));
+            expect("a refusal is not begun and not moved", !chains_begun(reply) && !chains_moved(reply, &length));
             expect("a refusal is not found", !chains_found(reply, &length));
             expect("a refusal leaves the length", length == 77);
             expect("a refusal is not written", !chains_written(reply));
@@ -797,6 +1190,9 @@ static void test_replies(void)
     expect("no is no", chains_no(0) && !chains_yes(0));
     expect("written", chains_written(5) && chains_written(2) && !chains_written(0));
     expect("words", chains_needed(8704, &length) && length == 8704);
+    expect("begun", chains_begun(0));
+    expect("moved", chains_moved(7, &length) && length == 7);
+    expect("moved by none", chains_moved(0, &length) && length == 0);
 
     /* The same of real replies. */
     uint8_t buf[4];
@@ -817,7 +1213,7 @@ static void test_replies(void)
 
 /* ---- sentences */
 
-/* Every row of the list, number, tab and sentence, is what chains_message says; the rows are 1 to 25. */
+/* Every row of the list, number, tab and sentence, is what chains_message says; the rows are 1 to 26. */
 static void test_messages(const char *path)
 {
     FILE *list = fopen(path, "r");
@@ -839,10 +1235,10 @@ static void test_messages(const char *path)
         }
     }
     fclose(list);
-    expect("the list has 25 sentences", number == 25);
+    expect("the list has 26 sentences", number == 26);
     expect("0 is not refused", strcmp(chains_message(0), "not refused") == 0);
     const char *unknown = "this number is not that of a refusal";
-    expect("26 is no refusal", strcmp(chains_message(26), unknown) == 0 && strcmp(chains_message(UINT32_MAX), unknown) == 0);
+    expect("27 is no refusal", strcmp(chains_message(27), unknown) == 0 && strcmp(chains_message(UINT32_MAX), unknown) == 0);
 }
 
 int main(int argc, char **argv)
@@ -860,6 +1256,14 @@ int main(int argc, char **argv)
     test_unread();
     test_classes();
     test_rounds();
+    test_search_begin();
+    test_search();
+    test_search_moves();
+    test_search_lines_added();
+    test_search_copied();
+    test_no_search();
+    test_search_altered();
+    test_search_cut();
     test_refused_replies();
     test_replies();
     test_messages(argc > 1 ? argv[1] : "include/refusals.txt");

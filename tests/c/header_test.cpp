@@ -14,12 +14,19 @@ int main()
     uint8_t rounds[4] = {0x2A, 0, 3, 0x20};
     uint32_t counts[CHAINS_COUNTS];
     uint32_t boats[CHAINS_BOATS_COUNTS] = {9, 9};
-    size_t length = 0;
+    static uint32_t work[8200];
+    uint16_t chain[1] = {9};
+    size_t length = 0, words = 0, count = 9;
     bool holds = chains_version() == CHAINS_VERSION;
     holds = holds && chains_length(chains_begin(record, sizeof record, 1), &length) && length == 4;
     holds = holds && chains_written(chains_boats(record, length, boats, CHAINS_BOATS_COUNTS)) && boats[CHAINS_BOATS_DIFFERENT] == 0 &&
             boats[CHAINS_BOATS_READS] == 0;
-    holds = holds && chains_needed(chains_words(record, length, pattern, 1), &length) && length == 8200;
+    holds = holds && chains_needed(chains_words(record, length, pattern, 1), &words) && words == 8200;
+    holds = holds && chains_needed(chains_search_words(record, length, pattern, 1), &words) && words == 8200;
+    holds = holds && chains_begun(chains_search_begin(record, length, pattern, 1, 0, 0, work, words));
+    holds = holds && chains_moved(chains_search_move(work, words, 1), &count) && count == 0;
+    holds = holds && chains_found(chains_search_finish(work, words, chain, 1), &length) && length == 0 && chain[0] == 9;
+    holds = holds && chains_number(chains_search_finish(work, words, chain, 1)) == CHAINS_NO_SEARCH;
     holds = holds && chains_written(chains_pattern(pattern, 1, counts, CHAINS_COUNTS)) && counts[CHAINS_COUNT_COMMANDS] == 1;
     holds = holds && chains_written(chains_pattern(rounds, 4, counts, CHAINS_COUNTS)) && counts[CHAINS_COUNT_UNFOLDED] == 4;
     holds = holds && std::strcmp(chains_message(chains_number(chains_begin(record, sizeof record, 0))), chains_message(2)) == 0;

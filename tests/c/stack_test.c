@@ -16,7 +16,7 @@
 #include <sys/mman.h>
 #include <unistd.h>
 
-enum { PATTERNS = 21, REFUSED = 2, DAYS = 5, LONGEST_PATTERN = 200, MOST_WORDS = 4202496, MOST_ENTRIES = 100000, LINES = 4096 };
+enum { PATTERNS = 21, REFUSED = 2, DAYS = 5, LONGEST_PATTERN = 200, MOST_WORDS = 4214784, MOST_ENTRIES = 100000, LINES = 4096 };
 
 static const unsigned char PAINT = 0xC5;
 
@@ -129,8 +129,23 @@ struct counted {
     size_t answers;  /* found or none */
     size_t found;
     size_t yes; /* of the checker, to the chains that were found */
+    size_t stepped; /* searches in steps that replied as the finder did */
     size_t days; /* whose boats were counted */
 };
+
+/* The search for a chain in steps: begun, moved on by one state and by some, finished. */
+static uint64_t search(const struct day *d, const struct bytes *p)
+{
+    size_t words = 0;
+    chains_needed(chains_search_words(d->at, d->len, p->at, p->len), &words);
+    const uint64_t begun = chains_search_begin(d->at, d->len, p->at, p->len, 0, d->last, work, words);
+    if (!chains_begun(begun)) {
+        return begun;
+    }
+    chains_search_move(work, words, 1);
+    chains_search_move(work, words, 1000);
+    return chains_search_finish(work, words, entries, MOST_ENTRIES);
+}
 
 /* The requests about one day and one pattern; a reply may be a refusal, which ends the call sooner. */
 static void ask(const struct day *d, const struct bytes *p, struct counted *counted)
@@ -138,8 +153,10 @@ static void ask(const struct day *d, const struct bytes *p, struct counted *coun
     size_t words = 0;
     size_t length = 0;
     chains_needed(chains_words(d->at, d->len, p->at, p->len), &words);
+    const uint64_t stepped = search(d, p);
     uint64_t reply = chains_find(d->at, d->len, p->at, p->len, 0, d->last, work, words, entries, MOST_ENTRIES);
     counted->answers += !chains_refused(reply);
+    counted->stepped += reply == stepped;
     if (chains_found(reply, &length)) {
         counted->found++;
         reply = chains_check(d->at, d->len, p->at, p->len, 0, d->last, entries, length, work, words);
@@ -217,14 +234,14 @@ int main(void)
     }
     write_patterns();
     write_days();
-    struct counted counted = {0, 0, 0, 0, 0};
+    struct counted counted = {0, 0, 0, 0, 0, 0};
     const size_t own = taken_by(call_none, &counted);
     const size_t taken = taken_by(call_all, &counted);
     printf("%zu answers on a stack of %d bytes; the hungriest call took %zu, beside %zu of the thread's own\n", counted.answers,
            CHAINS_STACK, taken - own, own);
     /* The last patterns alone are refused; of the requests about the others, some are too large. */
     if (counted.patterns != PATTERNS - REFUSED || counted.answers < 3 * PATTERNS || counted.found < PATTERNS ||
-        counted.yes != counted.found || counted.days != DAYS) {
+        counted.yes != counted.found || counted.stepped != PATTERNS * DAYS || counted.days != DAYS) {
         fail("the requests are answered");
     }
     free(work);

@@ -11,7 +11,7 @@ use lib.ListN.{getD, drop, drop-of-length-le}
 use lib.Seq.{drop-cons}
 use borrow.Author.Tests.{eq-eqb, ne-eqb, leb-true}
 use Rattle.search.specs.Along.{goal}
-use Rattle.graph.specs.Early.{Ended}
+use Rattle.graph.specs.Early.{Ended, metBy}
 use Rattle.graph.specs.Loops.{loop}
 use Rattle.graph.specs.PhaseOne.{Progress, waiting, begun, advanceBy, advance-next, advance-add}
 use Rattle.graph.specs.PhaseTwo.{nearestWord}
@@ -19,7 +19,7 @@ use Rattle.search.specs.Product.{Setting}
 use Rattle.graph.specs.Table.{Search, blank, push}
 use Rattle.area.specs.Area.{stretch, found, Ready, Step}
 use Rattle.area.proofs.Changes.{step-as, step-none, step-then, ready-long}
-use Rattle.backward.specs.Stopped.{opened, tableAfter, Stopped, metBy}
+use Rattle.backward.specs.Stopped.{opened, tableAfter, Stopped}
 
 -- ---- the test
 

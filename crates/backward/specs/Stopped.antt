@@ -1,8 +1,6 @@
 -- Phase one stopped: some states are expanded, and it has ended, because nothing waits or because a first state is met.
-use mathlib.Core.Bool.{Bool, false, cond}
 use mathlib.Core.List.{List, [], _∷_}
 use Prim.Native.Nat.{ℕ}
-use lib.Dec.{eqb, leb}
 use Rattle.search.specs.Along.{goal}
 use Rattle.request.specs.declared.Plan.{Plan}
 use Rattle.graph.specs.Early.{Ended}
@@ -42,9 +40,3 @@ StoppedAt start S plan begin from = Stopped (plan .base) (plan .size) (expand S)
 
 abbrev pub StoppedFrom : ℕ → Setting → Plan → ℕ → ℕ → ℕ → List ℕ → ℕ → List ℕ → Type 0
 StoppedFrom to S plan = StoppedAt (fromGoal S (plan .size) to) S plan
-
--- ---- the test for it
-
--- is the nearest first state, by its word, as near as the state that waits first, with the word d? Never where d is that of the state before
-unfoldable pub metBy : ℕ → ℕ → ℕ → Bool
-metBy near d last = cond (eqb d last) false (cond (eqb near 0) false (leb near d))

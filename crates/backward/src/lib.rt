@@ -4,16 +4,17 @@ ghost use Prim.Native.Nat.{_<_};
 ghost use lib.ListN.{length};
 ghost use Rattle.request.specs.Layout.{Laid};
 ghost use Rattle.search.specs.Loaded.{settingAt};
+ghost use Rattle.graph.specs.Early.{metBy};
 ghost use Rattle.graph.specs.PhaseTwo.{nearestWord};
 ghost use Rattle.states.specs.Pairs.{distances, ReadyBack};
 ghost use Rattle.forward.specs.Firsts.{firstStates};
 ghost use Rattle.expanding.specs.Backing.{Backing};
-ghost use Rattle.backward.specs.Stopped.{opened, StoppedAt, StoppedFrom, metBy};
+ghost use Rattle.backward.specs.Stopped.{opened, StoppedAt, StoppedFrom};
 use request::Plan;
 
 // Is a first state met: is one as near as the state that waits first, whose word is `d`? All that are have their words when a
 // distance begins, so it is asked only where `d` differs from `last`, the word of the state expanded before.
-fn first_met(work: &[u32], plan: Plan, begin: u64, from: usize, d: u32, last: u32) -> bool
+pub fn first_met(work: &[u32], plan: Plan, begin: u64, from: usize, d: u32, last: u32) -> bool
     requires { ⌜ Laid plan (length (now work)) ⌝ }
     requires { ⌜ from < plan .places ⌝ }
     ensures { λ r. ⌜ r ≡ metBy (nearestWord (distances plan (now (work .entry))) (firstStates plan begin from)) d last ⌝ }

@@ -59,7 +59,7 @@ module _ (a : List ℕ) (plan : Plan) (g : List ℕ) where
         rw (line-at plan g i h, next, ← big, pop, add-zero)
 
     -- a line's loop over stacks
-    stacks-are : (d c i e w : ℕ) (st : Search) → i < plan .lines
+    pub stacks-are : (d c i e w : ℕ) (st : Search) → i < plan .lines
         → overStacks S d c i e w st
         ≡ turns
         (stackTurn (boatAt plan g) (plan .radix) (spot c) d (stateIn plan (fromIn (wordAt plan g i)) c 0) (codeAt plan g i) (plan .radix ^ e) w)

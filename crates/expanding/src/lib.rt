@@ -229,7 +229,7 @@ fn over_stacks(
 // ---- each line
 
 // Line `i`, if it leads to the place and is of the position's kind: gone back over to the position `c`.
-fn one_line(
+pub fn one_line(
     work: &mut [u32],
     plan: Plan,
     undo: Undo,
@@ -290,7 +290,7 @@ fn stacks_over(radix: usize, deep: usize, e: usize) -> usize
 }
 
 // The stacks of the depth `leaves` after a position that are the state's when they are cut to its depth.
-fn undo_of(plan: Plan, spot: Spot, target: Target, d: u32, leaves: usize) -> Undo
+pub fn undo_of(plan: Plan, spot: Spot, target: Target, d: u32, leaves: usize) -> Undo
     requires { ⌜ (0 < plan .radix) × (leaves ≤ 3) × (plan .radix ^ (leaves - target .depth) ≤ largest) ⌝ }
     ensures { λ r. ⌜ r ≡ undoOf plan spot target d leaves ⌝ }
 {
@@ -496,7 +496,7 @@ fn over_way(
 }
 
 // The stack's depth after a position.
-fn leaves_of(depth: usize, push: bool) -> usize
+pub fn leaves_of(depth: usize, push: bool) -> usize
     requires { ⌜ depth ≤ 3 ⌝ }
     ensures { λ r. ⌜ r ≡ deeper push depth ⌝ }
 {

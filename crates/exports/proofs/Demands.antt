@@ -7,11 +7,14 @@ use Prim.Native.Nat.{ℕ, _<_}
 use native.Mathlib.Omega.{arith}
 use lib.ListN.{getD}
 use Rattle.meaning.specs.Outcome.{Outcome, refused, passed, Reply, told}
+use Rattle.meaning.specs.Record.{Line, Day, readRecord}
+use Rattle.meaning.specs.Pattern.{Pattern, readPattern, noneGiven}
 use Rattle.request.specs.Told.{Late}
 use Rattle.checker.specs.Promise.{checkOf, Says, Demand2}
 use Rattle.checker.specs.Demand.{check-late}
 use Rattle.finder.specs.Promise.{findOf, Said, found, none-found, refusal, said, Answers, Demand3}
 use Rattle.finder.specs.Demand.{Bounds, find-bounds, LateSaid, find-late}
+use Rattle.exports.specs.Fits.{SaidFits}
 use Rattle.exports.specs.Promise.{checkNumber, YesNo, Membership, findNumber, LengthOrNone, FirstShortest}
 
 -- ---- demand 2
@@ -34,22 +37,45 @@ module _ (rec pat : List ℕ) (a b : ℕ) (c : List ℕ) (words : ℕ) where
 
 -- ---- demand 3
 
+-- small lengths fit 32 bits
+pub bounds-fit : (room : ℕ) (t : Said) → Bounds room t → SaidFits t
+bounds-fit room none-found small = tt
+bounds-fit room (found n) small = tt
+bounds-fit room (refusal number n) small = omega (arith, small)
+
+-- lengths that leave room for the number of none
+abbrev pub Low : Said → Type 0
+Low (found n) = n < 4294967295
+Low none-found = Unit {0}
+Low (refusal number n) = n < 4294967295
+
+-- the number of a reply that says what it is to say
+length-or-none : (lines : List Line) (p : Pattern) (a b room : ℕ) (out : List ℕ) (t : Said) → Low t → LateSaid t → Answers lines p a b room t out → LengthOrNone lines p a b room (findNumber t) out
+length-or-none lines p a b room out none-found small late says = (λ e. says, λ l. absurd (omega (arith, l)), λ e. absurd (omega (arith, e)))
+length-or-none lines p a b room out (found n) small late says = (λ e. absurd (omega (arith, e, small)), λ l. says, λ e. absurd (omega (arith, e, small)))
+length-or-none lines p a b room out (refusal number n) small late says = (
+  λ e. absurd (omega (arith, e, late)),
+  λ l. absurd (omega (arith, l, late)),
+  λ e. let (c, first, long, less) = says (omega (arith, e, small)) in (c, first, omega (arith, long, small), omega (arith, long, less)),
+)
+
+-- for every record and pattern that the bytes read as
+pub first-shortest : (rec pat : List ℕ) (a b room : ℕ) (out : List ℕ) (t : Said) → Low t → ((day : Day) (p : Pattern) → readRecord rec ≡ passed day → readPattern noneGiven pat ≡ passed p → LateSaid t)
+    → Demand3 rec pat a b room t out → FirstShortest rec pat a b room (findNumber t) out
+unfolding FirstShortest
+first-shortest rec pat a b room out t small late demand day p r s = length-or-none (day .lines) p a b room out t small (late day p r s) (demand day p r s)
+
 module _ (rec pat : List ℕ) (a b words room : ℕ) (out : List ℕ) (low : (i : ℕ) → getD rec i 0 < 256) where
   abbrev answered : Said
   answered = said (findOf rec pat a b words room)
 
   said-first : Demand3 rec pat a b room answered out → FirstShortest rec pat a b room (findNumber answered) out
-  unfolding FirstShortest
-  said-first demand day p r s = go answered (find-bounds rec pat a b words room low) (find-late rec pat a b words room day p r s) (demand day p r s)
+  said-first demand = first-shortest rec pat a b room out answered (low-bounds answered (find-bounds rec pat a b words room low)) (find-late rec pat a b words room) demand
     where
-      go : (t : Said) → Bounds room t → LateSaid t → Answers (day .lines) p a b room t out → LengthOrNone (day .lines) p a b room (findNumber t) out
-      go none-found small late says = (λ e. says, λ l. absurd (omega (arith, l)), λ e. absurd (omega (arith, e)))
-      go (found n) small late says = (λ e. absurd (omega (arith, e, small)), λ l. says, λ e. absurd (omega (arith, e, small)))
-      go (refusal number n) small late says = (
-        λ e. absurd (omega (arith, e, late)),
-        λ l. absurd (omega (arith, l, late)),
-        λ e. let (c, first, long, less) = says (omega (arith, e, small)) in (c, first, omega (arith, long, small), omega (arith, long, less)),
-      )
+      low-bounds : (t : Said) → Bounds room t → Low t
+      low-bounds none-found small = tt
+      low-bounds (found n) small = omega (arith, small)
+      low-bounds (refusal number n) small = omega (arith, small)
 
   -- the number of a reply that meets demand 3
   pub find-number : (s : Said) → s ≡ answered → Demand3 rec pat a b room s out → (r : ℕ) → r ≡ findNumber answered → FirstShortest rec pat a b room r out

@@ -1,5 +1,5 @@
 -- What the functions for C, Rust and Python promise: a reply as one number of 64 bits, n · 2^32 + value, and the lent words afterwards.
--- `Membership` and `FirstShortest` are demands 2 and 3 of that number. The contracts of the functions `chains_…` cite these definitions.
+-- `Membership` and `FirstShortest` are demands 2 and 3 of that number; `MovingNumber` and `FinishingNumber` are what a move and a finish promise. The contracts of the functions `chains_…` cite these definitions.
 use mathlib.Core.Path.{_≡_}
 use mathlib.Core.Bool.{Bool, true, false, cond}
 use mathlib.Core.List.{List, [], _∷_, _++_}
@@ -12,7 +12,9 @@ use Rattle.meaning.specs.Count.{Count}
 use Rattle.meaning.specs.Pattern.{Pattern, readPattern, noneGiven}
 use Rattle.meaning.specs.Chain.{Accepted, First}
 use Rattle.pattern.specs.Promise.{Counts}
+use Rattle.meaning.specs.Request.{Asked}
 use Rattle.finder.specs.Promise as Find
+use Rattle.searching.specs.Promise.{Left, Moving, Finishing}
 
 -- ---- a value, or a refusal's number and second number
 
@@ -104,6 +106,20 @@ LengthOrNone lines p a b room r out =
 unfoldable pub FirstShortest : List ℕ → List ℕ → ℕ → ℕ → ℕ → ℕ → List ℕ → Type 0
 FirstShortest rec pat a b room r out =
     (day : Day) (p : Pattern) → readRecord rec ≡ passed day → readPattern noneGiven pat ≡ passed p → LengthOrNone (day .lines) p a b room r out
+
+-- ---- a search under way: the number is that of what `searching` says
+
+pub record MovingNumber (amount : ℕ) (w : List ℕ) (r : ℕ) (v : List ℕ) : Type 0 where
+  pub reply : Reply ℕ
+  pub number : r ≡ numberOf reply
+  pub moving : Moving amount w reply v
+
+pub record FinishingNumber (w out : List ℕ) (r : ℕ) (v out′ : List ℕ) : Type 0 where
+  pub reply : Find.Said
+  pub number : r ≡ findNumber reply
+  pub finishing : Finishing w out reply v out′
+  -- where the area is as a begin and its moves left it
+  pub first-shortest : (rec pat : List ℕ) (from to : ℕ) (q : Asked) (k : ℕ) → Left rec pat from to q k w → FirstShortest rec pat from to (length out) r out′
 
 -- ---- the version
 

@@ -8,14 +8,15 @@ ghost use Rattle.meaning.specs.Count.{countOf};
 ghost use Rattle.meaning.specs.Outcome.{told};
 ghost use Rattle.meaning.specs.Writing.{beginOf, beginAfter, addOf, addAfter, readOf};
 ghost use Rattle.meaning.specs.Pattern.{readPattern, noneGiven};
-ghost use Rattle.meaning.specs.Request.{wordsOf, askRequest, workAfter};
+ghost use Rattle.meaning.specs.Request.{wordsOf, askRequest, workAfter, askSearch, searchWordsOf};
 ghost use Rattle.checker.specs.Promise.{checkOf};
-ghost use Rattle.finder.specs.Promise.{findOf, said, outAfter};
+ghost use Rattle.finder.specs.Promise.{findReply, findOf, said, outAfter};
 ghost use Rattle.pattern.specs.Promise.{countsOf};
 ghost use Rattle.record.specs.Promise.{lineShown};
+ghost use Rattle.searching.specs.Promise.{begunTold, begunAfter};
 ghost use Rattle.writing.specs.Promise.{writeReply};
-ghost use Rattle.exports.specs.Promise.{numberOf, fieldsOf, readNumber, readAfter, countNumber, countAfter, patternNumber, patternAfter, checkNumber, Membership, findNumber, FirstShortest, versionNumber};
-ghost use Rattle.exports.specs.Fits.{Fits32};
+ghost use Rattle.exports.specs.Promise.{numberOf, fieldsOf, readNumber, readAfter, countNumber, countAfter, patternNumber, patternAfter, checkNumber, Membership, findNumber, FirstShortest, MovingNumber, FinishingNumber, versionNumber};
+ghost use Rattle.exports.specs.Fits.{Fits32, SaidFits};
 use boats::CountReply;
 use checker::CheckReply;
 use finder::FindReply;
@@ -23,6 +24,8 @@ use pattern::PatternReply;
 use record::Line;
 use record::LineReply;
 use request::WordsReply;
+use searching::BeginReply;
+use searching::MoveReply;
 use writing::WriteReply;
 
 // ---- the version
@@ -227,6 +230,18 @@ pub extern "C" fn chains_check(
     }
 }
 
+// What the finder says, as a number.
+fn find_number(r: FindReply) -> u64
+    requires { ⌜ SaidFits (findReply r) ⌝ }
+    ensures { λ n. ⌜ n ≡ findNumber (findReply r) ⌝ }
+{
+    match r {
+        FindReply::Found(n) => n as u64,
+        FindReply::NoChain => 4294967295,
+        FindReply::Refused(q, second) => refusal(q, second),
+    }
+}
+
 // Finds the first shortest chain; value: its length, the chain standing at the front of the output, or 4,294,967,295 for none.
 #[no_mangle]
 pub extern "C" fn chains_find(
@@ -242,9 +257,55 @@ pub extern "C" fn chains_find(
     ensures output { λ _. ⌜ now (out .exit) ≡ outAfter (findOf (now (rec .entry)) (now (pat .entry)) from to (length (now (work .entry))) (length (now (out .entry)))) (now (out .entry)) ⌝ }
     ensures first_shortest { λ r. ⌜ FirstShortest (now (rec .entry)) (now (pat .entry)) from to (length (now (out .entry))) r (now (out .exit)) ⌝ }
 {
-    match finder::find(rec, pat, from, to, work, out) {
-        FindReply::Found(n) => n as u64,
-        FindReply::NoChain => 4294967295,
-        FindReply::Refused(q, second) => refusal(q, second),
+    find_number(finder::find(rec, pat, from, to, work, out))
+}
+
+// ---- a search under way
+
+// How many words of work area a search that is begun needs; value: the words.
+#[no_mangle]
+pub extern "C" fn chains_search_words(rec: &[u8], pat: &[u8]) -> u64
+    ensures { λ r. ⌜ r ≡ numberOf (told (searchWordsOf (now (rec .entry)) (now (pat .entry)))) ⌝ }
+{
+    match request::search_words(rec, pat) {
+        WordsReply::Words(n) => n as u64,
+        WordsReply::Refused(q, _) => refusal(q, 0),
     }
+}
+
+// Begins a search, which the work area holds from then on; value: 0.
+#[no_mangle]
+pub extern "C" fn chains_search_begin(
+    rec: &[u8],
+    pat: &[u8],
+    from: u16,
+    to: u16,
+    work: &mut [u32],
+) -> u64
+    ensures reply { λ r. ⌜ r ≡ numberOf (begunTold (askSearch (now (rec .entry)) (now (pat .entry)) from to (length (now (work .entry))))) ⌝ }
+    ensures workspace { λ _. ⌜ now (work .exit) ≡ begunAfter (askSearch (now (rec .entry)) (now (pat .entry)) from to (length (now (work .entry)))) (now (pat .entry)) from to (now (work .entry)) ⌝ }
+{
+    match searching::begin_search(rec, pat, from, to, work) {
+        BeginReply::Begun => 0,
+        BeginReply::Refused(q, _) => refusal(q, 0),
+    }
+}
+
+// Moves the search that the work area holds on by an amount of states; value: how many were taken up.
+#[no_mangle]
+pub extern "C" fn chains_search_move(work: &mut [u32], amount: usize) -> u64
+    ensures { λ r. ⌜ MovingNumber amount (now (work .entry)) r (now (work .exit)) ⌝ }
+{
+    match searching::move_search(work, amount) {
+        MoveReply::Moved(n) => n as u64,
+        MoveReply::Refused(q, second) => refusal(q, second),
+    }
+}
+
+// Finishes the search that the work area holds; value: as chains_find.
+#[no_mangle]
+pub extern "C" fn chains_search_finish(work: &mut [u32], out: &mut [u16]) -> u64
+    ensures { λ r. ⌜ FinishingNumber (now (work .entry)) (now (out .entry)) r (now (work .exit)) (now (out .exit)) ⌝ }
+{
+    find_number(searching::finish_search(work, out))
 }

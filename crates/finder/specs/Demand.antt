@@ -29,7 +29,7 @@ module _ (lines : List Line) (places : ℕ) (p : Pattern) (a b : ℕ) (within : 
   written : (c : List ℕ) → take (length c) (c ++ drop (length c) out) ≡ c
   written c = take-append-seam c (drop (length c) out)
 
-  settled-right : Answers lines p a b room (said (settled room (answer lines places p a b))) (outAfter (settled room (answer lines places p a b)) out)
+  pub settled-right : Answers lines p a b room (said (settled room (answer lines places p a b))) (outAfter (settled room (answer lines places p a b)) out)
   settled-right = go (answer lines places p a b) refl
     where
       go : (o : Option (List ℕ)) → answer lines places p a b ≡ o → Answers lines p a b room (said (settled room o)) (outAfter (settled room o) out)
@@ -100,18 +100,18 @@ LateSaid (found n) = Unit {0}
 LateSaid none-found = Unit {0}
 LateSaid (refusal number n) = 15 ≤ number
 
+pub settled-late : (room : ℕ) (o : Option (List ℕ)) → LateSaid (said (settled room o))
+settled-late room none = tt
+settled-late room (some c) = fits (leb (length c) room)
+  where
+    fits : (t : Bool) → LateSaid (said (cond t (chain c) (too-long (length c))))
+    fits true = tt
+    fits false = omega arith
+
 pub find-late : (rec pat : List ℕ) (from to words room : ℕ) (day : Day) (p : Pattern) → readRecord rec ≡ passed day → readPattern noneGiven pat ≡ passed p → LateSaid (said (findOf rec pat from to words room))
 unfolding findOf
 find-late rec pat from to words room day p r s = go (askRequest rec pat from to words) (asked-late rec pat from to words day p r s)
   where
-    settled-late : (o : Option (List ℕ)) → LateSaid (said (settled room o))
-    settled-late none = tt
-    settled-late (some c) = fits (leb (length c) room)
-      where
-        fits : (t : Bool) → LateSaid (said (cond t (chain c) (too-long (length c))))
-        fits true = tt
-        fits false = omega arith
-
     go : (o : Outcome Asked) → Late o → LateSaid (said (searched o from to room))
     go (refused number) late = late
-    go (passed q) late = settled-late (answer (q .day .lines) (q .day .places) (q .pattern) from to)
+    go (passed q) late = settled-late room (answer (q .day .lines) (q .day .places) (q .pattern) from to)

@@ -68,7 +68,7 @@ fn search_loaded(
 }
 
 // Question 19, one more than the chain's length being known, or 0 where there is none.
-fn answered(nearest: u32, room: usize) -> FindReply
+pub fn answered(nearest: u32, room: usize) -> FindReply
     ensures { λ r. ⌜ findReply r ≡ toldBy nearest room ⌝ }
 {
     if nearest == 0 {

@@ -13,7 +13,6 @@ use Rattle.request.specs.Layout.{fromIn, toIn, kindIn}
 use Rattle.request.specs.declared.Plan.{Plan}
 use Rattle.graph.specs.Plain.{memb}
 use Rattle.graph.specs.Loops.{turns, turns-within}
-use Rattle.graph.specs.Table.{Search}
 use Rattle.search.specs.Product.{Setting, stacks, state, placeOf, posOf, stackOf, cut, pushed}
 use Rattle.search.specs.Front.{line-at}
 use Rattle.search.specs.Loaded.{boatAt, codeAt, wordAt, settingIn}
@@ -34,7 +33,7 @@ module _ (a : List ℕ) (plan : Plan) (g : List ℕ) where
   unfolding spotIn
   kind-is c = refl
 
-  module _ (big : plan .stacks ≡ plan .radix ^ plan .keeps) (few : plan .done ≤ 63) (see : ℕ → Search → Search) where
+  module _ (big : plan .stacks ≡ plan .radix ^ plan .keeps) (few : plan .done ≤ 63) {A : Type 0} (see : ℕ → A → A) where
     abbrev pos : ℕ → ℕ
     pos s = s / plan .stacks % (plan .done + 1)
 
@@ -42,10 +41,10 @@ module _ (a : List ℕ) (plan : Plan) (g : List ℕ) where
     abbrev left : ℕ → ℕ → ℕ
     left s i = on (spot (pos s)) (s % plan .stacks) (codeAt plan g i)
 
-    abbrev turn : ℕ → ℕ → ℕ → Search → Search
+    abbrev turn : ℕ → ℕ → ℕ → A → A
     turn s i = nextTurn plan a (followAt a (pos s)) see (toIn (wordAt plan g i)) (left s i)
 
-    next-turn : (s i k : ℕ) (b : Search) → i < plan .lines → k ≤ plan .done
+    next-turn : (s i k : ℕ) (b : A) → i < plan .lines → k ≤ plan .done
         → cond (memb k (S .node (posOf S s) .follow))
         (see (state S (lineAt (S .lines) i .to) k (cut S (S .node k .depth) (pushed S (S .node (posOf S s)) (stackOf S s) i))) b)
         b
@@ -61,10 +60,10 @@ module _ (a : List ℕ) (plan : Plan) (g : List ℕ) where
           push-on (plan .radix) (depthAt a (pos s)) (s % plan .stacks) (codeAt plan g i) (rowAt a (pos s) .push),
         )
 
-    next-is : (s i : ℕ) (st : Search) → i < plan .lines → overNext S see i s st ≡ turns (turn s i) 0 (plan .done + 1) st
+    next-is : (s i : ℕ) (st : A) → i < plan .lines → overNext S see i s st ≡ turns (turn s i) 0 (plan .done + 1) st
     next-is s i st h = whole ∙ turns-within body (turn s i) 0 (plan .done + 1) (λ k low less. same-turn k (omega (arith, less))) st
       where
-        body : ℕ → Search → Search
+        body : ℕ → A → A
         body k b =
             cond (memb k (S .node (posOf S s) .follow))
             (see (state S (lineAt (S .lines) i .to) k (cut S (S .node k .depth) (pushed S (S .node (posOf S s)) (stackOf S s) i))) b)
@@ -76,11 +75,11 @@ module _ (a : List ℕ) (plan : Plan) (g : List ℕ) where
         whole : overNext S see i s st ≡ turns body 0 (plan .done + 1) st
         whole = unfold overNext settingIn in ap (λ m. turns body 0 m st) (sym next)
 
-        same-turn : (k : ℕ) → k < plan .done + 1 → (b : Search) → body k b ≡ turn s i k b
+        same-turn : (k : ℕ) → k < plan .done + 1 → (b : A) → body k b ≡ turn s i k b
         same-turn k l b = next-turn s i k b h (omega arith)
 
     -- line i as the code holds it: the place q that it comes from, its kind x, the place r that it leads to
-    module _ (s i : ℕ) (st : Search) (h : i < plan .lines) (q : ℕ) (eq : q ≡ fromIn (wordAt plan g i)) where
+    module _ (s i : ℕ) (st : A) (h : i < plan .lines) (q : ℕ) (eq : q ≡ fromIn (wordAt plan g i)) where
       abbrev here : Bool
       here = eqb q (s / plan .stacks / (plan .done + 1))
 

@@ -33,7 +33,7 @@ module _ (D : List ℕ) (w t : ℕ) (st : Search) where
 pub visit-same : (D : List ℕ) (w t u : ℕ) (st : Search) → t ≡ u → visit D w u st ≡ visit D w t st
 visit-same D w t u st e = ap (λ s. visit D w s st) (sym e)
 
-module _ (plan : Plan) (program : List ℕ) (mask : ℕ) (see : ℕ → Search → Search) (to v k : ℕ) (st : Search) where
+module _ {A : Type 0} (plan : Plan) (program : List ℕ) (mask : ℕ) (see : ℕ → A → A) (to v k : ℕ) (st : A) where
   next-has : bitOf mask k ≡ 1 → nextTurn plan program mask see to v k st ≡ see (stateIn plan to k (v % plan .radix ^ depthAt program k)) st
   unfolding nextTurn
   next-has h = rw (eq-eqb _ _ h)
@@ -44,7 +44,7 @@ module _ (plan : Plan) (program : List ℕ) (mask : ℕ) (see : ℕ → Search �
 
 -- ---- no position is left in the mask
 
-pub next-none : (plan : Plan) (program : List ℕ) (mask : ℕ) (see : ℕ → Search → Search) (to v j n rest : ℕ) (st : Search) → From mask j rest → rest ≡ 0
+pub next-none : {A : Type 0} (plan : Plan) (program : List ℕ) (mask : ℕ) (see : ℕ → A → A) (to v j n rest : ℕ) (st : A) → From mask j rest → rest ≡ 0
     → turns (nextTurn plan program mask see to v) j n st ≡ st
 next-none plan program mask see to v j n rest st from e =
     turns-idle (nextTurn plan program mask see to v) j n st (λ i le less. next-passed plan program mask see to v i st (λ h. none i (ap (λ r. bitOf r i) (sym e) ∙ (from .same i le ∙ h))))
@@ -77,8 +77,8 @@ module _ {mask j rest k : ℕ} (from : From mask j rest) (low : Lowest rest k) w
   pub rest-after : (after : ℕ) → From rest (k + 1) after → From mask (k + 1) after
   rest-after after f = let le = past in record { same = λ i h. f .same i h ∙ from .same i (omega arith); none-below = f .none-below }
 
-module _ (plan : Plan) (program : List ℕ) (mask : ℕ) (see : ℕ → Search → Search) (to v j n rest k : ℕ) (st : Search) (from : From mask j rest) (low : Lowest rest k) where
-  abbrev turn : ℕ → Search → Search
+module _ {A : Type 0} (plan : Plan) (program : List ℕ) (mask : ℕ) (see : ℕ → A → A) (to v j n rest k : ℕ) (st : A) (from : From mask j rest) (low : Lowest rest k) where
+  abbrev turn : ℕ → A → A
   turn = nextTurn plan program mask see to v
 
   -- the positions below it are passed over

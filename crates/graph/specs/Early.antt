@@ -129,12 +129,12 @@ module _ (dist : ℕ → Option ℕ) (d : ℕ) where
 
 -- ---- the queue of phase one is in order of distance
 
-sorted-even : (d : ℕ) (q : List Entry) → ((x : Entry) → x ∈ q → x .1 ≡ d) → Sorted q
+pub sorted-even : (d : ℕ) (q : List Entry) → ((x : Entry) → x ∈ q → x .1 ≡ d) → Sorted q
 sorted-even d [] h = tt
 sorted-even d (e ∷ q) h =
     (λ x i. omega (arith, h e (List·Memᴰ·head refl), h x (List·Memᴰ·tail i)), sorted-even d q (λ x i. h x (List·Memᴰ·tail i)))
 
-sorted-append : (q g : List Entry) → Sorted q → Sorted g → ((x y : Entry) → x ∈ q → y ∈ g → x .1 ≤ y .1) → Sorted (q ++ g)
+pub sorted-append : (q g : List Entry) → Sorted q → Sorted g → ((x y : Entry) → x ∈ q → y ∈ g → x .1 ≤ y .1) → Sorted (q ++ g)
 sorted-append [] g o o′ h = o′
 sorted-append (e ∷ q) g o o′ h = (
   λ x i. ⊎-elim (λ j. o .0 x j) (λ j. h e x (List·Memᴰ·head refl) j) (List·Memᴰ·append-cases q i),
@@ -145,7 +145,7 @@ sorted-first : (e : Entry) (q : List Entry) → Sorted (e ∷ q) → (x : Entry)
 sorted-first e q o x i = ⊎-elim (λ p. omega (arith, same-distance p)) (λ j. o .0 x j) (List·Memᴰ·cases-cons i)
 
 -- new entries have the distance given
-news-at : (d : ℕ) (ps : List ℕ) (f : List Entry) (x : Entry) → x ∈ news d f ps → x .1 ≡ d
+pub news-at : (d : ℕ) (ps : List ℕ) (f : List Entry) (x : Entry) → x ∈ news d f ps → x .1 ≡ d
 news-at d [] f x i = let j : x ∈ [] = unfold news in i in none-in j
 news-at d (p ∷ ps) f x i = go (look p f) refl (λ f′. news-at d ps f′ x)
   where
@@ -193,7 +193,7 @@ module _ (preds : ℕ → List ℕ) where
 
   -- what every expansion keeps, of the entries and the queue, holds at every count
   module _ (P : List Entry → List Entry → Type 0) (keeps : (f : List Entry) (e : Entry) (q : List Entry) → P f (e ∷ q) → P (f ++ fresh f e) (q ++ fresh f e)) where
-    step-keeps : (f : List Entry) (n : ℕ) → P f (drop n f) → let x = step preds (f, n) in P (x .0) (drop (x .1) (x .0))
+    pub step-keeps : (f : List Entry) (n : ℕ) → P f (drop n f) → let x = step preds (f, n) in P (x .0) (drop (x .1) (x .0))
     step-keeps f n p = go (drop n f) refl
       where
         go : (q : List Entry) → drop n f ≡ q → let x = step preds (f, n) in P (x .0) (drop (x .1) (x .0))
@@ -203,7 +203,7 @@ module _ (preds : ℕ → List ℕ) where
             let rest : drop (suc n) (f ++ new) ≡ q ++ new = waits-after n (f ++ new) e (q ++ new) (waits-more n f new e q h) in
             rw (step-next preds f n e q h, rest) (keeps f e q (rw h at p))
 
-    steps-keep : (k : ℕ) (f : List Entry) (n : ℕ) → P f (drop n f) → let x = steps preds k (f, n) in P (x .0) (drop (x .1) (x .0))
+    pub steps-keep : (k : ℕ) (f : List Entry) (n : ℕ) → P f (drop n f) → let x = steps preds k (f, n) in P (x .0) (drop (x .1) (x .0))
     unfolding steps
     steps-keep zero f n p = p
     steps-keep (suc k) f n p = let x = step preds (f, n) in steps-keep k (x .0) (x .1) (step-keeps f n p)
@@ -263,6 +263,11 @@ pub record Met (S : List ℕ) (u : Progress) : Type 0 where
   pub waits : waiting u ≡ next ∷ rest
   pub some-near : 0 < nearestWord (u .table .dist) S
   pub as-near : nearestWord (u .table .dist) S ≤ getD (u .table .dist) next 0
+
+-- the test for it, by words: is the nearest state of S as near as the one that waits first, with the word d? Never where d is that of the
+-- state expanded before
+unfoldable pub metBy : ℕ → ℕ → ℕ → Bool
+metBy near d last = cond (eqb d last) false (cond (eqb near 0) false (leb near d))
 
 -- where phase one towards the states S ends: nothing waits, or one of them is met
 abbrev pub Ended : List ℕ → Progress → Type 0

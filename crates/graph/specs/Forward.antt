@@ -16,7 +16,7 @@ use Rattle.graph.specs.Distances.{distance-spec}
 -- ---- the line chosen, and the states to which it leads
 
 module _ (dist : ℕ → Option ℕ) (succs : ℕ → ℕ → List ℕ) where
-  next-in : (k : ℕ) (S : List ℕ) (l t : ℕ) → (t ∈ next dist succs k S l) ↔ (((s : ℕ) × (s ∈ S) × (t ∈ succs s l)) × (dist t ≡ some k))
+  pub next-in : (k : ℕ) (S : List ℕ) (l t : ℕ) → (t ∈ next dist succs k S l) ↔ (((s : ℕ) × (s ∈ S) × (t ∈ succs s l)) × (dist t ≡ some k))
   unfolding next
   next-in k S l t =
       let a = level-in dist k (flat (λ s. succs s l) S) t in
@@ -24,12 +24,12 @@ module _ (dist : ℕ → Option ℕ) (succs : ℕ → ℕ → List ℕ) where
       (λ h. let r = a .0 h in (b .0 (r .0), r .1), λ h. a .1 (b .1 (h .0), h .1))
 
   -- r is the least line from l on that leads from S to distance k, with all states to which it leads
-  record Chosen (k : ℕ) (S : List ℕ) (l : ℕ) (r : ℕ × List ℕ) : Type 0 where
-    leads : r .1 ≡ next dist succs k S (r .0)
-    inhabited : (t : ℕ) × (t ∈ r .1)
-    least : (j t : ℕ) → l ≤ j → t ∈ next dist succs k S j → r .0 ≤ j
+  pub record Chosen (k : ℕ) (S : List ℕ) (l : ℕ) (r : ℕ × List ℕ) : Type 0 where
+    pub leads : r .1 ≡ next dist succs k S (r .0)
+    pub inhabited : (t : ℕ) × (t ∈ r .1)
+    pub least : (j t : ℕ) → l ≤ j → t ∈ next dist succs k S j → r .0 ≤ j
 
-  first-spec : (k : ℕ) (S : List ℕ) (n l j t : ℕ) → l ≤ j → j < l + n → t ∈ next dist succs k S j → Chosen k S l (first dist succs k S n l)
+  pub first-spec : (k : ℕ) (S : List ℕ) (n l j t : ℕ) → l ≤ j → j < l + n → t ∈ next dist succs k S j → Chosen k S l (first dist succs k S n l)
   unfolding first
   first-spec k S zero l j t le lt h = absurd (omega arith)
   first-spec k S (suc n) l j t le lt h = go (next dist succs k S l) refl (λ a b. first-spec k S n (suc l) j t a b h)

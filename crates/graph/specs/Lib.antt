@@ -14,3 +14,14 @@ pub mod PhaseTwo
 pub mod Phases
 pub mod Early
 pub mod SmallGraph
+pub mod Sweep
+pub mod Swept
+pub mod SweepAnswer
+pub mod Trace
+pub mod Underway
+pub mod SameSearch
+pub mod Taking
+pub mod Marking
+pub mod Finishing
+pub mod Reaching
+pub mod SmallSearch

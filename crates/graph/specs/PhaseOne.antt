@@ -120,7 +120,7 @@ module _ (preds : ℕ → List ℕ) (expand : ℕ → ℕ → Search → Search)
           let one : advance expand u .expanded ≡ suc (u .expanded) = ap (λ (v : Progress). v .expanded) (advance-next expand u t q e) in
           omega (arith, one, waits-below (u .expanded) (u .table .queue) t q e, ap length (g .more), length-append (u .table .queue) (g .new))
 
-  advances-within : (k : ℕ) (u : Progress) → Within u → Within (advanceBy expand k u)
+  pub advances-within : (k : ℕ) (u : Progress) → Within u → Within (advanceBy expand k u)
   unfolding advanceBy
   advances-within zero u h = h
   advances-within (suc k) u h = advances-within k (advance expand u) (advance-within u h)

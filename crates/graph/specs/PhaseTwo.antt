@@ -51,7 +51,7 @@ lesser-assoc (some a) none c = refl
 lesser-assoc (some a) (some b) none = refl
 lesser-assoc (some a) (some b) (some c) = ap {B = Option ℕ} some (omega arith)
 
-nearest-is : (D S : List ℕ) → unmark (nearestWord D S) ≡ nearest (distanceIn D) S
+pub nearest-is : (D S : List ℕ) → unmark (nearestWord D S) ≡ nearest (distanceIn D) S
 unfolding nearestWord loop nearest lesser
 nearest-is D S = go S 0
   where

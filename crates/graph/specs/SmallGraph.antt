@@ -15,15 +15,15 @@ use Rattle.graph.specs.Phases.{finish}
 
 -- ---- the graph: six states, three lines, the goal is state 0
 
-unfoldable goals : List ℕ
+unfoldable pub goals : List ℕ
 goals = 0 ∷ []
 
 -- by state
-unfoldable preds : ℕ → List ℕ
+unfoldable pub preds : ℕ → List ℕ
 preds t = getD ((1 ∷ 2 ∷ []) ∷ (3 ∷ []) ∷ (3 ∷ 4 ∷ []) ∷ (4 ∷ []) ∷ []) t []
 
 -- by state and line
-unfoldable succs : ℕ → ℕ → List ℕ
+unfoldable pub succs : ℕ → ℕ → List ℕ
 succs s l = getD (getD ([] ∷ ([] ∷ [] ∷ (0 ∷ []) ∷ []) ∷ ([] ∷ (0 ∷ []) ∷ []) ∷ ((1 ∷ 2 ∷ []) ∷ []) ∷ ((3 ∷ []) ∷ [] ∷ (2 ∷ []) ∷ []) ∷ []) s []) l []
 
 -- ---- the plain search

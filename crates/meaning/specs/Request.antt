@@ -42,6 +42,27 @@ askRequest rec pat from to words =
 unfoldable pub wordsOf : List ℕ → List ℕ → Outcome ℕ
 wordsOf rec pat = andThen (askBoth rec pat) (λ q. ask (leb (sizeOf q) 1048576) 16 (passed (need (sizeOf q))))
 
+-- ---- a search that is begun and moved on
+
+-- it needs three words more for each line
+abbrev pub searchNeed : Asked → ℕ
+searchNeed q = need (sizeOf q) + 3 * length (q .day .lines)
+
+-- its questions: 17 asks for those words
+unfoldable pub askSearch : List ℕ → List ℕ → ℕ → ℕ → ℕ → Outcome Asked
+askSearch rec pat from to words =
+    andThen (askBoth rec pat) (λ asked.
+    ask (ltb from (asked .day .places) && ltb to (asked .day .places)) 15
+    (ask (leb (sizeOf asked) 1048576) 16
+    (ask (leb (searchNeed asked) words) 17
+    (passed asked))))
+
+-- how many words it needs for a record and a pattern
+unfoldable pub searchWordsOf : List ℕ → List ℕ → Outcome ℕ
+searchWordsOf rec pat = andThen (askBoth rec pat) (λ asked. ask (leb (sizeOf asked) 1048576) 16 (passed (searchNeed asked)))
+
+-- ---- the area afterwards
+
 -- a work area after a reply: untouched after a refusal at 17 or before, else all zeros
 abbrev pub workAfter : Outcome Asked → List ℕ → List ℕ
 workAfter (refused number) work = work

@@ -7,7 +7,7 @@ use lib.ListN.{replicate}
 use Rattle.meaning.specs.Outcome.{refused, passed}
 use Rattle.meaning.specs.Record.{Line, boatsAfter, entryAt, linesFrom, readRecord}
 use Rattle.meaning.specs.Pattern.{nothing, counted, readPattern, readAt, commandAt, shapeOf}
-use Rattle.meaning.specs.Request.{searchSize, need, Asked, askRequest, wordsOf, workAfter}
+use Rattle.meaning.specs.Request.{searchSize, need, Asked, askRequest, wordsOf, askSearch, searchWordsOf, workAfter}
 use Rattle.meaning.specs.Rows.{number, line-of, linesR, written-out, bytesR, bytesP, P, S}
 
 -- ---- the search size and the words
@@ -71,6 +71,29 @@ requests-asked = refl
 words-told : wordsOf bytesR bytesP ∷ wordsOf (day-of 64) fifteen ∷ [] ≡ passed 8704 ∷ refused 16 ∷ []
 unfolding fleet day-of fifteen bytesR linesR written-out line-of bytesP wordsOf searchSize boatsAfter readRecord linesFrom entryAt readPattern readAt commandAt shapeOf
 words-told = refl
+
+-- ---- a search that is begun
+
+-- its first 14 questions, 15 and 16 come as for a search at once; 17 asks for three words more for each line
+searches : List Request
+searches =
+    request bytesR [] 4 4 0 8
+    ∷ request bytesR bytesP 0 3 8725 0
+    ∷ request bytesR bytesP 0 3 8724 17
+    ∷ request bytesR bytesP 0 4 8725 15
+    -- the largest size, and the next
+    ∷ request (day-of 63) fifteen 0 1023 4202685 0
+    ∷ request (day-of 63) fifteen 0 1023 4202684 17
+    ∷ request (day-of 64) fifteen 0 1023 0 16
+    ∷ []
+
+searches-asked : map (λ r. number (askSearch (r .rec) (r .pat) (r .from) (r .to) (r .words))) searches ≡ map (λ r. r .gives) searches
+unfolding searches request fleet day-of fifteen bytesR linesR written-out line-of bytesP askSearch searchSize boatsAfter readRecord linesFrom entryAt readPattern readAt commandAt shapeOf
+searches-asked = refl
+
+search-words-told : searchWordsOf bytesR bytesP ∷ searchWordsOf (day-of 63) fifteen ∷ searchWordsOf (day-of 64) fifteen ∷ [] ≡ passed 8725 ∷ passed 4202685 ∷ refused 16 ∷ []
+unfolding fleet day-of fifteen bytesR linesR written-out line-of bytesP searchWordsOf searchSize boatsAfter readRecord linesFrom entryAt readPattern readAt commandAt shapeOf
+search-words-told = refl
 
 -- ---- the work area afterwards
 

@@ -3,6 +3,7 @@ pub mod Capped
 pub mod Reading
 pub mod Passed
 pub mod Bound
+pub mod Short
 pub mod Membership
 pub mod Wordings
 pub mod Rounds

@@ -1,22 +1,27 @@
 -- What the functions of a request answer, in the terms of `meaning`: the definitions that their contracts cite.
 -- No open function's promise uses them.
 use mathlib.Core.Path.{_≡_}
-use mathlib.Core.Bool.{cond}
+use mathlib.Core.Bool.{cond, _&&_}
 use mathlib.Core.List.{List}
-use Prim.Native.Nat.{ℕ, suc, _*_, _^_, _≤_, _<_}
-use lib.Dec.{leb}
+use Prim.Native.Nat.{ℕ, suc, _+_, _*_, _^_, _≤_, _<_}
+use lib.Dec.{ltb, leb}
 use lib.ListN.{length, take}
-use Rattle.meaning.specs.Outcome.{Outcome, refused, passed}
+use Rattle.meaning.specs.Outcome.{Outcome, refused, passed, ask, andThen}
 use Rattle.meaning.specs.Record.{Line, boats}
 use Rattle.meaning.specs.Pattern.{unfolded, keeps}
-use Rattle.meaning.specs.Request.{Asked}
+use Rattle.meaning.specs.Request.{Asked, sizeOf, askBoth}
 use Rattle.boats.specs.Codes.{codes}
 use Rattle.pattern.specs.declared.PatternReply.{PatternReply}
 use Rattle.pattern.specs.declared.PatternReply.the-variants as Pattern
-use Rattle.request.specs.Layout.{largest, Laid, Planned}
+use Rattle.request.specs.Layout.{largest, tableWords, Laid, Planned}
 use Rattle.request.specs.declared.Plan.{Plan}
 use Rattle.request.specs.declared.Both.{Both}
 use Rattle.request.specs.declared.Both.the-variants as Both
+use Rattle.request.specs.declared.Counts.{Counts}
+use Rattle.request.specs.declared.Counting.{Counting}
+use Rattle.request.specs.declared.Counting.the-variants as Counting
+use Rattle.request.specs.declared.Weighing.{Weighing}
+use Rattle.request.specs.declared.Weighing.the-variants as Weighing
 use Rattle.request.specs.declared.Measured.{Measured}
 use Rattle.request.specs.declared.Measured.the-variants as Measured
 use Rattle.request.specs.declared.Request.{Request}
@@ -54,12 +59,81 @@ measuredTold lines places c k =
     let n = places * suc c * suc (length (boats lines)) ^ k in
     cond (leb n largest) (Measured.Size (length (boats lines)) n) Measured.Above
 
+-- ---- questions 1 to 16
+
+unfoldable pub askSized : List ℕ → List ℕ → ℕ → ℕ → Outcome Asked
+askSized rec pat from to = andThen (askBoth rec pat) (λ q. ask (ltb from (q .day .places) && ltb to (q .day .places)) 15 (ask (leb (sizeOf q) largest) 16 (passed q)))
+
+-- the counts are those of what passed, and small
+pub record CountsOf (q : Asked) (c : Counts) : Type 0 where
+  pub places-are : c .places ≡ q .day .places
+  pub lines-are : c .lines ≡ length (q .day .lines)
+  pub unfolded-is : c .unfolded ≡ unfolded (q .pattern)
+  pub keeps-are : c .keeps ≡ keeps (q .pattern)
+  pub radix-is : c .radix ≡ suc (length (boats (q .day .lines)))
+  pub size-is : c .size ≡ sizeOf q
+  pub some-place : 0 < c .places
+  pub few-places : c .places ≤ 1024
+  pub few-lines : c .lines ≤ 4096
+  pub few-positions : c .unfolded ≤ 63
+  pub few-keeps : c .keeps ≤ 3
+  pub few-boats : c .radix ≤ 4097
+  pub small : c .size ≤ largest
+
+-- the number of the question that failed, or the counts of what passed
+abbrev pub CountsTold : Outcome Asked → Counting → Type 0
+CountsTold (refused number) r = r ≡ Counting.Refused number
+CountsTold (passed q) r = (c : Counts) × (r ≡ Counting.Counted c) × CountsOf q c
+
+-- where they pass, the first words are the numbers of the lines' boats
+abbrev pub CountsNumbers : List Line → List ℕ → Counting → Type 0
+CountsNumbers lines numbers (Counting.Counted c) = take (c .lines) numbers ≡ codes lines
+CountsNumbers lines numbers (Counting.Refused number) = Unit {0}
+
+abbrev pub countingNumber : Counting → ℕ
+countingNumber (Counting.Counted c) = 0
+countingNumber (Counting.Refused number) = number
+
+-- ---- the same without 15
+
+unfoldable pub askWeight : List ℕ → List ℕ → Outcome Asked
+askWeight rec pat = andThen (askBoth rec pat) (λ q. ask (leb (sizeOf q) largest) 16 (passed q))
+
+-- the lines and the size of what passed
+abbrev pub weighingTold : Outcome Asked → Weighing
+weighingTold (refused number) = Weighing.Refused number
+weighingTold (passed q) = Weighing.Weighed (length (q .day .lines)) (sizeOf q)
+
+abbrev pub weighingNumber : Weighing → ℕ
+weighingNumber (Weighing.Weighed lines size) = 0
+weighingNumber (Weighing.Refused number) = number
+
+-- both are small
+abbrev pub Light : Weighing → Type 0
+Light (Weighing.Weighed lines size) = (lines ≤ 4096) × (size ≤ largest)
+Light (Weighing.Refused number) = Unit {0}
+
 -- ---- a request that passes
 
 -- the number of the question that failed, or a plan that fits an area of so many words
 abbrev pub Answers : Outcome Asked → ℕ → Request → Type 0
 Answers (refused number) area r = r ≡ Request.Refused number
 Answers (passed q) area r = (plan : Plan) × (r ≡ Request.Asked plan) × Planned q plan × Laid plan area
+
+-- the first word of the tables of a search that is begun
+abbrev pub tables : ℕ
+tables = 209
+
+-- the same for a search that is begun: its tables stand from that word on, and after its four stretches there is room for the lines by place
+abbrev pub AnswersSearch : Outcome Asked → ℕ → Request → Type 0
+AnswersSearch (refused number) area r = r ≡ Request.Refused number
+AnswersSearch (passed q) area r =
+    (plan : Plan)
+    × (r ≡ Request.Asked plan)
+    × Planned q plan
+    × Laid plan area
+    × (plan .boats ≡ tables)
+    × (plan .base + 4 * plan .size + tableWords (plan .places) (plan .lines) ≤ area)
 
 -- where the questions pass, the first words are the numbers of the lines' boats
 abbrev pub Numbers : List Line → List ℕ → Request → Type 0

@@ -1,22 +1,23 @@
 -- A request that is answered, for the checker and the finder alike: what a request that passes says of its bytes and places (`asked-parts`),
 -- what is left to ask where the bytes are read (`asked-of`, `asked-late`),
 -- and the cases of the code's enum against the outcome of questions 1 to 17 (`answers-refused`, `answers-asked`).
+-- The same of a search that is begun: `search-parts`, `search-refused`, `search-asked`.
 use mathlib.Core.Path.{_≡_, refl, sym, ap, _∙_, subst}
 use mathlib.Core.Bool.{Bool, true, false, _&&_}
 use mathlib.Core.List.{List}
-use Prim.Native.Nat.{ℕ, suc, _<_, _≤_}
+use Prim.Native.Nat.{ℕ, suc, _+_, _*_, _<_, _≤_}
 use native.Mathlib.Omega.{arith}
 use lib.Dec.{ltb, leb}
 use lib.ListN.{length, replicate, length-replicate}
 use borrow.Author.Tests.{ltb-true, leb-true}
-use Rattle.meaning.specs.Outcome.{Outcome, refused, passed, ask}
+use Rattle.meaning.specs.Outcome.{Outcome, refused, passed, ask, andThen}
 use Rattle.meaning.specs.Record.{Day, boats, readRecord}
 use Rattle.meaning.specs.Pattern.{Pattern, readPattern, noneGiven}
-use Rattle.meaning.specs.Request.{Asked, sizeOf, need, askBoth, askRequest}
+use Rattle.meaning.specs.Request.{Asked, sizeOf, need, askBoth, askRequest, searchNeed, askSearch}
 use Rattle.record.specs.Outcomes.{passed-inj, and-true, ask-passed, andThen-passed}
 use Rattle.record.specs.Whole.{linesIn, linesOf}
-use Rattle.request.specs.Layout.{largest, Laid, Planned}
-use Rattle.request.specs.Asking.{Answers}
+use Rattle.request.specs.Layout.{largest, tableWords, Laid, Planned}
+use Rattle.request.specs.Asking.{askSized, Answers, AnswersSearch, tables}
 use Rattle.request.specs.declared.Plan.{Plan}
 use Rattle.request.specs.declared.Request.{Request}
 use Rattle.request.specs.declared.Request.the-variants as Request
@@ -30,13 +31,13 @@ pub record Parts (rec pat : List ℕ) (from to : ℕ) (q : Asked) : Type 0 where
   pub to-low : to < q .day .places
   pub small : sizeOf q ≤ largest
 
-pub asked-parts : (rec pat : List ℕ) (from to words : ℕ) (q : Asked) → askRequest rec pat from to words ≡ passed q → Parts rec pat from to q
-unfolding askRequest
-asked-parts rec pat from to words q h =
+-- questions 1 to 16 say that much
+sized-parts : (rec pat : List ℕ) (from to : ℕ) (q : Asked) → askSized rec pat from to ≡ passed q → Parts rec pat from to q
+unfolding askSized
+sized-parts rec pat from to q h =
     let (b, e, rest) = andThen-passed (askBoth rec pat) _ q h in
     let (places, more) = ask-passed (ltb from (b .day .places) && ltb to (b .day .places)) 15 _ q rest in
-    let (small, last) = ask-passed (leb (sizeOf b) largest) 16 _ q more in
-    let (room, same) = ask-passed (leb (need (sizeOf b)) words) 17 (passed b) q last in
+    let (small, same) = ask-passed (leb (sizeOf b) largest) 16 (passed b) q more in
     let (day, r, f) = andThen-passed (readRecord rec) _ b e in
     let (p, s, g) = andThen-passed (readPattern noneGiven pat) _ b f in
     let (x, y) = and-true (ltb from (b .day .places)) (ltb to (b .day .places)) places in
@@ -47,6 +48,46 @@ asked-parts rec pat from to words q h =
       to-low = ltb-true _ _ y;
       small = leb-true _ _ small;
     })
+
+-- ---- question 17 after those before it
+
+-- an area of so many words against those that are needed
+abbrev pub askRoom : (Asked → ℕ) → ℕ → Asked → Outcome Asked
+askRoom needed words q = ask (leb (needed q) words) 17 (passed q)
+
+-- a question at the end can be asked apart
+ask-after : (o : Outcome Asked) (t u : Asked → Bool) (f : Asked → Outcome Asked)
+    → andThen o (λ q. ask (t q) 15 (ask (u q) 16 (f q))) ≡ andThen (andThen o (λ q. ask (t q) 15 (ask (u q) 16 (passed q)))) f
+ask-after (refused number) t u f = refl
+ask-after (passed q) t u f = go (t q) (u q)
+  where
+    go : (x y : Bool) → ask x 15 (ask y 16 (f q)) ≡ andThen (ask x 15 (ask y 16 (passed q))) f
+    go true true = refl
+    go true false = refl
+    go false y = refl
+
+pub request-sized : (rec pat : List ℕ) (from to words : ℕ) → askRequest rec pat from to words ≡ andThen (askSized rec pat from to) (askRoom (λ q. need (sizeOf q)) words)
+unfolding askRequest askSized
+request-sized rec pat from to words =
+    ask-after (askBoth rec pat) (λ q. ltb from (q .day .places) && ltb to (q .day .places)) (λ q. leb (sizeOf q) largest) (askRoom (λ q. need (sizeOf q)) words)
+
+pub search-sized : (rec pat : List ℕ) (from to words : ℕ) → askSearch rec pat from to words ≡ andThen (askSized rec pat from to) (askRoom searchNeed words)
+unfolding askSearch askSized
+search-sized rec pat from to words =
+    ask-after (askBoth rec pat) (λ q. ltb from (q .day .places) && ltb to (q .day .places)) (λ q. leb (sizeOf q) largest) (askRoom searchNeed words)
+
+room-parts : (rec pat : List ℕ) (from to words : ℕ) (needed : Asked → ℕ) (q : Asked) → andThen (askSized rec pat from to) (askRoom needed words) ≡ passed q → Parts rec pat from to q × (needed q ≤ words)
+room-parts rec pat from to words needed q h =
+    let (b, e, rest) = andThen-passed (askSized rec pat from to) (askRoom needed words) q h in
+    let (room, same) = ask-passed (leb (needed b) words) 17 (passed b) q rest in
+    (sized-parts rec pat from to q (e ∙ same), subst (λ (z : Asked). needed z ≤ words) (passed-inj same) (leb-true _ _ room))
+
+pub asked-parts : (rec pat : List ℕ) (from to words : ℕ) (q : Asked) → askRequest rec pat from to words ≡ passed q → Parts rec pat from to q
+asked-parts rec pat from to words q h = room-parts rec pat from to words (λ q. need (sizeOf q)) q (sym (request-sized rec pat from to words) ∙ h) .0
+
+-- a search that is begun has its words too
+pub search-parts : (rec pat : List ℕ) (from to words : ℕ) (q : Asked) → askSearch rec pat from to words ≡ passed q → Parts rec pat from to q × (searchNeed q ≤ words)
+search-parts rec pat from to words q h = room-parts rec pat from to words searchNeed q (sym (search-sized rec pat from to words) ∙ h)
 
 -- ---- bytes that are read as a day and a pattern
 
@@ -96,14 +137,48 @@ answers-asked (passed q) area r plan (own, is, planned, laid) e =
     let plans : own ≡ plan = cc in
     record { asked = q; is = refl; planned = subst (Planned q) plans planned; laid = subst (λ (p : Plan). Laid p area) plans laid }
 
+-- the same of a search that is begun
+pub search-refused : (o : Outcome Asked) (area : ℕ) (r : Request) (number : ℕ) → AnswersSearch o area r → r ≡ Request.Refused number → o ≡ refused number
+search-refused (refused n) area r number a e = let same : Request.Refused n ≡ Request.Refused number = sym a ∙ e in ap refused cc
+search-refused (passed q) area r number a e =
+    let same : Request.Asked (a .0) ≡ Request.Refused number = sym (a .1) ∙ e in
+    absurd (let z : _≡_ {A = ℕ} 0 1 = cc in omega arith)
+
+pub record ToldSearch (o : Outcome Asked) (area : ℕ) (plan : Plan) : Type 0 where
+  pub asked : Asked
+  pub is : o ≡ passed asked
+  pub planned : Planned asked plan
+  pub laid : Laid plan area
+  pub boats-at : plan .boats ≡ tables
+  pub room : plan .base + 4 * plan .size + tableWords (plan .places) (plan .lines) ≤ area
+
+pub search-asked : (o : Outcome Asked) (area : ℕ) (r : Request) (plan : Plan) → AnswersSearch o area r → r ≡ Request.Asked plan → ToldSearch o area plan
+search-asked (refused n) area r plan a e =
+    let same : Request.Refused n ≡ Request.Asked plan = sym a ∙ e in
+    absurd (let z : _≡_ {A = ℕ} 0 1 = cc in omega arith)
+search-asked (passed q) area r plan (own, is, planned, laid, at, room) e =
+    let same : Request.Asked own ≡ Request.Asked plan = sym is ∙ e in
+    let plans : own ≡ plan = cc in
+    subst (ToldSearch (passed q) area) plans (record { asked = q; is = refl; planned = planned; laid = laid; boats-at = at; room = room })
+
+-- ---- loading by a plan
+
+-- it has the record's lines, and a number for each boat of the record and one more
+module _ {rec pat : List ℕ} {from to : ℕ} {q : Asked} {plan : Plan} (planned : Planned q plan) (p : Parts rec pat from to q) where
+  pub planned-lines : plan .lines ≡ length (linesOf rec)
+  planned-lines = planned .lines-are ∙ sym (ap length (ap linesIn (p .day-read)))
+
+  pub planned-radix : plan .radix ≡ suc (length (boats (linesOf rec)))
+  planned-radix = planned .radix-is ∙ sym (ap (λ ls. suc (length (boats ls))) (ap linesIn (p .day-read)))
+
 -- the record can be loaded by it
 pub told-loading : {rec pat : List ℕ} {from to area : ℕ} {plan : Plan} (t : Told (askRequest rec pat from to area) area plan) → Parts rec pat from to (t .asked) → Laid plan area × (plan .lines ≡ length (linesOf rec))
-told-loading t p = (t .laid, t .planned .lines-are ∙ sym (ap length (ap linesIn (p .day-read))))
+told-loading t p = (t .laid, planned-lines (t .planned) p)
 
 -- the plan has a number for each boat of the record, and one more: what loading asks of it
 pub told-radix : {rec pat : List ℕ} {from to area : ℕ} {plan : Plan} (t : Told (askRequest rec pat from to area) area plan) → Parts rec pat from to (t .asked)
     → plan .radix ≡ suc (length (boats (linesOf rec)))
-told-radix t p = t .planned .radix-is ∙ sym (ap (λ ls. suc (length (boats ls))) (ap linesIn (p .day-read)))
+told-radix t p = planned-radix (t .planned) p
 
 -- ---- the area after clearing
 

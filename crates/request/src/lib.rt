@@ -4,7 +4,7 @@ ghost use mathlib.Core.List.{_++_, map};
 ghost use Prim.Native.Nat.{suc, _+_, _*_, _^_, _<_, _≤_};
 ghost use lib.ListN.{length, take, drop, replicate};
 ghost use Rattle.meaning.specs.Outcome.{told};
-ghost use Rattle.meaning.specs.Request.{need, askBoth, askRequest, wordsOf};
+ghost use Rattle.meaning.specs.Request.{need, askBoth, askRequest, wordsOf, askSearch, searchWordsOf};
 ghost use Rattle.meaning.specs.Record.{boats};
 ghost use Rattle.boats.specs.Codes.{codes};
 ghost use Rattle.boats.specs.Table.{boatTable};
@@ -13,7 +13,7 @@ ghost use Rattle.record.specs.Whole.{linesOf};
 ghost use Rattle.request.specs.Loading.{nextAfter, partAfter};
 ghost use Rattle.request.specs.Layout.{largest, tableWords, boatWords, Laid, Fitting, lineWord, fromIn, toIn, kindIn, boatsLoaded, loadedOf};
 ghost use Rattle.request.specs.Promise.{wordsReply};
-ghost use Rattle.request.specs.Asking.{bothTold, bothNumber, patternNumber, Small, sizingTold, measuredTold, Answers, Numbers, requestNumber};
+ghost use Rattle.request.specs.Asking.{bothTold, bothNumber, patternNumber, Small, sizingTold, measuredTold, askSized, CountsTold, CountsNumbers, countingNumber, askWeight, weighingTold, weighingNumber, Light, Answers, AnswersSearch, Numbers, requestNumber};
 use pattern::PatternReply;
 use record::FIRST_LINE;
 use record::Line;
@@ -24,6 +24,9 @@ const LARGEST: usize = 1048576;
 
 // The words that a search needs besides four for each state.
 const EXTRA: usize = 8192;
+
+// The word from which the tables of a search that is begun stand; what it keeps of itself stands before.
+pub const TABLES: usize = 209;
 
 // An inverse is this number, 2^42, divided by another.
 pub const SCALE: usize = 4398046511104;
@@ -141,7 +144,7 @@ pub enum Sizing {
 }
 
 // places × (unfolded count + 1) × radix to the power of keeps, step by step.
-fn size_of(places: usize, unfolded: usize, radix: usize, keeps: usize) -> Sizing
+pub fn size_of(places: usize, unfolded: usize, radix: usize, keeps: usize) -> Sizing
     requires { ⌜ (places ≤ 1024) × (unfolded ≤ 63) × (0 < radix) × (radix ≤ 4097) ⌝ }
     ensures { λ r. ⌜ r ≡ sizingTold (places * suc unfolded * radix ^ keeps) ⌝ }
 {
@@ -206,6 +209,14 @@ fn words_for(size: usize) -> usize
     4 * size + EXTRA
 }
 
+// The words that a search of a size needs that is begun with so many lines.
+fn search_words_for(size: usize, lines: usize) -> usize
+    requires { ⌜ (size ≤ largest) × (lines ≤ 4096) ⌝ }
+    ensures { λ r. ⌜ r ≡ need size + 3 * lines ⌝ }
+{
+    words_for(size) + 3 * lines
+}
+
 // ---- the plan
 
 // How many words a table of sorted lines has.
@@ -217,14 +228,14 @@ fn table_words(keys: usize, lines: usize) -> usize
 }
 
 // How many words the boats' table has.
-fn boat_words(keeps: usize, radix: usize) -> usize
+pub fn boat_words(keeps: usize, radix: usize) -> usize
     ensures { λ r. ⌜ r ≡ boatWords keeps radix ⌝ }
 {
     if keeps == 0 { 0 } else { radix }
 }
 
 // The layout of an area of `area` words, from word `at` on, computed here and nowhere else.
-fn planned(
+pub fn planned(
     places: usize,
     lines: usize,
     done: usize,
@@ -293,6 +304,87 @@ impl Request {
     }
 }
 
+// What questions 1 to 16 tell of a request: its numbers, with the different boats and one, and the search size.
+pub struct Counts {
+    pub places: usize,
+    pub lines: usize,
+    pub unfolded: usize,
+    pub keeps: usize,
+    pub radix: usize,
+    pub size: usize,
+}
+
+// A request that passed questions 1 to 16, by its counts, or the number of the question that failed.
+pub enum Counting {
+    Counted(Counts),
+    Refused(u8),
+}
+
+impl Counting {
+    // The number of the question that failed, 0 where none did.
+    fn number(self) -> u8
+        ensures { λ r. ⌜ r ≡ countingNumber self ⌝ }
+    {
+        match self {
+            Counting::Counted(_) => 0,
+            Counting::Refused(q) => q,
+        }
+    }
+}
+
+// Questions 1 to 16. Where they pass, each line's boat has its number.
+fn ask_counts(day: &[u8], pattern: &[u8], from: u16, to: u16, numbers: &mut [u16; 4096]) -> Counting
+    ensures counts { λ r. ⌜ CountsTold (askSized (now (day .entry)) (now (pattern .entry)) from to) r ⌝ }
+    ensures numbered { λ r. ⌜ CountsNumbers (linesOf (now (day .entry))) (now (numbers .exit)) r ⌝ }
+{
+    let both = ask_both(day, pattern);
+    let Both::Read {
+        places,
+        lines,
+        unfolded,
+        keeps,
+    } = both
+    else {
+        return Counting::Refused(both.number());
+    };
+    if places <= from as usize {
+        return Counting::Refused(15);
+    }
+    if places <= to as usize {
+        return Counting::Refused(15);
+    }
+    let measured = measure(day, places, lines, unfolded, keeps, numbers);
+    let Measured::Size { boats, size } = measured else {
+        return Counting::Refused(16);
+    };
+    Counting::Counted(Counts {
+        places,
+        lines,
+        unfolded,
+        keeps,
+        radix: boats + 1,
+        size,
+    })
+}
+
+// The plan of a request by its counts, from word `at` on.
+fn plan_at(c: Counts, at: usize, area: usize) -> Plan
+    requires { ⌜ Fitting (c .places) (c .lines) (c .unfolded) (c .keeps) (c .radix) (c .size) at area ⌝ }
+    ensures laid { λ r. ⌜ Laid r area ⌝ }
+    ensures numbers { λ r. ⌜ (r .places ≡ c .places) × (r .lines ≡ c .lines) × (r .done ≡ c .unfolded) × (r .keeps ≡ c .keeps) × (r .radix ≡ c .radix) × (r .boats ≡ at) ⌝ }
+{
+    planned(
+        c.places,
+        c.lines,
+        c.unfolded,
+        c.keeps,
+        c.radix,
+        c.size,
+        at,
+        area,
+    )
+}
+
 // Questions 1 to 17, for a work area of so many words, which is not looked at. Where they pass, each line's boat has its number.
 pub fn ask_request(
     day: &[u8],
@@ -305,30 +397,38 @@ pub fn ask_request(
     ensures answer { λ r. ⌜ Answers (askRequest (now (day .entry)) (now (pattern .entry)) from to area) area r ⌝ }
     ensures numbered { λ r. ⌜ Numbers (linesOf (now (day .entry))) (now (numbers .exit)) r ⌝ }
 {
-    let both = ask_both(day, pattern);
-    let Both::Read {
-        places,
-        lines,
-        unfolded,
-        keeps,
-    } = both
-    else {
-        return Request::Refused(both.number());
+    let counting = ask_counts(day, pattern, from, to, numbers);
+    let Counting::Counted(counts) = counting else {
+        return Request::Refused(counting.number());
     };
-    if places <= from as usize {
-        return Request::Refused(15);
-    }
-    if places <= to as usize {
-        return Request::Refused(15);
-    }
-    let measured = measure(day, places, lines, unfolded, keeps, numbers);
-    let Measured::Size { boats, size } = measured else {
-        return Request::Refused(16);
-    };
-    if area < words_for(size) {
+    if area < words_for(counts.size) {
         return Request::Refused(17);
     }
-    let plan = planned(places, lines, unfolded, keeps, boats + 1, size, 0, area);
+    let plan = plan_at(counts, 0, area);
+    Request::Asked(plan)
+}
+
+// The same of a search that is begun: question 17 asks for three words more for each line, and the tables stand after what the search keeps
+// of itself.
+pub fn ask_search(
+    day: &[u8],
+    pattern: &[u8],
+    from: u16,
+    to: u16,
+    area: usize,
+    numbers: &mut [u16; 4096],
+) -> Request
+    ensures answer { λ r. ⌜ AnswersSearch (askSearch (now (day .entry)) (now (pattern .entry)) from to area) area r ⌝ }
+    ensures numbered { λ r. ⌜ Numbers (linesOf (now (day .entry))) (now (numbers .exit)) r ⌝ }
+{
+    let counting = ask_counts(day, pattern, from, to, numbers);
+    let Counting::Counted(counts) = counting else {
+        return Request::Refused(counting.number());
+    };
+    if area < search_words_for(counts.size, counts.lines) {
+        return Request::Refused(17);
+    }
+    let plan = plan_at(counts, TABLES, area);
     Request::Asked(plan)
 }
 
@@ -338,9 +438,27 @@ pub enum WordsReply {
     Refused(u8, usize),
 }
 
-// The words that a record and a pattern need, whatever places are asked about: questions 1 to 14, 24, 25 and 16.
-pub fn words_needed(day: &[u8], pattern: &[u8]) -> WordsReply
-    ensures { λ r. ⌜ wordsReply r ≡ told (wordsOf (now (day .entry)) (now (pattern .entry))) ⌝ }
+// How many lines and which search size a record and a pattern have, whatever places are asked about: questions 1 to 14, 24, 25 and 16.
+pub enum Weighing {
+    Weighed { lines: usize, size: usize },
+    Refused(u8),
+}
+
+impl Weighing {
+    // The number of the question that failed, 0 where none did.
+    fn number(self) -> u8
+        ensures { λ r. ⌜ r ≡ weighingNumber self ⌝ }
+    {
+        match self {
+            Weighing::Weighed { lines: _, size: _ } => 0,
+            Weighing::Refused(q) => q,
+        }
+    }
+}
+
+fn weigh(day: &[u8], pattern: &[u8]) -> Weighing
+    ensures weighed { λ r. ⌜ r ≡ weighingTold (askWeight (now (day .entry)) (now (pattern .entry))) ⌝ }
+    ensures light { λ r. ⌜ Light r ⌝ }
 {
     let both = ask_both(day, pattern);
     let Both::Read {
@@ -350,13 +468,35 @@ pub fn words_needed(day: &[u8], pattern: &[u8]) -> WordsReply
         keeps,
     } = both
     else {
-        return WordsReply::Refused(both.number(), 0);
+        return Weighing::Refused(both.number());
     };
     let sizing = sized(day, places, lines, unfolded, keeps);
     let Sizing::Size(size) = sizing else {
-        return WordsReply::Refused(16, 0);
+        return Weighing::Refused(16);
+    };
+    Weighing::Weighed { lines, size }
+}
+
+// The words that a record and a pattern need, whatever places are asked about: questions 1 to 14, 24, 25 and 16.
+pub fn words_needed(day: &[u8], pattern: &[u8]) -> WordsReply
+    ensures { λ r. ⌜ wordsReply r ≡ told (wordsOf (now (day .entry)) (now (pattern .entry))) ⌝ }
+{
+    let weighing = weigh(day, pattern);
+    let Weighing::Weighed { lines: _, size } = weighing else {
+        return WordsReply::Refused(weighing.number(), 0);
     };
     WordsReply::Words(words_for(size))
+}
+
+// The same of a search that is begun.
+pub fn search_words(day: &[u8], pattern: &[u8]) -> WordsReply
+    ensures { λ r. ⌜ wordsReply r ≡ told (searchWordsOf (now (day .entry)) (now (pattern .entry))) ⌝ }
+{
+    let weighing = weigh(day, pattern);
+    let Weighing::Weighed { lines, size } = weighing else {
+        return WordsReply::Refused(weighing.number(), 0);
+    };
+    WordsReply::Words(search_words_for(size, lines))
 }
 
 // ---- the work area

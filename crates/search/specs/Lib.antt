@@ -5,9 +5,11 @@ pub mod Steps
 pub mod Along
 pub mod Loaded
 pub mod Moves
+pub mod Traced
 pub mod Answer
 pub mod Check
 pub mod Same
+pub mod TracedRight
 pub mod Front
 pub mod ReadBack
 pub mod Rows

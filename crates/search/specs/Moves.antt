@@ -1,6 +1,6 @@
 -- Both kinds of step as nested loops over a setting: what the code does for one state.
--- Claimed: `expand-law` (three loops push the predecessors), for phase one; `onward-law` (one loop visits the successors by a line), for phase two
--- with `put` (`from-law`) and for the checker with `push 1` (`push-law`).
+-- Claimed: `expand-law` (three loops push the predecessors), for phase one; `onward-law` (one loop visits the successors by a line, whatever a
+-- visit does), for phase two with `put` (`from-law`) and for the checker with `push 1` (`push-law`).
 use mathlib.Core.Path.{_≡_, refl, sym, ap, _∙_}
 use mathlib.Core.Bool.{Bool, cond, _&&_, _||_}
 use mathlib.Core.List.{List, map}
@@ -43,7 +43,7 @@ module _ (S : Setting) where
       let e = S .node k .depth in
       turns (λ c st. cond (memb k (S .node c .follow)) (overLines d c (placeOf S t) e (cut S e (stackOf S t)) st) st) 0 (S .done)
 
-  stacks-law : (d c i e w : ℕ) (st : Search) → loop (push d) (sources S c i (uncut S (S .node c) e w)) st ≡ overStacks d c i e w st
+  pub stacks-law : (d c i e w : ℕ) (st : Search) → loop (push d) (sources S c i (uncut S (S .node c) e w)) st ≡ overStacks d c i e w st
   unfolding overStacks
   stacks-law d c i e w st =
       let n = S .radix ^ (leaves (S .node c) - e) in
@@ -69,17 +69,17 @@ module _ (S : Setting) where
 
   -- ---- forward: the states to which line i leads from s are visited
 
-  module _ (visit : ℕ → Search → Search) where
+  module _ {A : Type 0} (visit : ℕ → A → A) where
     -- each position that may come after that of s
-    unfoldable pub overNext : ℕ → ℕ → Search → Search
+    unfoldable pub overNext : ℕ → ℕ → A → A
     overNext i s =
         let n = S .node (posOf S s) in
         turns (λ k st. cond (memb k (n .follow)) (visit (state S (lineAt (S .lines) i .to) k (cut S (S .node k .depth) (pushed S n (stackOf S s) i))) st) st) 0 (suc (S .done))
 
-    unfoldable pub onward : ℕ → ℕ → Search → Search
+    unfoldable pub onward : ℕ → ℕ → A → A
     onward i s st = cond (eqb (lineAt (S .lines) i .from) (placeOf S s) && takes S (S .node (posOf S s)) (stackOf S s) i) (overNext i s st) st
 
-    pub onward-law : (i s : ℕ) (st : Search) → loop visit (succs S s i) st ≡ onward i s st
+    pub onward-law : (i s : ℕ) (st : A) → loop visit (succs S s i) st ≡ onward i s st
     unfolding succs onward overNext
     onward-law i s st =
         let n = S .node (posOf S s) in

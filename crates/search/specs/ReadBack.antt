@@ -93,12 +93,12 @@ module _ (q : Asked) (plan : Plan) (area : ℕ) (planned : Planned q plan) (laid
     rest-word : (n i : ℕ) → n ≡ plan .codes + i → n < plan .base → getD g n 0 ≡ getD rest i 0
     rest-word n i e less = table-word n (length table + i) (omega (arith, e, codes-from)) less ∙ getD-append-add table rest i 0
 
-    code-back : (i : ℕ) → i < length lines → codeAt plan g i ≡ getD (codes lines) i 0
+    pub code-back : (i : ℕ) → i < length lines → codeAt plan g i ≡ getD (codes lines) i 0
     code-back i less =
         rest-word (plan .codes + i) i refl (omega (arith, laid .words-at, laid .base-at, planned .lines-are))
         ∙ List·getD-append (codes lines) (map lineWord lines) 0 i (omega (arith, codes-length lines))
 
-    line-back : (i : ℕ) → i < length lines → lineAt (linesIn plan g 0 (plan .lines)) i ≡ lineIn (lineWord (lineAt lines i))
+    pub line-back : (i : ℕ) → i < length lines → lineAt (linesIn plan g 0 (plan .lines)) i ≡ lineIn (lineWord (lineAt lines i))
     line-back i less =
         let stands : wordAt plan g i ≡ lineWord (lineAt lines i) =
         rest-word (plan .words + i) (length (codes lines) + i) (omega (arith, laid .words-at, planned .lines-are, codes-length lines)) (omega (arith, laid .base-at, planned .lines-are))

@@ -78,20 +78,20 @@ module _ {S T : Setting} {m : ℕ} (h : Same S T m) where
   unfolding state
   same-state q k v = λ t. (q * suc (h .done t) + k) * same-stacks t + v
 
-  same-place : (s : ℕ) → placeOf S s ≡ placeOf T s
+  pub same-place : (s : ℕ) → placeOf S s ≡ placeOf T s
   unfolding placeOf
   same-place s = λ t. s / same-stacks t / suc (h .done t)
 
-  same-pos : (s : ℕ) → posOf S s ≡ posOf T s
+  pub same-pos : (s : ℕ) → posOf S s ≡ posOf T s
   unfolding posOf
   same-pos s = λ t. s / same-stacks t % suc (h .done t)
 
-  same-stack : (s : ℕ) → stackOf S s ≡ stackOf T s
+  pub same-stack : (s : ℕ) → stackOf S s ≡ stackOf T s
   unfolding stackOf
   same-stack s = λ t. s % same-stacks t
 
   -- every number has a position up to the end
-  pos-low : (s : ℕ) → posOf T s ≤ T .done
+  pub pos-low : (s : ℕ) → posOf T s ≤ T .done
   unfolding posOf
   pos-low s = let low : posOf T s < suc (T .done) = mod-lt _ (omega arith) in omega arith
 
@@ -108,7 +108,7 @@ module _ {S T : Setting} {m : ℕ} (h : Same S T m) where
     same-popped v = λ t. popOff (h .radix t) (alike .push t) (alike .depth t) v
 
     -- the stacks that the node leaves, cut to the depth of position k
-    same-uncut : (k w : ℕ) → k ≤ T .done
+    pub same-uncut : (k w : ℕ) → k ≤ T .done
         → uncut S (S .node c) (S .node k .depth) (cut S (S .node k .depth) w) ≡ uncut T (T .node c) (T .node k .depth) (cut T (T .node k .depth) w)
     same-uncut k w hk = λ t.
         let M = h .radix t ^ h .node k hk .depth t in
@@ -126,7 +126,7 @@ module _ {S T : Setting} {m : ℕ} (h : Same S T m) where
           let u = popped S (S .node c) v in
           (λ t. eqb (same-pushed u t) v && h .pass c u i hc li t) ∙ ap (λ x. eqb (pushed T (T .node c) x i) v && passes T (T .node c .test) x (T .code i)) (same-popped v)
 
-      same-sources : (vs : List ℕ) → sources S c i vs ≡ sources T c i vs
+      pub same-sources : (vs : List ℕ) → sources S c i vs ≡ sources T c i vs
       same-sources vs = λ t. map (λ v. at v t) (filt (λ v. same-undoes v t) vs)
         where
           at : (v : ℕ) → state S (lineAt (S .lines) i .from) c (popped S (S .node c) v) ≡ state T (lineAt (T .lines) i .from) c (popped T (T .node c) v)

@@ -198,8 +198,7 @@ module _ (S : Setting) (places : ℕ) (h : Sound S places) where
   -- ---- backward
 
   -- line i leads to place q′, position k, stack w from the state s, with a stack of its position's depth
-  record Back (s q′ k w : ℕ) : Type 0 where
-    i : ℕ
+  record Back (i s q′ k w : ℕ) : Type 0 where
     q : ℕ
     c : ℕ
     v : ℕ
@@ -209,7 +208,7 @@ module _ (S : Setting) (places : ℕ) (h : Sound S places) where
     is : s ≡ state S q c v
 
   sources-sound : (s q′ k w c i : ℕ) → w < S .radix ^ S .node k .depth → k ∈ S .node c .follow → i ∈ linesInto S q′ (S .node c .kind)
-      → s ∈ sources S c i (uncut S (S .node c) (S .node k .depth) w) → Back s q′ k w
+      → s ∈ sources S c i (uncut S (S .node c) (S .node k .depth) w) → Back i s q′ k w
   sources-sound s q′ k w c i w< goes mi m =
       let n = S .node c in
       let vs = uncut S n (S .node k .depth) w in
@@ -220,7 +219,6 @@ module _ (S : Setting) (places : ℕ) (h : Sound S places) where
       let again : pushed S n (popped S n v) i ≡ v = eqb-true _ _ back in
       let (v<, left) = uncut-in c (S .node k .depth) w v (h .shape .goes c k goes .2) w< .0 listed in
       record {
-        i = i;
         q = lineAt (S .lines) i .from;
         c = c;
         v = popped S n v;
@@ -234,14 +232,14 @@ module _ (S : Setting) (places : ℕ) (h : Sound S places) where
   cut-none : (t : ℕ) (o : Ok S places t) → cut S (S .node (o .pos) .depth) (o .stack) ≡ o .stack
   cut-none t o = mod-eq-of-lt (o .stack-low)
 
-  preds-sound : (s t : ℕ) (o : Ok S places t) → s ∈ preds S t → Back s (o .place) (o .pos) (o .stack)
+  preds-sound : (s t : ℕ) (o : Ok S places t) → s ∈ preds S t → (i : ℕ) × Back i s (o .place) (o .pos) (o .stack)
   unfolding preds
   preds-sound s t o m =
       let (a, b, d) = ok-read t o in
       let (c, mc, m₁) = flat-in _ (positions S (o .pos)) s .0 (rw (a, b, d, cut-none t o) at m) in
       let vs = uncut S (S .node c) (S .node (o .pos) .depth) (o .stack) in
       let (i, mi, m₂) = flat-in (λ i. sources S c i vs) (linesInto S (o .place) (S .node c .kind)) s .0 m₁ in
-      sources-sound s (o .place) (o .pos) (o .stack) c i (o .stack-low) (positions-in (o .pos) c .0 mc) mi m₂
+      (i, sources-sound s (o .place) (o .pos) (o .stack) c i (o .stack-low) (positions-in (o .pos) c .0 mc) mi m₂)
 
   preds-complete : (t : ℕ) (o : Ok S places t) (i q c v : ℕ) → i < length (S .lines) → Move S q c v i (o .place) (o .pos) (o .stack) → v < S .radix ^ S .node c .depth
       → state S q c v ∈ preds S t
@@ -263,16 +261,27 @@ module _ (S : Setting) (places : ℕ) (h : Sound S places) where
       rw (a, b, d, cut-none t o) (flat-in _ _ _ .1 (c, positions-in (o .pos) c .1 (x .goes), flat-in _ _ _ .1 (i, mi, ms)))
 
   pub preds-ok : (s t : ℕ) → Ok S places t → s ∈ preds S t → Ok S places s
-  preds-ok s t o m = let x = preds-sound s t o m in subst (Ok S places) (sym (x .is)) (before-ok (x .move) (x .low) (x .stack-low))
+  preds-ok s t o m = let (i, x) = preds-sound s t o m in subst (Ok S places) (sym (x .is)) (before-ok (x .move) (x .low) (x .stack-low))
 
   -- ---- backward and forward agree
+
+  back-leads : (i s t : ℕ) (o : Ok S places t) → Back i s (o .place) (o .pos) (o .stack) → t ∈ succs S s i
+  back-leads i s t o x =
+      subst₂ (λ s′ t′. t′ ∈ succs S s′ i) (sym (x .is)) (sym (o .is))
+      (succs-complete _ i (before-ok (x .move) (x .low) (x .stack-low)) (o .place) (o .pos) (o .stack) (x .move))
+
+  -- from a state that line i is gone back over to, it leads to t
+  pub sources-lead : (s t c i : ℕ) → Ok S places t → posOf S t ∈ S .node c .follow → i ∈ linesInto S (placeOf S t) (S .node c .kind)
+      → let e = S .node (posOf S t) .depth in s ∈ sources S c i (uncut S (S .node c) e (cut S e (stackOf S t))) → t ∈ succs S s i
+  sources-lead s t c i o goes mi m =
+      let (a, b, d) = ok-read t o in
+      back-leads i s t o (sources-sound s (o .place) (o .pos) (o .stack) c i (o .stack-low) (rw b at goes) (rw a at mi) (rw (b, d, cut-none t o) at m))
 
   pub edges : (s t : ℕ) → Ok S places s → Ok S places t → (s ∈ preds S t) ↔ ((i : ℕ) × (i < length (S .lines)) × (t ∈ succs S s i))
   edges s t os ot = (
     λ m.
-        let x = preds-sound s t ot m in
-        let o = before-ok (x .move) (x .low) (x .stack-low) in
-        (x .i, x .low, subst₂ (λ s′ t′. t′ ∈ succs S s′ (x .i)) (sym (x .is)) (sym (ot .is)) (succs-complete _ (x .i) o (ot .place) (ot .pos) (ot .stack) (x .move))),
+        let (i, x) = preds-sound s t ot m in
+        (i, x .low, back-leads i s t ot x),
     λ m.
         let (i, li, m′) = m in
         let (q′, k, w, x, e) = succs-sound s i t os m′ in

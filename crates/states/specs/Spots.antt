@@ -196,7 +196,7 @@ pub record From (mask j rest : ℕ) : Type 0 where
   pub none-below : (i : ℕ) → i < j → bitOf rest i ≡ 1 → ⊥
 
 -- the position k, if the mask has it, at the place `to` with the stack v cut to its depth
-unfoldable pub nextTurn : Plan → List ℕ → ℕ → (ℕ → Search → Search) → ℕ → ℕ → ℕ → Search → Search
+unfoldable pub nextTurn : {A : Type 0} → Plan → List ℕ → ℕ → (ℕ → A → A) → ℕ → ℕ → ℕ → A → A
 nextTurn plan a mask seen to v k st = cond (eqb (bitOf mask k) 1) (seen (stateIn plan to k (v % plan .radix ^ depthAt a k)) st) st
 
 -- ---- backward

@@ -1,8 +1,9 @@
-//! This program once more behind the eight functions, with one fault in it.
+//! This program once more behind the twelve functions, with one fault in it.
 
 use super::counting::counted;
 use super::reading::{self, asked_of_line, fits_machine, misread, places_pass};
 use super::searching;
+use super::stepping;
 use super::Fault::{self, *};
 use crate::chains::{search, Asked};
 use crate::library::{Ask, Library};
@@ -400,6 +401,30 @@ impl Library for Faulty {
         };
         let reply = self.fitted(self.first(&asked, dirty), out);
         self.clear(ask, work, reply);
+        reply
+    }
+
+    fn search_words(&self, rec: &[u8], pat: &[u8]) -> u64 {
+        stepping::words(self.0, rec, pat)
+    }
+
+    fn search_begin(&self, ask: Ask, work: &mut [u32]) -> u64 {
+        stepping::begin(self.0, ask, work)
+    }
+
+    fn search_move(&self, work: &mut [u32], amount: usize) -> u64 {
+        stepping::moved(self.0, work, amount)
+    }
+
+    fn search_finish(&self, work: &mut [u32], out: &mut [u16]) -> u64 {
+        let first = match stepping::finished(self.0, work) {
+            Ok(first) => first,
+            Err(refusal) => return refusal,
+        };
+        let reply = self.fitted(first, out);
+        if !(self.is(LeavesSearchAfter19) && reply >> 32 == 19) {
+            work.fill(0);
+        }
         reply
     }
 }

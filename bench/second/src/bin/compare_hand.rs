@@ -131,6 +131,22 @@ impl Library for Hand {
             )
         }
     }
+
+    fn search_words(&self, rec: &[u8], pat: &[u8]) -> u64 {
+        Own.search_words(rec, pat)
+    }
+
+    fn search_begin(&self, ask: Ask, work: &mut [u32]) -> u64 {
+        Own.search_begin(ask, work)
+    }
+
+    fn search_move(&self, work: &mut [u32], amount: usize) -> u64 {
+        Own.search_move(work, amount)
+    }
+
+    fn search_finish(&self, work: &mut [u32], out: &mut [u16]) -> u64 {
+        Own.search_finish(work, out)
+    }
 }
 
 fn main() {

@@ -1,33 +1,25 @@
--- `request::ask_request` meets its contract: questions 1 to 14 by what asking them ensures, 15 and 17 by its tests, 16 by what
--- measuring ensures; the plan is laid out in the area. Assumes nothing.
-use mathlib.Core.Path.{_≡_, refl, sym, ap, _∙_, subst}
-use mathlib.Core.Bool.{true}
-use mathlib.Core.List.{List}
-use Prim.Native.Nat.{ℕ, suc, _+_, _*_, _^_, _<_, _≤_}
-use native.Mathlib.Nat.{mul-le-mul}
-use native.Mathlib.Numerals.{add-one}
+-- `request::ask_request` meets its contract: questions 1 to 16 by what asking them ensures, 17 by its test; the plan is laid out in the
+-- area. Assumes nothing.
+use mathlib.Core.Path.{refl, ap, _∙_, subst}
+use Prim.Native.Nat.{ℕ, _≤_}
 use native.Mathlib.Omega.{arith}
-use lib.Dec.{leb}
-use lib.ListN.{length, take}
-use Rattle.meaning.specs.Record.{boats}
-use Rattle.meaning.specs.Request.{askBoth, sizeOf, need}
-use Rattle.record.specs.Whole.{linesOf, lines-short}
-use Rattle.boats.specs.Boats.{boats-few}
-use lib.Seq.{take-length}
-use Rattle.request.specs.Layout.{largest, Fitting}
-use Rattle.request.specs.Asking.{bothNumber, Small}
+use lib.ListN.{take}
+use Rattle.meaning.specs.Request.{sizeOf, need}
+use Rattle.record.specs.Whole.{linesOf}
+use Rattle.request.specs.Asking.{askSized, CountsNumbers, countingNumber}
+use Rattle.request.specs.Told.{request-sized}
+use Rattle.request.specs.declared.Counts.{Counts}
 use Rattle.request.specs.declared.Request.the-variants as Request
-use Rattle.request.proofs.Asking.{Counted, both-refused, both-counted, counted-size, above, measured, refused-both, asked-from, asked-to, asked-size, asked-room, asked-all}
-use Rattle.request.proofs.Sizes.{boats-in-size, boats-in-radix}
+use Rattle.request.proofs.Asking.{counts-refused, Sized, counts-passed, room-refused, room-short, room-all, few-boats, counts-fit, counts-planned}
 use borrow.Author.Needs.{needs}
 use Rattle.request.proofs.ask_request.Statement.{statement}
 use Rattle.request.proofs.ask_request.Tie as tie
 
-ask-both-requires : tie.Need-ask-both-requires
-ask-both-requires c κs = search needs
+ask-counts-requires : tie.Need-ask-counts-requires
+ask-counts-requires c κs = search needs
 
-enum-known-both : tie.Need-enum-known-both
-enum-known-both c = search needs
+enum-known-counting : tie.Need-enum-known-counting
+enum-known-counting c = search needs
 
 enum-told : tie.Need-enum-told
 enum-told c = search needs
@@ -37,197 +29,71 @@ number-requires c κs = search needs
 
 returns : tie.Need-returns
 returns c =
-    let a = c .before .before .before .before .before .before .args in
+    let a = c .before .before .before .before .before .before .before .args in
     let t = c .before .enum-told .given .1 in
-    let e = both-refused (askBoth (a .day .now) (a .pattern .now)) _ (sym t ∙ c .before .before .before .ask-both .ensures .0) in
-    rw (refused-both (a .day .now) (a .pattern .now) _ (a .from) (a .to) (a .area) e) (ap Request.Refused (c .number .ensures ∙ ap bothNumber t), tt)
+    let o = askSized (a .day .now) (a .pattern .now) (a .from) (a .to) in
+    let e = counts-refused o _ _ (c .before .before .before .ask-counts .ensures .0) t in
+    rw (request-sized (a .day .now) (a .pattern .now) (a .from) (a .to) (a .area), room-refused o (λ q. need (sizeOf q)) (a .area) _ e) (ap Request.Refused (c .number .ensures ∙ ap countingNumber t), tt)
 
--- ---- where record and pattern have been read
+-- ---- where questions 1 to 16 are passed
 
-abbrev rec : tie.After-known-told → List ℕ
-rec c = c .before .before .before .before .before .before .args .day .now
+abbrev start : tie.After-known-told → tie.Start
+start c = c .before .before .before .before .before .before .before
 
-abbrev pat : tie.After-known-told → List ℕ
-pat c = c .before .before .before .before .before .before .args .pattern .now
-
-abbrev places : tie.After-known-told → ℕ
-places c = c .before .both .given .0 .0
-
-abbrev lines : tie.After-known-told → ℕ
-lines c = c .before .both .given .0 .1 .0
-
-abbrev unfolded : tie.After-known-told → ℕ
-unfolded c = c .before .both .given .0 .1 .1 .0
-
-abbrev keeps : tie.After-known-told → ℕ
-keeps c = c .before .both .given .0 .1 .1 .1 .0
-
-passes : (c : tie.After-known-told) → Counted (rec c) (pat c) (places c) (lines c) (unfolded c) (keeps c)
-passes c = both-counted (rec c) (pat c) _ _ _ _ (sym (c .before .both .given .1) ∙ c .before .before .before .ask-both .ensures .0)
-
-small : (c : tie.After-known-told) → (0 < places c) × (places c ≤ 1024) × (lines c ≤ 4096) × (unfolded c ≤ 63) × (keeps c ≤ 3)
-small c = subst Small (c .before .both .given .1) (c .before .before .before .ask-both .ensures .1)
-
-abbrev from : tie.After-known-told → ℕ
-from c = c .before .before .before .before .before .before .args .from
-
-abbrev to : tie.After-known-told → ℕ
-to c = c .before .before .before .before .before .before .args .to
+abbrev counts : tie.After-known-told → Counts
+counts c = c .before .counting .given .0 .0
 
 abbrev area : tie.After-known-told → ℕ
-area c = c .before .before .before .before .before .before .args .area
+area c = start c .args .area
 
--- both places are below the count
-from-below : (c : tie.Else2) → from (c .before .before) < passes (c .before .before) .asked .day .places
-from-below c = omega (arith, passes (c .before .before) .places-are, c .before .if1 .left)
+passes : (c : tie.After-known-told) → let a = start c .args in Sized (askSized (a .day .now) (a .pattern .now) (a .from) (a .to)) (counts c)
+passes c =
+    let a = start c .args in
+    counts-passed (askSized (a .day .now) (a .pattern .now) (a .from) (a .to)) _ _ (c .before .before .before .ask-counts .ensures .0) (c .before .counting .given .1)
 
-to-below : (c : tie.Else2) → to (c .before .before) < passes (c .before .before) .asked .day .places
-to-below c = omega (arith, passes (c .before .before) .places-are, c .if2 .left)
+words-for-requires : tie.Need-words-for-requires
+words-for-requires c κs = passes c .counts .small
 
 returns-2 : tie.Need-returns-2
 returns-2 c =
-    let b = c .before in
-    let h = passes b in
-    rw (asked-from (rec b) (pat b) (from b) (to b) (area b) (h .asked) (h .both) (omega (arith, h .places-are, c .if1 .taken))) (refl, tt)
+    let b = c .before .before in
+    let a = start b .args in
+    let s = passes b in
+    let o = askSized (a .day .now) (a .pattern .now) (a .from) (a .to) in
+    rw (request-sized (a .day .now) (a .pattern .now) (a .from) (a .to) (a .area), room-short o (λ q. need (sizeOf q)) (a .area) (s .asked) (s .is) (omega (arith, s .counts .size-is, c .before .words-for .ensures, c .if1 .taken))) (refl, tt)
+
+-- the area has the words that are needed
+room : (c : tie.Else1) → need (counts (c .before .before) .size) ≤ area (c .before .before)
+room c = omega (arith, c .before .words-for .ensures, c .if1 .left)
+
+plan-at-requires : tie.Need-plan-at-requires
+plan-at-requires c κs =
+    let s = passes (c .before .before) .counts in
+    counts-fit s _ _ (omega arith) (omega (arith, room c, few-boats s .0, s .few-lines))
 
 returns-3 : tie.Need-returns-3
 returns-3 c =
-    let b = c .before .before in
-    let h = passes b in
-    rw (asked-to (rec b) (pat b) (from b) (to b) (area b) (h .asked) (h .both) (omega (arith, h .places-are, c .before .if1 .left)) (omega (arith, h .places-are, c .if2 .taken))) (refl, tt)
-
-measure-requires : tie.Need-measure-requires
-measure-requires c κs =
     let b = c .before .before .before in
-    let h = passes b in
-    let s = small b in
-    (h .lines-are ∙ sym (ap length (h .lines-of)), s .1, s .3)
-
-enum-known-measured : tie.Need-enum-known-measured
-enum-known-measured c = search needs
-
-enum-told-2 : tie.Need-enum-told-2
-enum-told-2 c = search needs
-
-returns-4 : tie.Need-returns-4
-returns-4 c =
-    let d = c .before .before .before .before in
-    let b = d .before .before in
-    let h = passes b in
-    let no = above _ _ _ _ (sym (c .enum-told2 .given .1) ∙ c .before .before .measure .ensures .0) in
-    rw (asked-size (rec b) (pat b) (from b) (to b) (area b) (h .asked) (h .both) (from-below d) (to-below d) (ap (λ (n : ℕ). leb n largest) (sym (counted-size _ _ _ _ _ _ h)) ∙ no)) (refl, tt)
-
--- ---- where the size is known
-
-abbrev met : tie.After-known-told2 → tie.After-known-told
-met c = c .before .before .before .before .before .before .before
-
-abbrev count : tie.After-known-told2 → ℕ
-count c = length (boats (linesOf (rec (met c))))
-
-abbrev size : tie.After-known-told2 → ℕ
-size c = c .before .measured .given .0 .1 .0
-
-size-is : (c : tie.After-known-told2) → (leb (places (met c) * suc (unfolded (met c)) * suc (count c) ^ keeps (met c)) largest ≡ true) × (c .before .measured .given .0 .0 ≡ count c) × (size c ≡ places (met c) * suc (unfolded (met c)) * suc (count c) ^ keeps (met c)) × (size c ≤ largest)
-size-is c = measured _ _ _ _ _ _ (sym (c .before .measured .given .1) ∙ c .before .before .before .measure .ensures .0)
-
-fits : (c : tie.After-known-told2) → size c ≤ largest
-fits c = size-is c .3
-
-whole : (c : tie.After-known-told2) → size c ≡ sizeOf (passes (met c) .asked)
-whole c = size-is c .2 ∙ counted-size _ _ _ _ _ _ (passes (met c))
-
-allowed : (c : tie.After-known-told2) → leb (sizeOf (passes (met c) .asked)) largest ≡ true
-allowed c = ap (λ (n : ℕ). leb n largest) (sym (counted-size _ _ _ _ _ _ (passes (met c)))) ∙ size-is c .0
-
-few-boats : (c : tie.After-known-told2) → count c ≤ 4096
-few-boats c =
-    let lines = linesOf (rec (met c)) in
-    omega (arith, boats-few lines (length lines) (omega arith), ap (λ ls. length (boats ls)) (take-length lines), lines-short (rec (met c)))
-
-fitting : (c : tie.After-known-told2) → need (size c) ≤ area (met c) → Fitting (places (met c)) (lines (met c)) (unfolded (met c)) (keeps (met c)) (c .before .measured .given .0 .0 + 1) (size c) 0 (area (met c))
-fitting c room =
-    let s = small (met c) in
-    let y = size-is c in
-    let b = c .before .measured .given .0 .0 in
-    let radix : b + 1 ≤ 4097 = omega (arith, y .1, few-boats c) in
-    let product : size c ≡ places (met c) * (unfolded (met c) + 1) * (b + 1) ^ keeps (met c) = y .2 ∙ cc (add-one (unfolded (met c)), add-one b, y .1) in
-    let inside = boats-in-size (places (met c) * (unfolded (met c) + 1)) (b + 1) (keeps (met c)) (mul-le-mul {n₁ = 1} {m₁ = 1} (s .0) (omega arith)) (omega arith) in
-    record {
-      some-place = s .0;
-      few-places = s .1;
-      few-lines = s .2;
-      few-positions = s .3;
-      few-keeps = s .4;
-      some-radix = omega arith;
-      few-boats = radix;
-      size-is = product;
-      small = fits c;
-      few-words = omega (arith, s .2, radix, boats-in-radix (b + 1) (keeps (met c)));
-      room = omega (arith, s .2, product, inside, room);
-    }
-
-words-for-requires : tie.Need-words-for-requires
-words-for-requires c κs = fits c
-
-returns-5 : tie.Need-returns-5
-returns-5 c =
-    let e = c .before .before in
-    let d = e .before .before .before .before .before in
-    let b = d .before .before in
-    let h = passes b in
-    rw (asked-room (rec b) (pat b) (from b) (to b) (area b) (h .asked) (h .both) (from-below d) (to-below d) (allowed e) (omega (arith, whole e, c .before .words-for .ensures, c .if3 .taken))) (refl, tt)
-
-add-planned : tie.Need-add-planned
-add-planned c = let e = c .before .before in omega (arith, size-is e .1, few-boats e)
-
--- the area has the words that are needed
-room : (c : tie.Else3) → need (size (c .before .before)) ≤ area (met (c .before .before))
-room c = omega (arith, c .before .words-for .ensures, c .if3 .left)
-
-planned-requires : tie.Need-planned-requires
-planned-requires c κs = fitting (c .before .before) (room c)
-
-returns-6 : tie.Need-returns-6
-returns-6 c =
-    let e = c .before .before .before in
-    let d = e .before .before .before .before .before in
-    let b = d .before .before in
-    let h = passes b in
-    let n = c .planned .ensures .1 in
-    rw (asked-all (rec b) (pat b) (from b) (to b) (area b) (h .asked) (h .both) (from-below d) (to-below d) (allowed e) (omega (arith, whole e, room (c .before)))) (
-      (
-        c .planned .result,
-        refl,
-        record {
-          places-are = n .0 ∙ h .places-are;
-          lines-are = n .1 ∙ h .lines-are;
-          done-is = n .2 ∙ h .unfolded-is;
-          keeps-are = n .3 ∙ h .keeps-are;
-          radix-is = n .4 ∙ (add-one (e .before .measured .given .0 .0) ∙ ap suc (size-is e .1 ∙ ap (λ ls. length (boats ls)) (h .lines-of)));
-        },
-        c .planned .ensures .0,
-      ),
-      ap (λ n. take n (e .before .before .before .measure .last .1 .1 .1 .1 .1 .0)) (n .1) ∙ e .before .before .before .measure .ensures .1,
+    let a = start b .args in
+    let s = passes b in
+    let o = askSized (a .day .now) (a .pattern .now) (a .from) (a .to) in
+    let n = c .plan-at .ensures .1 in
+    let told = b .before .before .before .ask-counts in
+    rw (request-sized (a .day .now) (a .pattern .now) (a .from) (a .to) (a .area), room-all o (λ q. need (sizeOf q)) (a .area) (s .asked) (s .is) (omega (arith, s .counts .size-is, room (c .before)))) (
+      (c .plan-at .result, refl, counts-planned (s .counts) n, c .plan-at .ensures .0),
+      ap (λ n. take n (told .last .1 .1 .1 .1 .0)) (n .1) ∙ subst (CountsNumbers (linesOf (a .day .now)) (told .last .1 .1 .1 .1 .0)) (b .before .counting .given .1) (told .ensures .1),
     )
 
 pub ask-request-spec : {M : Type 1} → statement M
 ask-request-spec =
     tie.close
     (tie.spec
-    ask-both-requires
-    enum-known-both
+    ask-counts-requires
+    enum-known-counting
     enum-told
     number-requires
     returns
-    returns-2
-    returns-3
-    measure-requires
-    enum-known-measured
-    enum-told-2
-    returns-4
     words-for-requires
-    returns-5
-    add-planned
-    planned-requires
-    returns-6)
+    returns-2
+    plan-at-requires
+    returns-3)

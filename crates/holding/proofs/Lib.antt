@@ -1,0 +1,4 @@
+pub mod Sound
+pub mod Fitted
+pub mod Bytes
+pub mod Taking

@@ -1,0 +1,2 @@
+pub mod Readout
+pub mod Low

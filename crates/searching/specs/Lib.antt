@@ -1,0 +1,5 @@
+pub mod Promise
+pub mod Searching
+pub mod Words
+pub mod Theorems
+pub mod Rows

@@ -1,0 +1,4 @@
+pub mod Marks
+pub mod Led
+pub mod Runs
+pub mod Taken

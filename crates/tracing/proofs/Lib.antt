@@ -1,0 +1,3 @@
+pub mod Traces
+pub mod Into
+pub mod Bridge
