@@ -1,8 +1,8 @@
 -- The numbers for C, Rust and Python of a search in steps: a refused begin (`begun-number`), and what finish promises of its number (`finish-number`).
 -- Assumes nothing.
-use mathlib.Core.Path.{_≡_, sym, ap, _∙_, subst}
+use mathlib.Core.Path.{_≡_, sym, ap, subst}
 use mathlib.Core.List.{List}
-use Prim.Native.Nat.{ℕ, _+_, _*_, _<_}
+use Prim.Native.Nat.{ℕ, _+_, _*_}
 use native.Mathlib.Omega.{arith}
 use lib.ListN.{length}
 use Rattle.meaning.specs.Outcome.{Outcome, refused, passed, refusal}

@@ -2,10 +2,10 @@
 -- level looks for the least line that leads one nearer; the states to which that line leads are marked with it, and the least of all is chosen.
 -- Claimed: the states of one level taken up, in whatever order, choose the line and the states that the plain phase two chooses (`level-first`).
 use mathlib.Core.Path.{_≡_, refl, sym, ap, _∙_, subst}
-use mathlib.Core.Bool.{Bool, true, false, cond, _&&_, false≢true, and-eq-true-iff}
+use mathlib.Core.Bool.{Bool, true, false, cond, _&&_, false≢true}
 use mathlib.Core.List.{List, [], _∷_, List·Memᴰ·head, List·Memᴰ·tail, List·Memᴰ·cases-cons}
 use mathlib.Core.Logic.{_↔_, _⊎_, inl, inr, ⊎-elim}
-use mathlib.Core.Option.{Option, none, some, Option·none-ne-some, Option·some-injective}
+use mathlib.Core.Option.{Option, some, Option·none-ne-some, Option·some-injective}
 use Prim.Native.Nat.{ℕ, zero, suc, _+_, _-_, _<_, _≤_}
 use native.Mathlib.Nat.{zero-add, suc-add}
 use native.Mathlib.Omega.{arith}
@@ -13,14 +13,14 @@ use native.Mathlib.Decide.{ℕ-discrete, decLt}
 use lib.Dec.{eqb, ltb, leb, eqb·suc-zero}
 use lib.ListN.{length, getD, set, length-set, List·getD-eq-default}
 use lib.Seq.{getD-set-same, getD-set-other}
-use borrow.Author.Tests.{eqb-true, eqb-false, eq-eqb, ne-eqb, ltb-true, ltb-false, lt-ltb, leb-true, leb-false, le-leb}
+use borrow.Author.Tests.{eqb-true, eqb-false, eq-eqb, ne-eqb, ltb-true, ltb-false, leb-true, leb-false}
 use Rattle.lists.specs.Listed.{_∈_, none-in, getD-in}
-use Rattle.graph.specs.Plain.{memb, filt, flat, next, first, pick}
+use Rattle.graph.specs.Plain.{memb, filt, next, first, pick}
 use Rattle.graph.specs.Sets.{memb-in, in-memb, filt-in}
 use Rattle.graph.specs.Loops.{loop}
-use Rattle.graph.specs.Table.{distanceIn, mark, unmark}
+use Rattle.graph.specs.Table.{distanceIn, unmark}
 use Rattle.graph.specs.PhaseTwo.{lesserWord, nearestWord, nearest-of}
-use Rattle.graph.specs.Forward.{next-in, Chosen, first-spec}
+use Rattle.graph.specs.Forward.{next-in, first-spec}
 
 -- ---- words written at the states of a list
 

@@ -1,24 +1,24 @@
 -- The search state by state comes to the plain search's answer: from any count at which phase one has ended, the sweep's marks say the chain.
-use mathlib.Core.Path.{_≡_, refl, sym, ap, _∙_, subst}
-use mathlib.Core.List.{List, [], _∷_}
+use mathlib.Core.Path.{_≡_, refl, sym, ap, _∙_}
+use mathlib.Core.List.{List, []}
 use mathlib.Core.Bool.{Bool, true, false, false≢true}
 use mathlib.Core.Logic.{_↔_, _⊎_, inl, inr, ⊎-elim}
-use mathlib.Core.Option.{Option, none, some, Option·none-ne-some, Option·some-injective}
-use Prim.Native.Nat.{ℕ, zero, suc, _+_, _-_, _<_, _≤_}
+use mathlib.Core.Option.{Option, some, Option·none-ne-some, Option·some-injective}
+use Prim.Native.Nat.{ℕ, zero, suc, _-_, _<_}
 use native.Mathlib.Omega.{arith}
-use lib.ListN.{length, getD, replicate, length-replicate}
+use lib.ListN.{getD, replicate, length-replicate}
 use lib.Dec.{eqb}
 use borrow.Author.Tests.{eqb-true, eq-eqb}
 use Rattle.lists.specs.Listed.{_∈_}
-use Rattle.graph.specs.Plain.{Entry, memb, filt, level, nearest, chosen, pick, solve, news, steps}
+use Rattle.graph.specs.Plain.{Entry, memb, filt, level, chosen, pick, solve, news, steps}
 use Rattle.graph.specs.Sets.{memb-in, in-memb, filt-in, level-in}
 use Rattle.graph.specs.Loops.{loop}
 use Rattle.graph.specs.Table.{Search, push, unmark, distanceIn, Holds}
 use Rattle.graph.specs.PhaseOne.{Progress, begun, advanceBy, at-count}
-use Rattle.graph.specs.PhaseTwo.{put, forward, nearestWord, nearest-is, nearest-of, forward-is}
+use Rattle.graph.specs.PhaseTwo.{put, nearestWord, nearest-is, nearest-of, forward-is}
 use Rattle.graph.specs.Early.{Ended, ended-is}
 use Rattle.graph.specs.Sweep as Sweep
-use Rattle.graph.specs.Sweep.{Noted, Sweep, marked, marked-in, marked-out, marked-long, backBy, chainIn, Levels, sweep-picks}
+use Rattle.graph.specs.Sweep.{Sweep, marked, marked-in, marked-out, marked-long, backBy, chainIn, Levels, sweep-picks}
 use Rattle.graph.specs.Swept.{Lined, lined, levels, falls}
 
 -- a table all of whose words are 0

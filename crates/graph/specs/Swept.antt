@@ -1,22 +1,22 @@
 -- Phase one leaves what the sweep goes by: the states found stand in order of distance (`levels`), and from each a line leads one nearer (`falls`).
-use mathlib.Core.Path.{_≡_, refl, sym, ap, _∙_, subst}
+use mathlib.Core.Path.{_≡_, refl, sym, ap, _∙_}
 use mathlib.Core.Bool.{Bool, true, false, cond}
-use mathlib.Core.List.{List, [], _∷_, _++_, map, List·Memᴰ·head, List·Memᴰ·tail, List·Memᴰ·cases-cons, List·Memᴰ·append-cases, Memᴰ·append-left, Memᴰ·append-right, Memᴰ·map, Memᴰ·of-map}
+use mathlib.Core.List.{List, [], _∷_, _++_, List·Memᴰ·head, List·Memᴰ·tail, List·Memᴰ·cases-cons, List·Memᴰ·append-cases, Memᴰ·append-left, Memᴰ·append-right, Memᴰ·map}
 use mathlib.Core.Logic.{_↔_, _⊎_, inl, inr, ⊎-elim}
 use mathlib.Core.Option.{Option, none, some}
 use Prim.Native.Nat.{ℕ, zero, suc, _+_, _-_, _<_, _≤_}
 use native.Mathlib.Omega.{arith}
-use native.Mathlib.Decide.{ℕ-discrete, decLt}
+use native.Mathlib.Decide.{decLt}
 use lib.Dec.{ltb}
-use lib.ListN.{length, getD, drop, length-map, List·getD-eq-default, List·getD-map}
+use lib.ListN.{length, getD, drop, length-map, List·getD-eq-default}
 use borrow.Author.Tests.{ltb-true, ltb-false}
 use Rattle.lists.specs.Listed.{_∈_, none-in}
-use Rattle.graph.specs.Plain.{Entry, stateOf, states, look, news, step, steps}
-use Rattle.graph.specs.Entries.{same-distance, look-some, once-look, Sorted}
+use Rattle.graph.specs.Plain.{Entry, stateOf, states, look, news, steps}
+use Rattle.graph.specs.Entries.{look-some, once-look, Sorted}
 use Rattle.graph.specs.Sets.{news-in}
 use Rattle.graph.specs.Table.{Search, mark, Holds}
 use Rattle.graph.specs.Early.{news-at, sorted-append, sorted-even, steps-keep}
-use Rattle.graph.specs.Sweep.{Leads, Levels, Falls}
+use Rattle.graph.specs.Sweep.{Levels, Falls}
 
 -- ---- the entries at every count
 

@@ -13,7 +13,7 @@ use Rattle.graph.specs.Early.{metBy}
 use Rattle.graph.specs.PhaseOne.{begun}
 use Rattle.graph.specs.PhaseTwo.{nearestWord}
 use Rattle.graph.specs.Trace.{Reached}
-use Rattle.graph.specs.Sweep.{Noted, Sweep, marked, back, chainIn}
+use Rattle.graph.specs.Sweep.{Sweep, marked, back, chainIn}
 
 -- ---- a search under way
 

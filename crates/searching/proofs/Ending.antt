@@ -4,7 +4,7 @@ use mathlib.Core.Path.{_≡_, refl, sym, ap, _∙_, subst}
 use mathlib.Core.Bool.{Bool, true, false, cond, _&&_}
 use mathlib.Core.List.{List, _++_}
 use mathlib.Core.Logic.{_⊎_, inl, inr, ⊎-elim}
-use mathlib.Core.Option.{Option, none, some}
+use mathlib.Core.Option.{none, some}
 use Prim.Native.Nat.{ℕ, zero, suc, _+_, _*_, _-_, _<_, _≤_, min}
 use native.Mathlib.Omega.{arith}
 use native.Mathlib.Decide.{decLt}
@@ -32,8 +32,8 @@ use Rattle.searching.specs.Promise.{searchAt, heldIn, Left}
 use Rattle.searching.specs.Searching.{ReadOut}
 use Rattle.searching.specs.Words.{Stretched, stretched-held}
 use Rattle.searching.specs.Theorems.{Proper, at-standing, at-sized, at-marks, takes-one, ends-by, end-stays, finish-is-find}
-use Rattle.searching.proofs.Bridge.{left-parts, left-short, left-proper, left-room, left-stretched, left-planned, left-size, left-base, left-underway, left-taken, sound-standing}
-use Rattle.searching.proofs.Moving.{cleared, putBack, put-long, moved-stretched}
+use Rattle.searching.proofs.Bridge.{left-short, left-proper, left-room, left-stretched, left-planned, left-size, left-base, left-underway, left-taken, sound-standing}
+use Rattle.searching.proofs.Moving.{putBack, put-long, moved-stretched}
 
 -- ---- what is said of a chain by one number
 

@@ -2,7 +2,7 @@
 -- they hold the moved search (`moved-stretched`).
 use mathlib.Core.Path.{_≡_, refl, sym, ap, _∙_}
 use mathlib.Core.List.{List, [], _∷_, _++_}
-use Prim.Native.Nat.{ℕ, suc, _+_, _*_, _-_, _<_, _≤_}
+use Prim.Native.Nat.{ℕ, _+_, _*_, _-_, _≤_}
 use native.Mathlib.Omega.{arith}
 use lib.ListN.{length, take, drop, replicate, length-replicate, take-append-drop, replicate-append-replicate}
 use lib.Seq.{take-add, drop-drop, take-take}
@@ -14,7 +14,7 @@ use Rattle.request.specs.declared.Plan.{Plan}
 use Rattle.area.specs.Area.{stretch, patch, found}
 use Rattle.area.proofs.Changes.{ready-long}
 use Rattle.area.proofs.Stretches.{stretch-take, patch-length, patch-same, patch-take, patch-drop}
-use Rattle.tracing.proofs.Traces.{stretch-join, stretch-end}
+use Rattle.tracing.proofs.Traces.{stretch-end}
 use Rattle.holding.specs.Holding.{numbersOf}
 use Rattle.holding.specs.declared.SearchState.{SearchState}
 use Rattle.tracing.specs.Tracing.{reachedIn}

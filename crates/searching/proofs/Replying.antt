@@ -3,21 +3,20 @@
 use mathlib.Core.Path.{_≡_, refl, sym, ap, _∙_, subst, subst₂}
 use mathlib.Core.Bool.{Bool, true, false, cond}
 use mathlib.Core.List.{List}
-use mathlib.Core.Option.{Option}
-use Prim.Native.Nat.{ℕ, zero, suc, _+_, _*_, _-_, _<_, _≤_}
+use Prim.Native.Nat.{ℕ, zero, suc, _+_, _-_, _<_, _≤_}
 use native.Mathlib.Omega.{arith}
 use lib.Dec.{leb}
-use lib.ListN.{length, getD, take, replicate, length-take, length-replicate}
+use lib.ListN.{length, take, replicate, length-take, length-replicate}
 use borrow.Author.Tests.{leb-true, leb-false}
-use Rattle.meaning.specs.Outcome.{value, refusal, passed}
+use Rattle.meaning.specs.Outcome.{value, refusal}
 use Rattle.meaning.specs.Record.{Day}
 use Rattle.meaning.specs.Pattern.{Pattern}
 use Rattle.meaning.specs.Request.{Asked}
 use Rattle.record.specs.Outcomes.{passed-inj}
 use Rattle.search.specs.Answer.{answer}
-use Rattle.finder.specs.Promise.{settled, Said, found, none-found, refusal as refusing, said, outAfter, Answers, Demand3}
+use Rattle.finder.specs.Promise.{settled, Said, found, refusal as refusing, said, outAfter, Answers, Demand3}
 use Rattle.finder.specs.Demand.{settled-right}
-use Rattle.finder.specs.Searching.{toldBy, told-by, wordOf, Searched}
+use Rattle.finder.specs.Searching.{toldBy, told-by}
 use Rattle.holding.specs.Holding.{Sound, bytesIn}
 use Rattle.holding.specs.declared.SearchState.{SearchState}
 use Rattle.searching.specs.Promise.{heldIn, Left, Moving, Finishing, FinishHarmless}

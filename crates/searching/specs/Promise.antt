@@ -15,12 +15,11 @@ use Rattle.automaton.specs.Automaton.{start}
 use Rattle.graph.specs.Plain.{memb, filt, count}
 use Rattle.graph.specs.Underway.{Underway, distOf, queueOf, begunFrom, takenBy, takenUp}
 use Rattle.request.specs.Layout.{loadedOf}
-use Rattle.search.specs.Product.{Setting, succs}
+use Rattle.search.specs.Product.{succs}
 use Rattle.search.specs.Along.{goal, starting}
 use Rattle.search.specs.Traced.{trace}
 use Rattle.search.specs.Answer.{setting, answer}
-use Rattle.finder.specs.Promise.{settled, Said, found, none-found, refusal as refusing, said, findReply, outAfter, Demand3}
-use Rattle.finder.specs.declared.FindReply.{FindReply}
+use Rattle.finder.specs.Promise.{settled, Said, found, none-found, refusal as refusing, said, outAfter, Demand3}
 use Rattle.searching.specs.declared.BeginReply.{BeginReply}
 use Rattle.searching.specs.declared.BeginReply.the-variants as Begin
 use Rattle.searching.specs.declared.MoveReply.{MoveReply}

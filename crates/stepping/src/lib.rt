@@ -1,7 +1,7 @@
 // A search under way moved on: `Going` has the search state by value, and its methods take it and return it moved on. Phase one expands the states found until
 // nothing waits or a first state is met; then phase two sweeps over them, the last found first. Each turn takes up one state.
 ghost use mathlib.Core.Path.{_≡_};
-ghost use Prim.Native.Nat.{_≤_, _<_};
+ghost use Prim.Native.Nat.{_<_};
 ghost use Rattle.graph.specs.Underway.{settled, goesOn, lastWord};
 ghost use Rattle.stepping.specs.Stepping.{underwayIn, firsts, expandedBy, takenIn, Standing, Fitting, Indexing, Ordering, StepHeld, BackBy, ForthBy, BackMoved, ForthMoved, MovedOn};
 use holding::Counters;

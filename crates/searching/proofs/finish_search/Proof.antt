@@ -1,12 +1,12 @@
 -- `searching::finish_search` meets its contract: an area shorter than the words in front, and one of which no search can be taken out, was left by no
 -- begin; a search that is taken out is finished, and the area cleared. Assumes nothing.
-use mathlib.Core.Path.{_≡_, refl, sym, ap, _∙_, subst}
+use mathlib.Core.Path.{ap, _∙_, subst}
 use mathlib.Core.List.{List}
 use Prim.Native.Nat.{ℕ}
 use lib.ListN.{length, take}
 use Rattle.request.specs.Told.{all-zero}
 use Rattle.finder.specs.Searching.{toldBy}
-use Rattle.holding.specs.Holding.{Sound, TakenRight, bytesIn}
+use Rattle.holding.specs.Holding.{Sound, TakenRight}
 use Rattle.searching.proofs.Replying.{none-short, none-sound, bytes-there, finish-none, finish-some}
 use borrow.Author.Needs.{needs}
 use Rattle.searching.proofs.finish_search.Statement.{statement}

@@ -2,7 +2,6 @@
 -- Assumes nothing.
 use mathlib.Core.Path.{_≡_, ap, _∙_}
 use Prim.Native.Nat.{ℕ, _+_, _*_}
-use native.Mathlib.Omega.{arith}
 use Rattle.meaning.specs.Request.{sizeOf}
 use Rattle.stepping.specs.Stepping.{Standing}
 use Rattle.searching.proofs.Bridge.{sound-standing, sound-fit, left-parts, left-size}

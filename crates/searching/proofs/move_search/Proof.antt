@@ -1,11 +1,10 @@
 -- `searching::move_search` meets its contract: an area shorter than the words in front, and one of which no search can be taken out, was left by no begin;
 -- a search that is taken out is moved on. Assumes nothing.
-use mathlib.Core.Path.{_≡_, refl, sym, _∙_, subst}
+use mathlib.Core.Path.{subst}
 use mathlib.Core.List.{List}
 use Prim.Native.Nat.{ℕ}
 use lib.ListN.{take}
-use Rattle.holding.specs.Holding.{Sound, TakenRight, bytesIn}
-use Rattle.holding.specs.declared.SearchState.{SearchState}
+use Rattle.holding.specs.Holding.{Sound, TakenRight}
 use Rattle.searching.proofs.Replying.{none-short, none-sound, bytes-there, move-none, move-some}
 use borrow.Author.Needs.{needs}
 use Rattle.searching.proofs.move_search.Statement.{statement}

@@ -1,7 +1,7 @@
 -- `searching::move_taken` meets its contract: the search is moved on, its table of lines cleared and its numbers put back; of an area that was left this
 -- is the area of the moved search. Assumes nothing.
 use mathlib.Core.Path.{_≡_, ap, _∙_}
-use Prim.Native.Nat.{ℕ, suc, _+_, _*_, _≤_, min}
+use Prim.Native.Nat.{ℕ, _+_, _*_, min}
 use native.Mathlib.Omega.{arith}
 use lib.ListN.{length, replicate, length-replicate}
 use Rattle.meaning.specs.Request.{sizeOf}
