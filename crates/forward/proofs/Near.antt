@@ -1,7 +1,7 @@
 -- The nearest first state, turn by turn. Assumes nothing.
 use mathlib.Core.Path.{_≡_, _∙_}
 use mathlib.Core.List.{List}
-use Prim.Native.Nat.{ℕ, min}
+use Prim.Native.Nat.{ℕ}
 use lib.ListN.{getD}
 use borrow.Author.Tests.{eq-eqb, ne-eqb}
 use Rattle.positions.specs.Program.{bitOf}
@@ -9,19 +9,6 @@ use Rattle.request.specs.declared.Plan.{Plan}
 use Rattle.graph.specs.PhaseTwo.{lesserWord}
 use Rattle.search.specs.Front.{stateIn}
 use Rattle.forward.specs.Firsts.{nearTurn}
-
-module _ (v w : ℕ) where
-  pub lesser-first : v ≡ 0 → w ≡ lesserWord v w
-  unfolding lesserWord
-  lesser-first h = rw (eq-eqb v 0 h)
-
-  pub lesser-second : (v ≡ 0 → ⊥) → w ≡ 0 → v ≡ lesserWord v w
-  unfolding lesserWord
-  lesser-second n h = rw (ne-eqb v 0 n, eq-eqb w 0 h)
-
-  pub lesser-min : (v ≡ 0 → ⊥) → (w ≡ 0 → ⊥) → (x : ℕ) → x ≡ min v w → x ≡ lesserWord v w
-  unfolding lesserWord
-  lesser-min n m x h = rw (ne-eqb v 0 n, ne-eqb w 0 m) h
 
 module _ (plan : Plan) (D : List ℕ) (mask a k v : ℕ) where
   pub near-passed : (bitOf mask k ≡ 1 → ⊥) → v ≡ nearTurn plan D mask a k v

@@ -28,6 +28,20 @@ use Rattle.graph.specs.Grows.{Grows, grows-if, push-grows, loop-grows, l
 unfoldable pub lesserWord : ℕ → ℕ → ℕ
 lesserWord v w = cond (eqb v 0) w (cond (eqb w 0) v (min v w))
 
+-- its cases
+module _ (v w : ℕ) where
+  pub lesser-first : v ≡ 0 → w ≡ lesserWord v w
+  unfolding lesserWord
+  lesser-first h = rw (eq-eqb v 0 h)
+
+  pub lesser-second : (v ≡ 0 → ⊥) → w ≡ 0 → v ≡ lesserWord v w
+  unfolding lesserWord
+  lesser-second n h = rw (ne-eqb v 0 n, eq-eqb w 0 h)
+
+  pub lesser-min : (v ≡ 0 → ⊥) → (w ≡ 0 → ⊥) → (x : ℕ) → x ≡ min v w → x ≡ lesserWord v w
+  unfolding lesserWord
+  lesser-min n m x h = rw (ne-eqb v 0 n, ne-eqb w 0 m) h
+
 unfoldable pub nearestWord : List ℕ → List ℕ → ℕ
 nearestWord D S = loop (λ s v. lesserWord v (getD D s 0)) S 0
 

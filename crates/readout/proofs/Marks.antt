@@ -1,34 +1,19 @@
--- The turns of `readout`'s loops, one by one: the lesser of two marks, a state's mark noted, a mark made a line.
+-- The turns of `readout`'s loops, one by one: a state's mark noted, a mark made a line.
 use mathlib.Core.Path.{_≡_, refl, ap, _∙_}
 use mathlib.Core.Bool.{Bool, true, false, cond, _&&_}
 use mathlib.Core.List.{List, [], _∷_, _++_}
-use Prim.Native.Nat.{ℕ, zero, suc, _+_, _*_, _-_, _%_, _≤_, _<_, min}
+use Prim.Native.Nat.{ℕ, zero, suc, _+_, _*_, _-_, _%_, _≤_, _<_}
 use native.Mathlib.Nat.{not-suc-le-zero, le-of-suc-le-suc}
 use native.Mathlib.Omega.{arith}
 use lib.Dec.{ltb}
 use lib.ListN.{length, getD, set, take, drop, List·getD-map}
-use borrow.Author.Tests.{eq-eqb, ne-eqb, lt-ltb, le-ltb}
+use borrow.Author.Tests.{lt-ltb, le-ltb}
 use Rattle.graph.specs.PhaseTwo.{lesserWord}
 use Rattle.request.specs.declared.Plan.{Plan}
 use Rattle.area.specs.Area.{stretch, found}
 use Rattle.area.proofs.Stretches.{stretch-get}
 use Rattle.states.specs.Pairs.{distances}
 use Rattle.readout.specs.Readout.{marksLow, queueIn, noteTurn, linesOf}
-
--- ---- the lesser of two marks
-
-module _ (v w : ℕ) where
-  pub lesser-first : v ≡ 0 → w ≡ lesserWord v w
-  unfolding lesserWord
-  lesser-first h = rw (eq-eqb v 0 h)
-
-  pub lesser-second : (v ≡ 0 → ⊥) → w ≡ 0 → v ≡ lesserWord v w
-  unfolding lesserWord
-  lesser-second n h = rw (ne-eqb v 0 n, eq-eqb w 0 h)
-
-  pub lesser-min : (v ≡ 0 → ⊥) → (w ≡ 0 → ⊥) → (x : ℕ) → x ≡ min v w → x ≡ lesserWord v w
-  unfolding lesserWord
-  lesser-min n m x h = rw (ne-eqb v 0 n, ne-eqb w 0 m) h
 
 -- ---- a state's mark is noted
 

@@ -1,3 +1,4 @@
 pub mod Traces
 pub mod Into
 pub mod Bridge
+pub mod Wanting

@@ -4,13 +4,15 @@ ghost use mathlib.Core.Path.{_≡_};
 ghost use Prim.Native.Nat.{suc, _+_, _*_, _-_, _≤_, _<_};
 ghost use lib.ListN.{length, replicate};
 ghost use Rattle.positions.specs.Program.{bitOf, followAt};
-ghost use Rattle.search.specs.Loaded.{settingAt};
+ghost use Rattle.request.specs.Layout.{Laid};
+ghost use Rattle.search.specs.Loaded.{settingAt, codeAt};
 ghost use Rattle.search.specs.Traced.{trace};
 ghost use Rattle.area.specs.Area.{patch};
 ghost use Rattle.states.specs.Pairs.{ReadyBack};
-ghost use Rattle.states.specs.Spots.{front, Aimed, Starts, Fit};
+ghost use Rattle.states.specs.Spots.{front, Aimed, Starts, Fit, Sane};
 ghost use Rattle.expanding.specs.Undoing.{Undoing, LeadsTo};
 ghost use Rattle.tracing.specs.Tracing.{StepTraced, Indexed, lineTraced, intoTraced, spotTraced};
+ghost use Rattle.tracing.specs.Wanting.{canHave, WantedBy};
 use expanding::Undo;
 use request::Plan;
 use sorted::Order;
@@ -60,7 +62,44 @@ fn one_traced(
     t
 }
 
-// Each line that leads to the place, one after the other.
+// Which boats a line can have that leads back: one alone, or any.
+pub enum Wanted {
+    Only(usize),
+    Any,
+}
+
+// Where one stack is undone: the boat that it has on top, where the position keeps a boat, or the entry that the position compares with, where
+// it takes that alone.
+fn wanted_by(plan: Plan, undo: Undo) -> Wanted
+    requires { ⌜ Sane (undo .spot) × (0 < plan .radix) ⌝ }
+    ensures { λ r. ⌜ WantedBy plan undo r ⌝ }
+{
+    let spot = undo.spot;
+    if undo.count != 1 {
+        return Wanted::Any;
+    }
+    if spot.push {
+        return Wanted::Only(undo.stack / spot.weight);
+    }
+    if states::wants_kept(spot) {
+        return Wanted::Only(states::entry_at(undo.stack, spot.level, plan.radix));
+    }
+    Wanted::Any
+}
+
+// Can line `i` have it?
+fn can_have(work: &[u32], plan: Plan, wanted: Wanted, i: usize) -> bool
+    requires { ⌜ Laid plan (length (now work)) × (i < plan .lines) ⌝ }
+    ensures { λ r. ⌜ r ≡ canHave wanted (codeAt plan (front plan (now (work .entry))) i) ⌝ }
+{
+    if let Wanted::Only(x) = wanted {
+        let code = area::word(work, plan.codes + i) as usize;
+        return code == x;
+    }
+    true
+}
+
+// Each line that leads to the place, one after the other; those whose boat cannot be the wanted one are left out.
 fn over_into(
     work: &mut [u32],
     plan: Plan,
@@ -77,10 +116,13 @@ fn over_into(
 {
     let at = plan.base + 4 * plan.size;
     let run = sorted::run_at(work, plan, Order::End, at, place);
+    let boats = wanted_by(plan, undo);
     let mut t = tail;
     for k in run.lo..run.hi {
         let i = area::word(work, k) as usize;
-        t = one_traced(work, plan, undo, place, c, i, parent, t);
+        if can_have(work, plan, boats, i) {
+            t = one_traced(work, plan, undo, place, c, i, parent, t);
+        }
     }
     t
 }

@@ -1,6 +1,6 @@
 -- `forward::lesser` meets its contract, case by case. Assumes nothing.
 use native.Mathlib.Omega.{arith}
-use Rattle.forward.proofs.Near.{lesser-first, lesser-second, lesser-min}
+use Rattle.graph.specs.PhaseTwo.{lesser-first, lesser-second, lesser-min}
 use Rattle.forward.proofs.lesser.Statement.{statement}
 use Rattle.forward.proofs.lesser.Tie as tie
 

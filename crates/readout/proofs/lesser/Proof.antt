@@ -1,6 +1,6 @@
 -- `readout::lesser` meets its contract, case by case. Assumes nothing.
 use native.Mathlib.Omega.{arith}
-use Rattle.readout.proofs.Marks.{lesser-first, lesser-second, lesser-min}
+use Rattle.graph.specs.PhaseTwo.{lesser-first, lesser-second, lesser-min}
 use Rattle.readout.proofs.lesser.Statement.{statement}
 use Rattle.readout.proofs.lesser.Tie as tie
 

@@ -1,0 +1,21 @@
+-- Which boats a line can have that leads back over the stacks that are undone: those that `canHave` takes. By another boat nothing is undone.
+use mathlib.Core.Path.{_≡_}
+use mathlib.Core.Bool.{Bool, true}
+use Prim.Native.Nat.{ℕ}
+use lib.Dec.{eqb}
+use Rattle.request.specs.declared.Plan.{Plan}
+use Rattle.graph.specs.Table.{Search}
+use Rattle.expanding.specs.Undoing.{undone}
+use Rattle.expanding.specs.declared.Undo.{Undo}
+use Rattle.tracing.specs.declared.Wanted.{Wanted}
+use Rattle.tracing.specs.declared.Wanted.the-variants as Wanted
+
+-- can the boat number x be the wanted one?
+abbrev pub canHave : Wanted → ℕ → Bool
+canHave (Wanted.Only y) x = eqb x y
+canHave Wanted.Any x = true
+
+-- whatever the table and the line's start, another boat undoes nothing
+abbrev pub WantedBy : Plan → Undo → Wanted → Type 0
+WantedBy plan u (Wanted.Only y) = (B : ℕ → ℕ) (home x : ℕ) (st : Search) → (x ≡ y → ⊥) → undone plan u B home x st ≡ st
+WantedBy plan u Wanted.Any = Unit {0}
