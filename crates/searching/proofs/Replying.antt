@@ -72,17 +72,19 @@ pub finish-none : (w out : List ℕ) → NoneLeft w → Finishing w out (refusin
 finish-none w out never = record {
   begun = λ rec pat from to q k left. absurd (never rec pat from to q k left);
   none-begun = λ z. (refl, refl, refl);
-  altered = (refl, refl, (refl, omega arith, λ e. (refl, refl)));
+  altered = (refl, refl, (refl, omega arith, (λ e. (refl, refl)), λ other. absurd (other refl)));
 }
 
--- the reply by the number is harmless
-harmless : (r : ℕ) (w v out after : List ℕ) → r < 4294967296 → (r ≡ 0 → after ≡ out) → (length out < r - 1 → after ≡ out) → FinishHarmless (toldBy r (length out)) w v out after
-harmless zero w v out after small none-out long-out = none-out refl
-harmless (suc n) w v out after small none-out long-out = go (leb n (length out)) refl
+-- the reply by the number is harmless, the area being cleared
+harmless : (r : ℕ) (w v out after : List ℕ) → v ≡ replicate (length w) 0 → r < 4294967296 → (r ≡ 0 → after ≡ out) → (length out < r - 1 → after ≡ out) → FinishHarmless (toldBy r (length out)) w v out after
+harmless zero w v out after cleared small none-out long-out = (none-out refl, cleared)
+harmless (suc n) w v out after cleared small none-out long-out = go (leb n (length out)) refl
   where
     go : (t : Bool) → leb n (length out) ≡ t → FinishHarmless (cond t (found n) (refusing 19 n)) w v out after
-    go true e = (leb-true n (length out) e, omega (arith, small))
-    go false e = (long-out (omega (arith, leb-false n (length out) e)), omega (arith, small), λ z. absurd (omega (arith, z)))
+    go true e = (leb-true n (length out) e, omega (arith, small), cleared)
+    go false e =
+        let more : length out < n = omega (arith, leb-false n (length out) e) in
+        (long-out (omega (arith, more)), omega (arith, small), (λ z. absurd (omega (arith, z))), λ other. (refl, more, cleared))
 
 pub finish-some : (w out pat : List ℕ) → pat ≡ bytesIn w → (s : SearchState) → Sound w pat s → (r : ℕ) (after : List ℕ) → FinishedIn s pat w out r after
     → (v : List ℕ) → v ≡ replicate (length w) 0 → (reply : Said) → reply ≡ toldBy r (length out) → Finishing w out reply v after
@@ -94,7 +96,7 @@ finish-some w out pat is s sound r after done v cleared reply told = record {
       let says : reply ≡ said (settled (length out) o) = told ∙ (ap (λ (n : ℕ). toldBy n (length out)) (searched .word-is) ∙ sym (told-by o (length out))) in
       (says, cleared, searched .after-is, demanded rec pat′ from to q k left says (searched .after-is));
   none-begun = λ z. absurd (omega (arith, sound .range .counts .some-radix, z));
-  altered = (ap length cleared ∙ length-replicate {A = ℕ} (length w) 0, done .long, subst (λ (x : Said). FinishHarmless x w v out after) (sym told) (harmless r w v out after (done .small) (done .none-out) (done .too-long-out)));
+  altered = (ap length cleared ∙ length-replicate {A = ℕ} (length w) 0, done .long, subst (λ (x : Said). FinishHarmless x w v out after) (sym told) (harmless r w v out after cleared (done .small) (done .none-out) (done .too-long-out)));
 }
   where
     -- demand 3, of the record and the pattern that were read

@@ -115,11 +115,15 @@ pub record Moving (amount : ℕ) (w : List ℕ) (r : Reply ℕ) (v : List ℕ) :
 
 -- ---- finish
 
--- an area that was altered: what is found fits the output, a refusal leaves the output, and 26 the area too; lengths are numbers of 32 bits
+-- an area that was altered: what is found fits the output, none and a refusal leave the output; a refusal is 26, which leaves the area too, or 19 with
+-- a length that does not fit, and after every other reply the area is all zeros; lengths are numbers of 32 bits
 abbrev pub FinishHarmless : Said → List ℕ → List ℕ → List ℕ → List ℕ → Type 0
-FinishHarmless (found n) w v out out′ = (n ≤ length out) × (n < 4294967295)
-FinishHarmless none-found w v out out′ = out′ ≡ out
-FinishHarmless (refusing number second) w v out out′ = (out′ ≡ out) × (second < 4294967295) × (number ≡ 26 → (second ≡ 0) × (v ≡ w))
+FinishHarmless (found n) w v out out′ = (n ≤ length out) × (n < 4294967295) × (v ≡ replicate (length w) 0)
+FinishHarmless none-found w v out out′ = (out′ ≡ out) × (v ≡ replicate (length w) 0)
+FinishHarmless (refusing number second) w v out out′ =
+    (out′ ≡ out) × (second < 4294967295)
+    × (number ≡ 26 → (second ≡ 0) × (v ≡ w))
+    × ((number ≡ 26 → ⊥) → (number ≡ 19) × (length out < second) × (v ≡ replicate (length w) 0))
 
 pub record Finishing (w out : List ℕ) (r : Said) (v out′ : List ℕ) : Type 0 where
   -- what the finder says of the record at the beginning, and demand 3
