@@ -1,5 +1,5 @@
 -- Laws of the search in a pair of stretches: what is read there, one push, steps one after the other, and a loop of steps by what is left of it.
--- `step-new` and `step-old` are for `push_if_new`; every function above it uses `step-as`, `step-none`, `loop-start`, `loop-turn` and `loop-end`.
+-- `new-outside`, `step-new` and `step-old` are for `push_if_new`; every function above it uses `step-as`, `step-none`, `loop-start`, `loop-turn` and `loop-end`.
 use mathlib.Core.Path.{_≡_, refl, sym, ap, _∙_, subst}
 use mathlib.Core.Bool.{Bool, true, false, cond}
 use mathlib.Core.List.{List, [], _∷_, _++_}
@@ -97,7 +97,7 @@ module _ (base size : ℕ) where
   found-queue t w i h = stretch-get _ _ w i h
 
   -- where more waits, fewer words are outside
-  outside-later : (t u : ℕ) (w v : List ℕ) → t ≤ u → outside base size t w ≡ outside base size t v → outside base size u w ≡ outside base size u v
+  pub outside-later : (t u : ℕ) (w v : List ℕ) → t ≤ u → outside base size t w ≡ outside base size t v → outside base size u w ≡ outside base size u v
   unfolding outside
   outside-later t u w v h e =
       let sum : base + size + t + (u - t) ≡ base + size + u = omega arith in
@@ -106,6 +106,32 @@ module _ (base size : ℕ) where
     where
       shorter : Outside → Outside
       shorter o = record { front = o .front; back = drop (u - t) (o .back) }
+
+  module _ (t : ℕ) (w v : List ℕ) (e : outside base size t w ≡ outside base size t v) where
+    -- the words before the pair are as they were
+    pub outside-front : (k : ℕ) → k ≤ base → take k w ≡ take k v
+    unfolding outside
+    outside-front k h = sym (take-take k base w h) ∙ ap (λ (o : Outside). take k (o .front)) e ∙ take-take k base v h
+
+    -- and so are those after it
+    pub outside-back : (k : ℕ) → base + size + t ≤ k → drop k w ≡ drop k v
+    unfolding outside
+    outside-back k h =
+        let sum : base + size + t + (k - (base + size + t)) ≡ k = omega arith in
+        let f : (x : List ℕ) → drop k x ≡ drop (k - (base + size + t)) (drop (base + size + t) x) = λ x. rw (drop-drop, sum) in
+        rw (f w, f v) (ap (λ (o : Outside). drop (k - (base + size + t)) (o .back)) e)
+
+  -- a state that comes in changes no word outside
+  pub new-outside : (t : ℕ) (w : List ℕ) (d s : ℕ) → s < size → outside base size (t + 1) (set (set w (base + s) d) (base + size + t) s) ≡ outside base size (t + 1) w
+  unfolding outside
+  new-outside t w d s sl =
+      let v = set w (base + s) d in
+      rw (
+        take-set-le base v (base + size + t) s (omega arith),
+        take-set-le base w (base + s) d (omega arith),
+        drop-set-lt (base + size + (t + 1)) v (base + size + t) s (omega arith),
+        drop-set-lt (base + size + (t + 1)) w (base + s) d (omega arith),
+      )
 
   -- what is found and what is outside make up the area
   whole : (t : ℕ) (w : List ℕ)
@@ -164,19 +190,12 @@ module _ {base size : ℕ} where
         )
 
     pub step-new : getD w (base + s) 0 ≡ 0 → Step base size (push d s) t w (t + 1) (set (set w (base + s) d) (base + size + t) s)
-    unfolding outside
     step-new e =
         let v = set w (base + s) d in
         let free : t < size = room-left e in
         record {
           now-found = new-found e;
-          same =
-              rw (
-                take-set-le base v (base + size + t) s (omega arith),
-                take-set-le base w (base + s) d (omega arith),
-                drop-set-lt (base + size + (t + 1)) v (base + size + t) s (omega arith),
-                drop-set-lt (base + size + (t + 1)) w (base + s) d (omega arith),
-              );
+          same = new-outside base size t w d s sl;
           long = length-set v (base + size + t) s ∙ length-set w (base + s) d;
           grows = omega arith;
           ready = record { room = simp length-set (r .room); small = r .small; fits = omega arith; good = rw (new-found e) pushed };
@@ -252,16 +271,11 @@ module _ {base size : ℕ} where
 
     -- the words before the pair are as they were
     pub under-front : (k : ℕ) → k ≤ base → take k w ≡ take k w₀
-    unfolding outside
-    under-front k h = sym (take-take k base w h) ∙ ap (λ (o : Outside). take k (o .front)) (u .same) ∙ take-take k base w₀ h
+    under-front = outside-front base size t w w₀ (u .same)
 
     -- and so are those after it
     pub under-back : (k : ℕ) → base + size + t ≤ k → drop k w ≡ drop k w₀
-    unfolding outside
-    under-back k h =
-        let sum : base + size + t + (k - (base + size + t)) ≡ k = omega arith in
-        let f : (x : List ℕ) → drop k x ≡ drop (k - (base + size + t)) (drop (base + size + t) x) = λ x. rw (drop-drop, sum) in
-        rw (f w, f w₀) (ap (λ (o : Outside). drop (k - (base + size + t)) (o .back)) (u .same))
+    under-back = outside-back base size t w w₀ (u .same)
 
     pub under-stretch : (b n : ℕ) → b + n ≤ base → stretch b n w ≡ stretch b n w₀
     under-stretch b n h =

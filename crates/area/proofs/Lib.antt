@@ -1,2 +1,3 @@
 pub mod Stretches
 pub mod Changes
+pub mod Anyhow

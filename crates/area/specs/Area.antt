@@ -1,4 +1,5 @@
 -- The work area as stretches of words, the search that two stretches of it hold, and `Step`: what every function that changes the area promises.
+-- `StepAny` is what is promised where any words may stand in the pair, as in an area that was lent meanwhile.
 -- A pair of stretches begins at word `base`: `size` words of distances, or marks, and then `size` words of which the first `tail` are the queue.
 use mathlib.Core.Path.{_≡_}
 use mathlib.Core.List.{List, [], _∷_, _++_}
@@ -66,3 +67,28 @@ module _ (base size : ℕ) where
     pub long : length w ≡ length w₀
     pub grows : t₀ ≤ t
     pub ready : Ready t w
+
+  -- ---- whatever words stand in the pair
+
+  -- the area has the pair, and its states are numbers of 32 bits
+  pub record Room (tail : ℕ) (w : List ℕ) : Type 0 where
+    pub room : base + size + size ≤ length w
+    pub small : size < 4294967296
+    pub fits : tail ≤ size
+
+  -- from words w with t in the queue to words v with u in the queue: only words of the pair change, and the queue stays in it; where a search stands
+  -- in it, it is a step by f
+  pub record StepAny (f : Search → Search) (t : ℕ) (w : List ℕ) (u : ℕ) (v : List ℕ) : Type 0 where
+    pub same : outside u v ≡ outside u w
+    pub long : length v ≡ length w
+    pub grows : t ≤ u
+    pub ready : Room u v
+    pub sound : Good size (found t w) → Step f t w u v
+
+  -- a loop under way
+  pub record UnderAny (F : Search → Search) (t₀ : ℕ) (w₀ : List ℕ) (G : Search → Search) (t : ℕ) (w : List ℕ) : Type 0 where
+    pub same : outside t w ≡ outside t w₀
+    pub long : length w ≡ length w₀
+    pub grows : t₀ ≤ t
+    pub ready : Room t w
+    pub sound : Good size (found t₀ w₀) → Under F t₀ w₀ G t w

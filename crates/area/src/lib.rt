@@ -1,10 +1,11 @@
 // The words of the lent work area: a word of a stretch, a stretch cleared, and the search that a pair of stretches holds. Each function that
-// changes the pair promises a `Step`: what the pair holds afterwards, and that every other word is as it was.
+// changes the pair promises a `Step`: what the pair holds afterwards, and that every other word is as it was. Between the calls of a search in steps
+// the area is the caller's: `push_if_new` and `waiting_checked` keep to the pair whatever words stand in it.
 ghost use mathlib.Core.Path.{_≡_};
 ghost use Prim.Native.Nat.{suc, _+_, _≤_, _<_};
 ghost use lib.ListN.{length, getD, set, replicate};
 ghost use Rattle.graph.specs.Table.{push};
-ghost use Rattle.area.specs.Area.{patch, found, Ready, Step};
+ghost use Rattle.area.specs.Area.{patch, Good, found, Ready, Room, StepAny};
 
 // ---- words
 
@@ -51,7 +52,8 @@ pub fn word(work: &[u32], i: usize) -> u32
     work[i]
 }
 
-// The state `s` gets the word `d` and comes into the queue, unless it has a word. Returns how many are in the queue then.
+// The state `s` gets the word `d` and comes into the queue, unless it has a word. Returns how many are in the queue then. In a search a state
+// without a word leaves room in the queue; in words that are none the queue is asked.
 pub fn push_if_new(
     work: &mut [u32],
     base: usize,
@@ -60,18 +62,20 @@ pub fn push_if_new(
     s: usize,
     tail: usize,
 ) -> usize
-    requires { ⌜ Ready base size tail (now work) ⌝ }
+    requires { ⌜ Room base size tail (now work) ⌝ }
     requires { ⌜ (s < size) × (0 < d) × (d ≤ suc tail) ⌝ }
-    ensures { λ r. ⌜ Step base size (push d s) tail (now (work .entry)) r (now (work .exit)) ⌝ }
+    ensures { λ r. ⌜ StepAny base size (push d s) tail (now (work .entry)) r (now (work .exit)) ⌝ }
 {
     let i = base + s;
-    if work[i] == 0 {
-        write(work, base, size, s, d);
-        write(work, base + size, size, tail, s as u32);
-        tail + 1
-    } else {
-        tail
+    if work[i] != 0 {
+        return tail;
     }
+    if size <= tail {
+        return tail;
+    }
+    write(work, base, size, s, d);
+    write(work, base + size, size, tail, s as u32);
+    tail + 1
 }
 
 // The state at place `i` of the queue.
@@ -84,11 +88,21 @@ pub fn waiting(work: &[u32], base: usize, size: usize, tail: usize, i: usize) ->
     work[k] as usize
 }
 
+// The same, whatever words stand in the pair: the state 0 where the word there is no state.
+pub fn waiting_checked(work: &[u32], base: usize, size: usize, tail: usize, i: usize) -> usize
+    requires { ⌜ Room base size tail (now work) ⌝ }
+    requires { ⌜ i < tail ⌝ }
+    ensures { λ r. ⌜ (r < size) × (Good size (found base size tail (now (work .entry))) → r ≡ getD (found base size tail (now (work .entry)) .queue) i 0) ⌝ }
+{
+    let s = word(work, base + size + i) as usize;
+    if s < size { s } else { 0 }
+}
+
 // The word of the state `s`.
 pub fn dist_at(work: &[u32], base: usize, size: usize, tail: usize, s: usize) -> u32
-    requires { ⌜ Ready base size tail (now work) ⌝ }
+    requires { ⌜ Room base size tail (now work) ⌝ }
     requires { ⌜ s < size ⌝ }
-    ensures { λ r. ⌜ (r ≡ getD (found base size tail (now (work .entry)) .dist) s 0) × (r ≤ tail) ⌝ }
+    ensures { λ r. ⌜ (r ≡ getD (found base size tail (now (work .entry)) .dist) s 0) × (Good size (found base size tail (now (work .entry))) → r ≤ tail) ⌝ }
 {
     let k = base + s;
     work[k]

@@ -14,8 +14,8 @@ use Rattle.search.specs.Front.{stateIn}
 use Rattle.search.specs.Loaded.{boatAt, codeAt, wordAt}
 use Rattle.graph.specs.Loops.{turns, turns-same}
 use Rattle.graph.specs.Table.{Search}
-use Rattle.area.specs.Area.{Under}
-use Rattle.states.specs.Pairs.{ReadyBack}
+use Rattle.area.specs.Area.{UnderAny}
+use Rattle.states.specs.Pairs.{RoomBack}
 use Rattle.states.specs.Spots.{lineTurn, Stacks}
 use Rattle.states.specs.declared.Spot.{Spot}
 use Rattle.states.specs.declared.Target.{Target}
@@ -34,7 +34,7 @@ home-in plan u laid q c home low leads is x less =
 
 -- in a loop of phase one it stays
 pub undoing-under : {plan : Plan} {u : Undo} {F : Search → Search} {t₀ : ℕ} {w₀ : List ℕ} {G : Search → Search} {t : ℕ} {w : List ℕ}
-    → Under (plan .base) (plan .size) F t₀ w₀ G t w → Undoing plan u t₀ w₀ → Undoing plan u t w
+    → UnderAny (plan .base) (plan .size) F t₀ w₀ G t w → Undoing plan u t₀ w₀ → Undoing plan u t w
 undoing-under {plan = plan} l h =
     record { ready = l .ready; laid = subst (Laid plan) (sym (l .long)) (h .laid); sane = h .sane; some = h .some; near = omega (arith, h .near, l .grows) }
 
@@ -88,7 +88,7 @@ module _ {plan : Plan} {s : Spot} {t : Target} {c leaves : ℕ} (b : Before plan
     pub undo-leads : LeadsTo plan u c
     undo-leads = subst (λ z. LeadsTo plan z c) (sym is) (record { low = b .position-low; fits = undo-fits })
 
-    pub undo-goes : {tail : ℕ} {w : List ℕ} → ReadyBack plan tail w → Laid plan (length w) → 0 < d → d ≤ suc tail → Undoing plan u tail w
+    pub undo-goes : {tail : ℕ} {w : List ℕ} → RoomBack plan tail w → Laid plan (length w) → 0 < d → d ≤ suc tail → Undoing plan u tail w
     undo-goes {tail} {w} ready laid some near = subst (λ z. Undoing plan z tail w) (sym is) (record { ready = ready; laid = laid; sane = b .sane; some = some; near = near })
 
 -- where the stack after the position is the state's there is one

@@ -12,7 +12,7 @@ use Rattle.search.specs.Loaded.{boatAt, codeAt, wordAt}
 use Rattle.graph.specs.Loops.{turns}
 use Rattle.graph.specs.Table.{Search}
 use Rattle.sorted.specs.Sorting.{packBy}
-use Rattle.states.specs.Pairs.{ReadyBack}
+use Rattle.states.specs.Pairs.{RoomBack}
 use Rattle.states.specs.Spots.{boatsIn, Sane, stackTurn, lineTurn, Stacks}
 use Rattle.states.specs.declared.Spot.{Spot}
 use Rattle.states.specs.declared.Target.{Target}
@@ -51,7 +51,7 @@ module _ (plan : Plan) (u : Undo) where
   -- ---- what it goes by
 
   pub record Undoing (tail : ℕ) (w : List ℕ) : Type 0 where
-    pub ready : ReadyBack plan tail w
+    pub ready : RoomBack plan tail w
     pub laid : Laid plan (length w)
     pub sane : Sane (u .spot)
     pub some : 0 < u .d

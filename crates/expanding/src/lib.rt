@@ -8,7 +8,7 @@ ghost use Rattle.automaton.specs.Shape.{deeper};
 ghost use Rattle.request.specs.Layout.{largest, Laid};
 ghost use Rattle.graph.specs.Loops.{turns};
 ghost use Rattle.graph.specs.Table.{push};
-ghost use Rattle.states.specs.Pairs.{ReadyBack, StepBack};
+ghost use Rattle.states.specs.Pairs.{ReadyBack, StepBack, RoomBack, StepBackAny};
 ghost use Rattle.search.specs.Loaded.{settingAt};
 ghost use Rattle.search.specs.Moves.{expand};
 ghost use Rattle.sorted.specs.Sorting.{keys, packBy};
@@ -43,11 +43,11 @@ fn one_stack(
     v: usize,
     tail: usize,
 ) -> usize
-    requires { ⌜ ReadyBack plan tail (now work) ⌝ }
+    requires { ⌜ RoomBack plan tail (now work) ⌝ }
     requires { ⌜ Laid plan (length (now work)) ⌝ }
     requires { ⌜ Sane spot ⌝ }
     requires { ⌜ (0 < d) × (d ≤ suc tail) × (home + v < plan .size) ⌝ }
-    ensures { λ r. ⌜ StepBack plan (stackAt (boatsIn plan (now (work .entry))) (plan .radix) spot d home code v) tail (now (work .entry)) r (now (work .exit)) ⌝ }
+    ensures { λ r. ⌜ StepBackAny plan (stackAt (boatsIn plan (now (work .entry))) (plan .radix) spot d home code v) tail (now (work .entry)) r (now (work .exit)) ⌝ }
 {
     let u = states::take_off(spot, v);
     if states::put_on(spot, u, code) == v {
@@ -71,7 +71,7 @@ pub struct Undo {
 fn over_each(work: &mut [u32], plan: Plan, undo: Undo, home: usize, code: u32, tail: usize) -> usize
     requires { ⌜ Undoing plan undo tail (now work) ⌝ }
     requires { ⌜ InStates plan undo home ⌝ }
-    ensures { λ r. ⌜ StepBack plan (undone plan undo (boatsIn plan (now (work .entry))) home code) tail (now (work .entry)) r (now (work .exit)) ⌝ }
+    ensures { λ r. ⌜ StepBackAny plan (undone plan undo (boatsIn plan (now (work .entry))) home code) tail (now (work .entry)) r (now (work .exit)) ⌝ }
 {
     let spot = undo.spot;
     let count = undo.count;
@@ -101,9 +101,9 @@ fn over_low(
     many: usize,
     tail: usize,
 ) -> usize
-    requires { ⌜ ReadyBack plan tail (now work) ⌝ }
+    requires { ⌜ RoomBack plan tail (now work) ⌝ }
     requires { ⌜ (0 < d) × (d ≤ suc tail) × (plan .size ≤ largest) × Steps first weight many (plan .size) ⌝ }
-    ensures { λ r. ⌜ StepBack plan (turns (λ l. push d (first + l * weight)) 0 many) tail (now (work .entry)) r (now (work .exit)) ⌝ }
+    ensures { λ r. ⌜ StepBackAny plan (turns (λ l. push d (first + l * weight)) 0 many) tail (now (work .entry)) r (now (work .exit)) ⌝ }
 {
     let mut t = tail;
     for l in 0..many {
@@ -125,7 +125,7 @@ fn over_entries(
 ) -> usize
     requires { ⌜ Undoing plan undo tail (now work) ⌝ }
     requires { ⌜ (0 < undo .weight) × (0 < below) × Entries plan undo home code below above ⌝ }
-    ensures { λ r. ⌜ StepBack plan (turns (entriesTurn plan undo home code below) 0 above) tail (now (work .entry)) r (now (work .exit)) ⌝ }
+    ensures { λ r. ⌜ StepBackAny plan (turns (entriesTurn plan undo home code below) 0 above) tail (now (work .entry)) r (now (work .exit)) ⌝ }
 {
     let mut t = tail;
     for h in 0..above {
@@ -173,7 +173,7 @@ fn over_same(work: &mut [u32], plan: Plan, undo: Undo, home: usize, code: u32, t
     requires { ⌜ Undoing plan undo tail (now work) ⌝ }
     requires { ⌜ InStates plan undo home ⌝ }
     requires { ⌜ WantsSame undo ⌝ }
-    ensures { λ r. ⌜ StepBack plan (undone plan undo (boatsIn plan (now (work .entry))) home code) tail (now (work .entry)) r (now (work .exit)) ⌝ }
+    ensures { λ r. ⌜ StepBackAny plan (undone plan undo (boatsIn plan (now (work .entry))) home code) tail (now (work .entry)) r (now (work .exit)) ⌝ }
 {
     let spot = undo.spot;
     if entry_below(plan.radix, spot.level, undo.weight) {
@@ -218,7 +218,7 @@ fn over_stacks(
 ) -> usize
     requires { ⌜ Undoing plan undo tail (now work) ⌝ }
     requires { ⌜ InStates plan undo home ⌝ }
-    ensures { λ r. ⌜ StepBack plan (undone plan undo (boatsIn plan (now (work .entry))) home code) tail (now (work .entry)) r (now (work .exit)) ⌝ }
+    ensures { λ r. ⌜ StepBackAny plan (undone plan undo (boatsIn plan (now (work .entry))) home code) tail (now (work .entry)) r (now (work .exit)) ⌝ }
 {
     if wants_same(undo) {
         return over_same(work, plan, undo, home, code, tail);
@@ -241,7 +241,7 @@ pub fn one_line(
     requires { ⌜ Undoing plan undo tail (now work) ⌝ }
     requires { ⌜ Starts plan (front plan (now work)) × (i < plan .lines) ⌝ }
     requires { ⌜ LeadsTo plan undo c ⌝ }
-    ensures { λ r. ⌜ StepBack plan (lineUndone plan undo (front plan (now (work .entry))) place c i) tail (now (work .entry)) r (now (work .exit)) ⌝ }
+    ensures { λ r. ⌜ StepBackAny plan (lineUndone plan undo (front plan (now (work .entry))) place c i) tail (now (work .entry)) r (now (work .exit)) ⌝ }
 {
     let line = area::word(work, plan.words + i);
     let spot = undo.spot;
@@ -267,7 +267,7 @@ fn over_lines(
     requires { ⌜ Undoing plan undo tail (now work) ⌝ }
     requires { ⌜ Starts plan (front plan (now work)) ⌝ }
     requires { ⌜ LeadsTo plan undo c ⌝ }
-    ensures { λ r. ⌜ StepBack plan (turns (lineUndone plan undo (front plan (now (work .entry))) place c) 0 (plan .lines)) tail (now (work .entry)) r (now (work .exit)) ⌝ }
+    ensures { λ r. ⌜ StepBackAny plan (turns (lineUndone plan undo (front plan (now (work .entry))) place c) 0 (plan .lines)) tail (now (work .entry)) r (now (work .exit)) ⌝ }
 {
     let lines = plan.lines;
     let mut t = tail;
@@ -332,7 +332,7 @@ fn one_stacked(work: &mut [u32], plan: Plan, undo: Undo, c: usize, p: usize, tai
     requires { ⌜ Undoing plan undo tail (now work) ⌝ }
     requires { ⌜ (p < length (now work)) × (getD (now work) p 0 / packBy < plan .places) ⌝ }
     requires { ⌜ LeadsTo plan undo c ⌝ }
-    ensures { λ r. ⌜ StepBack plan (wordUndone plan undo (boatsIn plan (now (work .entry))) c (getD (now (work .entry)) p 0)) tail (now (work .entry)) r (now (work .exit)) ⌝ }
+    ensures { λ r. ⌜ StepBackAny plan (wordUndone plan undo (boatsIn plan (now (work .entry))) c (getD (now (work .entry)) p 0)) tail (now (work .entry)) r (now (work .exit)) ⌝ }
 {
     let e = area::word(work, p);
     let home = states::state_at(plan, (e / PACK) as usize, c, 0);
@@ -352,7 +352,7 @@ fn over_stacked(
     requires { ⌜ Undoing plan undo tail (now work) ⌝ }
     requires { ⌜ Words plan (now work) lo hi ⌝ }
     requires { ⌜ LeadsTo plan undo c ⌝ }
-    ensures { λ r. ⌜ StepBack plan (wordsUndone plan undo (now (work .entry)) c lo hi) tail (now (work .entry)) r (now (work .exit)) ⌝ }
+    ensures { λ r. ⌜ StepBackAny plan (wordsUndone plan undo (now (work .entry)) c lo hi) tail (now (work .entry)) r (now (work .exit)) ⌝ }
 {
     let mut t = tail;
     for p in lo..hi {

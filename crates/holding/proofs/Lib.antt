@@ -1,4 +1,3 @@
-pub mod Sound
 pub mod Fitted
 pub mod Bytes
 pub mod Taking

@@ -1,5 +1,5 @@
--- What an area holds of a search between its calls: the numbers and the pattern in front, and what must hold of all of it so that the search can be
--- moved on (`Sound`). A check says yes exactly where that holds.
+-- What an area holds of a search between its calls: the numbers and the pattern in front, and what must hold of these and of the lines so that the
+-- search can be moved on (`Sound`). A check says yes exactly where that holds.
 use mathlib.Core.Path.{_≡_}
 use mathlib.Core.List.{List, [], _∷_, map}
 use Prim.Native.Nat.{ℕ, _+_, _*_, _%_, _≤_, _<_, min}
@@ -9,8 +9,7 @@ use Rattle.meaning.specs.Pattern.{Pattern, unfolded, keeps, readPattern, noneGi
 use Rattle.request.specs.Layout.{tableWords, Laid, fromIn, toIn}
 use Rattle.request.specs.declared.Plan.{Plan}
 use Rattle.search.specs.Loaded.{codeAt, wordAt}
-use Rattle.area.specs.Area.{stretch, marked}
-use Rattle.states.specs.Pairs.{ReadyBack}
+use Rattle.area.specs.Area.{stretch}
 use Rattle.states.specs.Spots.{front}
 use Rattle.holding.specs.declared.Counters.{Counters}
 use Rattle.holding.specs.declared.Planning.{Planning}
@@ -96,13 +95,6 @@ pub record LineSound (plan : Plan) (g : List ℕ) (i : ℕ) : Type 0 where
 abbrev pub LinesSound : Plan → List ℕ → Type 0
 LinesSound plan g = (i : ℕ) → i < plan .lines → LineSound plan g i
 
-pub record WordsSound (base size tail : ℕ) (w : List ℕ) : Type 0 where
-  pub many : marked (stretch base size w) ≡ tail
-  pub near : (i : ℕ) → i < size → getD w (base + i) 0 ≤ tail
-
-abbrev pub QueueSound : ℕ → ℕ → ℕ → List ℕ → Type 0
-QueueSound at size tail w = (i : ℕ) → i < tail → getD w (at + i) 0 < size
-
 -- ---- the plan
 
 -- the plan is that of the numbers in front, for so many positions and keeps, and the area has the four stretches and the lines in order of a place
@@ -132,7 +124,7 @@ PlanRead w pat Planning.Altered = (plan : Plan) → PlanOf w pat plan → ⊥
 
 -- ---- the search
 
--- by the plan: its numbers are in order, its lines and its queue are sound
+-- by the plan: its numbers are in order, and its lines are sound
 pub record StateIs (plan : Plan) (w : List ℕ) (s : SearchState) : Type 0 where
   pub plan-is : s .plan ≡ plan
   pub from-is : s .from ≡ askedIn w
@@ -140,7 +132,6 @@ pub record StateIs (plan : Plan) (w : List ℕ) (s : SearchState) : Type 0 where
   pub order : InOrder (s .at)
   pub fits : OfPlan (plan .size) (plan .lines) (s .at)
   pub lines : LinesSound plan (front plan w)
-  pub ready : ReadyBack plan (s .at .found) w
 
 abbrev pub StateRight : Plan → List ℕ → Taken → Type 0
 StateRight plan w (Taken.Search s) = StateIs plan w s

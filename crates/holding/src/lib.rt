@@ -1,13 +1,14 @@
 // The search that a work area holds between its calls, taken out and put back. In front stand the numbers and the pattern's bytes, then what is
-// loaded of the record, then four stretches. Every number is checked before it is used: an area that fails a check holds no search.
+// loaded of the record, then four stretches. Every number of front and lines is checked before it is used: an area that fails a check holds no search.
+// Of the four stretches no word is read here: there are up to four million, and a state taken up meets a few. Who reads one checks it.
 ghost use mathlib.Core.Path.{_≡_};
 ghost use mathlib.Core.Bool.{true};
-ghost use Prim.Native.Nat.{suc, _+_, _%_, _≤_, _<_};
+ghost use Prim.Native.Nat.{_+_, _%_, _≤_, _<_};
 ghost use lib.ListN.{length, take};
 ghost use Rattle.request.specs.Layout.{Laid};
-ghost use Rattle.area.specs.Area.{patch, Ready};
+ghost use Rattle.area.specs.Area.{patch};
 ghost use Rattle.states.specs.Spots.{front};
-ghost use Rattle.holding.specs.Holding.{tablesAt, bytesOf, bytesIn, countersIn, numbersOf, CountsRange, InRange, InOrder, OfPlan, LineSound, LinesSound, WordsSound, QueueSound, PlanRight, PlanRead, TakenRight, StateRight};
+ghost use Rattle.holding.specs.Holding.{tablesAt, bytesOf, bytesIn, countersIn, numbersOf, CountsRange, InRange, InOrder, OfPlan, LineSound, LinesSound, PlanRight, PlanRead, TakenRight, StateRight};
 use pattern::PatternReply;
 use request::Plan;
 use request::Sizing;
@@ -265,60 +266,6 @@ fn lines_sound(work: &[u32], plan: Plan) -> bool
     true
 }
 
-// ---- the pair of distances and queue
-
-// One more where the word is not 0.
-fn counted(d: u32, n: usize) -> usize
-    requires { ⌜ n < 4294967296 ⌝ }
-    ensures { λ r. ⌜ (d ≡ 0 → r ≡ n) × ((d ≡ 0 → ⊥) → r ≡ suc n) ⌝ }
-{
-    if d == 0 { n } else { n + 1 }
-}
-
-// Are as many words not 0 as the queue has states, and is none above that count?
-fn words_sound(work: &[u32], base: usize, size: usize, tail: usize) -> bool
-    requires { ⌜ (base + size ≤ length (now work)) × (size < 4294967296) ⌝ }
-    ensures { λ r. ⌜ (r ≡ true → WordsSound base size tail (now (work .entry))) × (WordsSound base size tail (now (work .entry)) → r ≡ true) ⌝ }
-{
-    let mut n = 0;
-    let mut s = 0;
-    while s < size {
-        let d = area::word(work, base + s);
-        if tail < d as usize {
-            return false;
-        }
-        n = counted(d, n);
-        s += 1;
-    }
-    n == tail
-}
-
-// Are the queue's words states?
-fn queue_sound(work: &[u32], at: usize, size: usize, tail: usize) -> bool
-    requires { ⌜ (at + tail ≤ length (now work)) × (tail < 4294967296) ⌝ }
-    ensures { λ r. ⌜ (r ≡ true → QueueSound at size tail (now (work .entry))) × (QueueSound at size tail (now (work .entry)) → r ≡ true) ⌝ }
-{
-    let mut i = 0;
-    while i < tail {
-        if size <= area::word(work, at + i) as usize {
-            return false;
-        }
-        i += 1;
-    }
-    true
-}
-
-// Does a search stand in the pair?
-fn pair_sound(work: &[u32], base: usize, size: usize, tail: usize) -> bool
-    requires { ⌜ (base + size + size ≤ length (now work)) × (size < 4294967296) × (tail ≤ size) ⌝ }
-    ensures { λ r. ⌜ (r ≡ true → Ready base size tail (now (work .entry))) × (Ready base size tail (now (work .entry)) → r ≡ true) ⌝ }
-{
-    if words_sound(work, base, size, tail) {
-        return queue_sound(work, base + size, size, tail);
-    }
-    false
-}
-
 // ---- the search
 
 // A search under way: where everything stands, the place asked about, and the numbers that move.
@@ -333,7 +280,7 @@ pub enum Taken {
     Altered,
 }
 
-// The search by the plan, if lines, numbers and queue are sound.
+// The search by the plan, if numbers and lines are sound.
 fn state_of(work: &[u32], plan: Plan) -> Taken
     requires { ⌜ (tablesAt ≤ length (now work)) × Laid plan (length (now work)) ⌝ }
     ensures { λ r. ⌜ StateRight plan (now (work .entry)) r ⌝ }
@@ -342,10 +289,8 @@ fn state_of(work: &[u32], plan: Plan) -> Taken
     if at.in_order() {
         if at.of_plan(plan.size, plan.lines) {
             if lines_sound(work, plan) {
-                if pair_sound(work, plan.base, plan.size, at.found as usize) {
-                    let from = area::word(work, 3) as usize;
-                    return Taken::Search(SearchState { plan, from, at });
-                }
+                let from = area::word(work, 3) as usize;
+                return Taken::Search(SearchState { plan, from, at });
             }
         }
     }

@@ -16,8 +16,8 @@ use Rattle.graph.specs.Loops.{loop, turns, loop-filt}
 use Rattle.graph.specs.PhaseTwo.{lesserWord, nearestWord}
 use Rattle.graph.specs.Sweep.{lineInto, chainIn}
 use Rattle.request.specs.declared.Plan.{Plan}
-use Rattle.area.proofs.Changes.{ready-long}
-use Rattle.states.specs.Pairs.{ReadyBack, distances}
+use Rattle.area.proofs.Anyhow.{room-long}
+use Rattle.states.specs.Pairs.{RoomBack, distances}
 use Rattle.readout.specs.Readout.{marksLow, queueIn, noteTurn, noted, chainOf, linesOf}
 
 -- a loop over the places of a list is the loop over the list
@@ -147,14 +147,10 @@ module _ (D M : List ℕ) (far : ℕ) where
 
 -- ---- of the area
 
-pub turn-long : (plan : Plan) (tail far : ℕ) (w : List ℕ) (j : ℕ) (out : List ℕ) → length (noteTurn plan tail far w j out) ≡ length out
-unfolding noteTurn note
-turn-long plan tail far w j out = note-long (distances plan w) (marksLow plan w) far (getD (queueIn plan tail far w) j 0) out
-
-module _ (plan : Plan) (tail far : ℕ) (w : List ℕ) (ready : ReadyBack plan tail w) where
+module _ (plan : Plan) (tail far : ℕ) (w : List ℕ) (ready : RoomBack plan tail w) where
   noted-is : (out : List ℕ) → noted plan tail far w out ≡ loop (note (distances plan w) (marksLow plan w) far) (queueIn plan tail far w) out
   unfolding noted noteTurn note
-  noted-is out = places-loop (note (distances plan w) (marksLow plan w) far) (queueIn plan tail far w) 0 tail (omega (arith, ready-long ready)) out
+  noted-is out = places-loop (note (distances plan w) (marksLow plan w) far) (queueIn plan tail far w) 0 tail (omega (arith, room-long ready)) out
 
   -- the front cleared, the marks noted and made lines
   pub chain-of : (out : List ℕ) → far - 1 ≤ length out

@@ -1,11 +1,12 @@
 // The chain that the marks of a finished sweep say: the line into each level is the least mark of its states, less one. One pass over the states
-// found notes the least mark of every level in the output, and a second makes lines of marks.
+// found notes the least mark of every level in the output, and a second makes lines of marks. Whatever words the area has, no more than the front of
+// the output is written; where a search stands in it, it is the chain.
 ghost use mathlib.Core.Path.{_≡_};
 ghost use mathlib.Core.List.{_++_};
 ghost use Prim.Native.Nat.{_+_, _*_, _-_, _≤_, _<_};
 ghost use lib.ListN.{length, take, drop, replicate};
 ghost use Rattle.graph.specs.PhaseTwo.{lesserWord};
-ghost use Rattle.states.specs.Pairs.{ReadyBack};
+ghost use Rattle.states.specs.Pairs.{RoomBack, GoodBack};
 ghost use Rattle.readout.specs.Readout.{noteTurn, noted, linesOf, chainOf};
 use request::Plan;
 
@@ -36,11 +37,11 @@ fn lesser(v: u16, w: u16) -> u16
 
 // The state at place `j` of the queue: its mark is noted for its level, if that is below `far`.
 fn note_mark(work: &[u32], plan: Plan, tail: usize, far: usize, j: usize, out: &mut [u16])
-    requires { ⌜ ReadyBack plan tail (now work) × (plan .base + 4 * plan .size ≤ length (now work)) ⌝ }
+    requires { ⌜ RoomBack plan tail (now work) × (plan .base + 4 * plan .size ≤ length (now work)) ⌝ }
     requires { ⌜ (j < tail) × (far - 1 ≤ length (now out)) ⌝ }
-    ensures { λ _. ⌜ now (out .exit) ≡ noteTurn plan tail far (now (work .entry)) j (now (out .entry)) ⌝ }
+    ensures { λ _. ⌜ (GoodBack plan tail (now (work .entry)) → now (out .exit) ≡ noteTurn plan tail far (now (work .entry)) j (now (out .entry))) ⌝ }
 {
-    let s = area::waiting(work, plan.base, plan.size, tail, j);
+    let s = area::waiting_checked(work, plan.base, plan.size, tail, j);
     let w = area::dist_at(work, plan.base, plan.size, tail, s) as usize;
     if w == 0 {
         return;
@@ -55,9 +56,9 @@ fn note_mark(work: &[u32], plan: Plan, tail: usize, far: usize, j: usize, out: &
 
 // All states found, one after the other.
 fn note_marks(work: &[u32], plan: Plan, tail: usize, far: usize, out: &mut [u16])
-    requires { ⌜ ReadyBack plan tail (now work) × (plan .base + 4 * plan .size ≤ length (now work)) ⌝ }
+    requires { ⌜ RoomBack plan tail (now work) × (plan .base + 4 * plan .size ≤ length (now work)) ⌝ }
     requires { ⌜ far - 1 ≤ length (now out) ⌝ }
-    ensures { λ _. ⌜ now (out .exit) ≡ noted plan tail far (now (work .entry)) (now (out .entry)) ⌝ }
+    ensures { λ _. ⌜ (GoodBack plan tail (now (work .entry)) → now (out .exit) ≡ noted plan tail far (now (work .entry)) (now (out .entry))) ⌝ }
 {
     let mut j = 0;
     while j < tail {
@@ -87,9 +88,9 @@ fn lines_of(out: &mut [u16], n: usize)
 
 // The chain by the marks, from the level with the word `far` down, into the front of the output.
 pub fn chain_out(work: &[u32], plan: Plan, tail: usize, far: usize, out: &mut [u16])
-    requires { ⌜ ReadyBack plan tail (now work) × (plan .base + 4 * plan .size ≤ length (now work)) ⌝ }
+    requires { ⌜ RoomBack plan tail (now work) × (plan .base + 4 * plan .size ≤ length (now work)) ⌝ }
     requires { ⌜ far - 1 ≤ length (now out) ⌝ }
-    ensures { λ _. ⌜ now (out .exit) ≡ chainOf plan tail far (now (work .entry)) ++ drop (far - 1) (now (out .entry)) ⌝ }
+    ensures { λ _. ⌜ (GoodBack plan tail (now (work .entry)) → now (out .exit) ≡ chainOf plan tail far (now (work .entry)) ++ drop (far - 1) (now (out .entry))) ⌝ }
 {
     let n = if far == 0 { 0 } else { far - 1 };
     clear_front(out, n);

@@ -29,6 +29,7 @@ use Rattle.search.specs.ReadBack.{size-asked, loaded-same}
 use Rattle.search.specs.Same.{Same, filt-same, same-goal, same-starting}
 use Rattle.area.specs.Area.{stretch, patch, found, Outside, outside}
 use Rattle.area.proofs.Changes.{blank-good, ready-long}
+use Rattle.area.proofs.Anyhow.{room-of, room-long}
 use Rattle.area.proofs.Stretches.{stretch-length, stretch-none, stretch-take}
 use Rattle.states.specs.Spots.{front}
 use Rattle.forward.specs.Firsts.{firstStates}
@@ -183,7 +184,7 @@ module _ {pat : List ℕ} {plan : Plan} {from to : ℕ} {w : List ℕ} (ready : 
       room = omega (arith, ready .room, step .long);
       order = record { expanded-low = omega arith; rest-low = omega arith; phases = omega arith };
       fits = record { found-low = step .ready .fits; chosen-low = omega arith; noted-low = omega arith };
-      ready = step .ready;
+      ready = room-of (step .ready);
     }
 
     -- ---- it is settled
@@ -191,7 +192,7 @@ module _ {pat : List ℕ} {plan : Plan} {from to : ℕ} {w : List ℕ} (ready : 
     module _ (S : List ℕ) {s : SearchState} {v₂ : List ℕ} (held : StepHeld (settled S (plan .lines)) (begunState plan from r) v₁ s v₂) where
       pub search-is : underwayIn s v₂ ≡ begunFrom S (plan .lines) (plan .size) (goal ∷ [])
       unfolding begunFrom
-      search-is = held .now-held ∙ ap (settled S (plan .lines)) begun-held
+      search-is = held .now-held (step .ready .good) ∙ ap (settled S (plan .lines)) begun-held
 
       long₂ : length v₂ ≡ length w
       long₂ = held .long ∙ step .long
@@ -201,7 +202,7 @@ module _ {pat : List ℕ} {plan : Plan} {from to : ℕ} {w : List ℕ} (ready : 
 
       many : length (queueOf (underwayIn s v₂)) ≡ s .at .found
       unfolding underwayIn reachedIn
-      many = ready-long (held .standing .ready)
+      many = room-long (held .standing .ready)
 
       front₂ : (b n : ℕ) → b + n ≤ plan .base → stretch b n v₂ ≡ stretch b n w
       front₂ b n h =

@@ -44,7 +44,6 @@ use Rattle.search.specs.Same.{Same, filt-same, same-state, same-succs}
 use Rattle.search.specs.ReadBack.{size-asked, loaded-same}
 use Rattle.area.specs.Area.{stretch, marked, Good, found}
 use Rattle.area.proofs.Stretches.{stretch-take}
-use Rattle.states.specs.Pairs.{ReadyBack}
 use Rattle.states.specs.Spots.{Fit, front}
 use Rattle.forward.specs.Firsts.{firstStates}
 use Rattle.forward.specs.Posed.{Posed}
@@ -55,7 +54,7 @@ use Rattle.holding.specs.declared.Counters.{Counters}
 use Rattle.holding.specs.declared.SearchState.{SearchState}
 use Rattle.holding.proofs.Fitted.{fitting-read, plan-is}
 use Rattle.tracing.specs.Tracing.{reachedIn}
-use Rattle.stepping.specs.Stepping.{underwayIn, firsts, takenByIn, Standing}
+use Rattle.stepping.specs.Stepping.{underwayIn, firsts, takenByIn, Standing, Searched}
 use Rattle.searching.specs.Promise.{firstsOf, searchAt, numbersIn, Left}
 use Rattle.searching.specs.Words.{baseOf, Stretched, held-stretched, number-at, bytes-are}
 use Rattle.searching.specs.Theorems.{Proper, at-sized, at-standing, at-good, at-add}
@@ -71,7 +70,11 @@ module _ {w pat : List ℕ} {s : SearchState} (sound : Sound w pat s) where
     room = sound .planned .is .room;
     order = sound .state .order;
     fits = sound .state .fits;
-    ready = sound .state .ready;
+    ready = record {
+      room = omega (arith, sound .planned .is .laid .room);
+      small = omega (arith, sound .planned .is .laid .small);
+      fits = sound .state .fits .found-low;
+    };
   }
 
   -- its tables fit a program that is compiled from the pattern's bytes
@@ -270,6 +273,13 @@ module _ {rec pat : List ℕ} {from to : ℕ} {q : Asked} {k : ℕ} {w : List �
           sweep = record { rest = rest i; chosen = chosen i; noted = record { line = noted i; marks = marks i } };
         }
 
+    -- a search stands in the area
+    pub left-searched : Searched s w
+    unfolding underwayIn reachedIn
+    left-searched =
+        subst (λ n. Good n (underwayIn s w .found .table)) (sym left-size)
+        (subst (λ (x : Underway). Good (sizeOf q) (x .found .table)) (sym left-underway) (found-good (at-good q from to left-proper k)))
+
     -- ---- by a program that is compiled from the pattern
 
     module _ {program : List ℕ} {begin : ℕ} (compiled : Compiled (q .pattern) program begin) where
@@ -350,18 +360,6 @@ module _ {rec pat : List ℕ} {from to : ℕ} {q : Asked} {k : ℕ} {w : List �
   abbrev held : SearchState
   held = record { plan = plan; from = askedIn w; at = countersIn w }
 
-  left-ready : ReadyBack plan (countersIn w .found) w
-  unfolding countersIn
-  left-ready =
-      let tail : getD w 7 0 ≡ length (queueOf u) = number 7 (omega arith) in
-      let good : Good (sizeOf q) (found (plan .base) (plan .size) (getD w 7 0) w) = subst (Good (sizeOf q)) (sym (plan-found left-plan (getD w 7 0) tail)) (found-good (at-good q from to left-proper k)) in
-      record {
-        room = omega (arith, left-room, plan-base left-plan, plan-size left-plan);
-        small = omega (arith, left-plan .laid .small);
-        fits = omega (arith, tail, plan-size left-plan, at-standing q from to left-proper k .room);
-        good = subst (λ n. Good n (found (plan .base) (plan .size) (getD w 7 0) w)) (sym (plan-size left-plan)) good;
-      }
-
   left-state : StateIs plan w held
   unfolding countersIn
   left-state =
@@ -383,7 +381,6 @@ module _ {rec pat : List ℕ} {from to : ℕ} {q : Asked} {k : ℕ} {w : List �
           noted-low = omega (arith, number 11 (omega arith), m, s .line-low);
         };
         lines = λ i h. record { starts = line-is posed i h .0; ends = line-is posed i h .1; code-low = code-below posed i h };
-        ready = left-ready;
       }
 
   pub left-sound : (s : SearchState) × Sound w pat s

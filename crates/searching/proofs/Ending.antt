@@ -32,7 +32,7 @@ use Rattle.searching.specs.Promise.{searchAt, heldIn, Left}
 use Rattle.searching.specs.Searching.{ReadOut}
 use Rattle.searching.specs.Words.{Stretched, stretched-held}
 use Rattle.searching.specs.Theorems.{Proper, at-standing, at-sized, at-marks, takes-one, ends-by, end-stays, finish-is-find}
-use Rattle.searching.proofs.Bridge.{left-short, left-proper, left-room, left-stretched, left-planned, left-size, left-base, left-underway, left-taken, sound-standing}
+use Rattle.searching.proofs.Bridge.{left-short, left-proper, left-room, left-stretched, left-planned, left-size, left-base, left-underway, left-taken, sound-standing, left-searched}
 use Rattle.searching.proofs.Moving.{putBack, put-long, moved-stretched}
 
 -- ---- what is said of a chain by one number
@@ -55,21 +55,6 @@ told true far c out after r long some-far is written =
     fits : (t : Bool) → cond t (c ++ drop (length c) out) out ≡ outAfter (cond t (chain c) (too-long (length c))) out
     fits true = refl
     fits false = refl
-
--- what is read out without a chain, or without room for it, leaves the output
-pub none-read : {s : SearchState} {w out : List ℕ} {r : ℕ} {after : List ℕ} → ReadOut s w out r after → r ≡ 0 → after ≡ out
-none-read {s} {w} {out} read e =
-    read .after-is ∙ ap (λ (n : ℕ). cond (ltb 0 n && leb (n - 1) (length out)) (chainOf (s .plan) (s .at .found) n w ++ drop (n - 1) out) out) e
-
-pub long-read : {s : SearchState} {w out : List ℕ} {r : ℕ} {after : List ℕ} → ReadOut s w out r after → length out < r - 1 → after ≡ out
-long-read {s} {w} {out} {r} read l =
-    read .after-is
-    ∙ (ap (λ (t : Bool). cond (ltb 0 r && t) (chainOf (s .plan) (s .at .found) r w ++ drop (r - 1) out) out) (lt-leb (r - 1) (length out) l)
-    ∙ ap (λ (t : Bool). cond t (chainOf (s .plan) (s .at .found) r w ++ drop (r - 1) out) out) (and-false (ltb 0 r)))
-  where
-    and-false : (b : Bool) → (b && false) ≡ false
-    and-false true = refl
-    and-false false = refl
 
 -- ---- the count
 
@@ -98,10 +83,10 @@ module _ {rec pat : List ℕ} {from to : ℕ} {q : Asked} {k : ℕ} {w : List �
 
   -- the search as it stands then
   now-is : underwayIn (g .state) v ≡ searchAt q from to (k + done)
-  now-is = on .held .now-held ∙ left-taken left sound compiled done
+  now-is = on .held .now-held (left-searched left sound) ∙ left-taken left sound compiled done
 
   goes : (j : ℕ) → j < done → atEnd (searchAt q from to (k + j)) ≡ false
-  goes j l = ap atEnd (sym (left-taken left sound compiled j)) ∙ on .going j l
+  goes j l = ap atEnd (sym (left-taken left sound compiled j)) ∙ on .going (left-searched left sound) j l
 
   -- all turns are done, or it has ended
   all-or-end : (done ≡ many) ⊎ (atEnd (searchAt q from to (k + done)) ≡ true)
@@ -177,7 +162,7 @@ module _ {rec pat : List ℕ} {from to : ℕ} {q : Asked} {k : ℕ} {w : List �
         λ e. subst (0 <_) (sym (ap (λ (x : Underway). x .far) now-is)) (at-standing q from to (left-proper left) N .forth (sym (ap (λ (x : Underway). x .phase) now-is) ∙ eqb-true (at .phase) 1 e) .0) in
         subst (λ o. Searched o r out after) said
         (told (eqb (at .phase) 1) (at .far) c out after r (chain-long D (u .sweep .noted .marks) 0 (succs S) lines (queueOf u) (at .far - 1)) far-some (read .word-is)
-        (read .after-is ∙ written (eqb (at .phase) 1) (read .word-is) (chain-low p (at .found) (at .far) v low (succs S) lines)))
+        (read .after-is (on .held .searched (left-searched left sound)) ∙ written (eqb (at .phase) 1) (read .word-is) (chain-low p (at .found) (at .far) v low (succs S) lines)))
       where
         few-lines : lines ≤ 4096
         few-lines = omega (arith, left-planned left sound .lines-are, sound-standing sound .laid .few-lines)

@@ -12,7 +12,7 @@ use Rattle.graph.specs.Underway.{Underway, queueOf}
 use Rattle.request.specs.Layout.{tableWords, loadedOf}
 use Rattle.request.specs.declared.Plan.{Plan}
 use Rattle.area.specs.Area.{stretch, patch, found}
-use Rattle.area.proofs.Changes.{ready-long}
+use Rattle.area.proofs.Anyhow.{room-long}
 use Rattle.area.proofs.Stretches.{stretch-take, patch-length, patch-same, patch-take, patch-drop}
 use Rattle.tracing.proofs.Traces.{stretch-end}
 use Rattle.holding.specs.Holding.{numbersOf}
@@ -99,11 +99,11 @@ module _ {q : Asked} {pat : List ℕ} {from : ℕ} {u : Underway} {w : List ℕ}
 
   many : length (queueOf (underwayIn r v)) ≡ r .at .found
   unfolding underwayIn reachedIn
-  many = ready-long (held .standing .ready)
+  many = room-long (held .standing .ready)
 
   many-before : length (queueOf u) ≡ s .at .found
   unfolding underwayIn reachedIn
-  many-before = sym (ap (λ (x : Underway). length (queueOf x)) here) ∙ ready-long (standing .ready)
+  many-before = sym (ap (λ (x : Underway). length (queueOf x)) here) ∙ room-long (standing .ready)
 
   few : r .at .found ≤ P .size
   few = omega (arith, held .standing .fits .found-low, ap (λ (p : Plan). p .size) (held .plan-same))

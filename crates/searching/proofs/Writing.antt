@@ -11,6 +11,7 @@ use Rattle.area.specs.Area.{stretch, patch}
 use Rattle.request.specs.declared.Plan.{Plan}
 use Rattle.holding.specs.declared.SearchState.{SearchState}
 use Rattle.readout.specs.Readout.{chainOf}
+use Rattle.stepping.specs.Stepping.{Searched}
 use Rattle.searching.specs.Searching.{frontOf, ReadOut}
 
 -- ---- the numbers that stay
@@ -30,18 +31,25 @@ front-written plan from pat w h =
 
 module _ (s : SearchState) (w out : List ℕ) where
   pub read-other : (s .at .phase ≡ 1 → ⊥) → ReadOut s w out 0 out
-  read-other n = record { small = omega arith; word-is = rw (ne-eqb _ _ n); after-is = refl }
+  read-other n = record { small = omega arith; word-is = rw (ne-eqb _ _ n); none-out = λ _. refl; too-long-out = λ _. refl; after-is = λ _. refl }
 
   module _ (one : s .at .phase ≡ 1) where
     pub read-none : s .at .far ≡ 0 → ReadOut s w out 0 out
-    read-none z = record { small = omega arith; word-is = rw (eq-eqb _ _ one) (sym z); after-is = refl }
+    read-none z = record { small = omega arith; word-is = rw (eq-eqb _ _ one) (sym z); none-out = λ _. refl; too-long-out = λ _. refl; after-is = λ _. refl }
 
     module _ (some : s .at .far ≡ 0 → ⊥) (low : s .at .far < 4294967296) where
       some-far : 0 < s .at .far
       some-far = omega (arith, some)
 
       pub read-long : length out < s .at .far - 1 → ReadOut s w out (s .at .far) out
-      read-long h = record { small = low; word-is = rw (eq-eqb _ _ one); after-is = rw (lt-ltb _ _ some-far, lt-leb _ _ h) }
+      read-long h = record { small = low; word-is = rw (eq-eqb _ _ one); none-out = λ _. refl; too-long-out = λ _. refl; after-is = λ _. rw (lt-ltb _ _ some-far, lt-leb _ _ h) }
 
-      pub read-fits : s .at .far - 1 ≤ length out → ReadOut s w out (s .at .far) (chainOf (s .plan) (s .at .found) (s .at .far) w ++ drop (s .at .far - 1) out)
-      read-fits h = record { small = low; word-is = rw (eq-eqb _ _ one); after-is = rw (lt-ltb _ _ some-far, le-leb _ _ h) }
+      pub read-fits : s .at .far - 1 ≤ length out → (after : List ℕ) → (Searched s w → after ≡ chainOf (s .plan) (s .at .found) (s .at .far) w ++ drop (s .at .far - 1) out) → ReadOut s w out (s .at .far) after
+      read-fits h after is =
+          record {
+            small = low;
+            word-is = rw (eq-eqb _ _ one);
+            none-out = λ z. absurd (some z);
+            too-long-out = λ l. absurd (omega (arith, h, l));
+            after-is = λ g. is g ∙ rw (lt-ltb _ _ some-far, le-leb _ _ h) refl;
+          }

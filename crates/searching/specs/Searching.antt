@@ -15,7 +15,7 @@ use Rattle.finder.specs.Searching.{Searched}
 use Rattle.holding.specs.Holding.{tablesAt}
 use Rattle.holding.specs.declared.SearchState.{SearchState}
 use Rattle.readout.specs.Readout.{chainOf}
-use Rattle.stepping.specs.Stepping.{indexEnd}
+use Rattle.stepping.specs.Stepping.{indexEnd, Searched as InSearch}
 use Rattle.searching.specs.Promise.{searchAt, heldIn, Left}
 
 -- ---- begin
@@ -50,11 +50,14 @@ pub record MovedIn (s : SearchState) (pat : List ℕ) (amount : ℕ) (w : List �
 
 -- ---- finish
 
--- the number is one more than the chain's length, and the chain by the marks is written where the output holds it
+-- the number is one more than the chain's length; nothing is written where there is none or the output does not hold it, and else the chain by the
+-- marks, where a search stands in the area
 pub record ReadOut (s : SearchState) (w out : List ℕ) (r : ℕ) (after : List ℕ) : Type 0 where
   pub small : r < 4294967296
   pub word-is : r ≡ cond (eqb (s .at .phase) 1) (s .at .far) 0
-  pub after-is : after ≡ cond (ltb 0 r && leb (r - 1) (length out)) (chainOf (s .plan) (s .at .found) r w ++ drop (r - 1) out) out
+  pub none-out : r ≡ 0 → after ≡ out
+  pub too-long-out : length out < r - 1 → after ≡ out
+  pub after-is : InSearch s w → after ≡ cond (ltb 0 r && leb (r - 1) (length out)) (chainOf (s .plan) (s .at .found) r w ++ drop (r - 1) out) out
 
 pub record FinishedIn (s : SearchState) (pat w out : List ℕ) (r : ℕ) (after : List ℕ) : Type 0 where
   pub small : r < 4294967296

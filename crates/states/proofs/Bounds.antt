@@ -141,10 +141,13 @@ fit-same {plan} l e f =
       leaves-low = f .leaves-low;
     }
 
--- in a loop of phase one the boats' table stays
+-- the boats' table stands before the pair; in a loop of phase one it stays
+pub boats-front : (plan : Plan) (w w₀ : List ℕ) → take (plan .base) w ≡ take (plan .base) w₀ → boatsIn plan w ≡ boatsIn plan w₀
+boats-front plan w w₀ e = ap (λ g. boatAt plan g) e
+
 pub boats-under : (plan : Plan) {F : Search → Search} {t₀ : ℕ} {w₀ : List ℕ} {G : Search → Search} {t : ℕ} {w : List ℕ}
     → Under (plan .base) (plan .size) F t₀ w₀ G t w → boatsIn plan w ≡ boatsIn plan w₀
-boats-under plan u = ap (λ g. boatAt plan g) (under-front u (plan .base) (omega arith))
+boats-under plan {w₀ = w₀} {w = w} u = boats-front plan w w₀ (under-front u (plan .base) (omega arith))
 
 -- a state's place is one of the places
 pub place-at : {plan : Plan} {area : ℕ} → Laid plan area → (t : ℕ) → t < plan .size → t / plan .stacks / (plan .done + 1) < plan .places

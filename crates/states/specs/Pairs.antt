@@ -5,7 +5,7 @@ use Prim.Native.Nat.{ℕ}
 use Rattle.request.specs.declared.Plan.{Plan}
 use Rattle.search.specs.Moves.{visit}
 use Rattle.graph.specs.Table.{Search}
-use Rattle.area.specs.Area.{stretch, found, Ready, Step}
+use Rattle.area.specs.Area.{stretch, found, Good, Ready, Step, Room, StepAny}
 
 -- ---- phase one
 
@@ -14,6 +14,16 @@ ReadyBack plan = Ready (plan .base) (plan .size)
 
 abbrev pub StepBack : Plan → (Search → Search) → ℕ → List ℕ → ℕ → List ℕ → Type 0
 StepBack plan = Step (plan .base) (plan .size)
+
+-- whatever words stand in it; and that a search stands in it
+abbrev pub RoomBack : Plan → ℕ → List ℕ → Type 0
+RoomBack plan = Room (plan .base) (plan .size)
+
+abbrev pub StepBackAny : Plan → (Search → Search) → ℕ → List ℕ → ℕ → List ℕ → Type 0
+StepBackAny plan = StepAny (plan .base) (plan .size)
+
+abbrev pub GoodBack : Plan → ℕ → List ℕ → Type 0
+GoodBack plan tail w = Good (plan .size) (found (plan .base) (plan .size) tail w)
 
 -- the words of the distances
 abbrev pub distances : Plan → List ℕ → List ℕ

@@ -1,7 +1,7 @@
 -- A search that is moved on (`Held`, `Turned`): nothing done (`held-none`, `turned-none`), one after another (`held-then`, `turned-then`), one turn
--- (`turned-one`). What it goes by stays (`held-fit`, `held-indexed`, `held-ordered`), and so do what taking up states is (`taken-by-same`) and, after
--- phase one, the phase (`held-phase`, `turned-phase`). Lines put in order after the four stretches change nothing of it (`end-held`, `start-held`),
--- and one turn of the sweep is one state taken up (`swept-held`).
+-- (`turned-one`). What it goes by stays (`held-fit`, `held-indexed`, `held-ordered`), and so does what taking up states is (`taken-by-same`).
+-- Lines put in order after the four stretches change nothing of it (`end-held`, `start-held`), and one turn of the sweep is one state taken up
+-- (`swept-held`).
 use mathlib.Core.Path.{_≡_, refl, sym, ap, _∙_, subst}
 use mathlib.Core.Bool.{true, false, cond, false≢true}
 use mathlib.Core.List.{List, []}
@@ -21,7 +21,7 @@ use Rattle.search.specs.Loaded.{settingAt, settingIn}
 use Rattle.search.specs.Product.{succs}
 use Rattle.search.specs.Traced.{trace}
 use Rattle.area.specs.Area.{stretch, found}
-use Rattle.states.specs.Pairs.{ReadyBack}
+use Rattle.states.specs.Pairs.{RoomBack}
 use Rattle.states.specs.Spots.{Fit}
 use Rattle.states.proofs.Bounds.{fit-same}
 use Rattle.sorted.specs.Passes.{Ground}
@@ -36,7 +36,7 @@ use Rattle.tracing.specs.Tracing.{reachedIn, Indexed}
 use Rattle.tracing.proofs.Traces.{before-same, stretch-end, back-later}
 use Rattle.sweeping.specs.Sweeping.{indexAt, marksAt, marksIn, Ordered, SweptTo}
 use Rattle.sweeping.specs.declared.Sweeping.{Sweeping}
-use Rattle.stepping.specs.Stepping.{underwayIn, firsts, indexEnd, takenIn, takenByIn, Standing, Held, StepHeld, Turned}
+use Rattle.stepping.specs.Stepping.{underwayIn, firsts, indexEnd, takenIn, takenByIn, Standing, Searched, Held, StepHeld, Turned}
 use Rattle.stepping.specs.declared.Going.{Going}
 
 -- ---- words that are not used yet
@@ -54,16 +54,20 @@ gap-later b n t u w v h low room long e =
 
 -- ---- held
 
--- nothing is done
+-- nothing is done: as is to be, or as is to be where a search stands there
+pub held-idle : (F : Underway → Underway) (end : ℕ) {s : SearchState} {w : List ℕ} → Standing s w → (Searched s w → F (underwayIn s w) ≡ underwayIn s w) → Held F end s w s w
+held-idle F end h e =
+    record { now-held = λ g. sym (e g); searched = λ g. g; plan-same = refl; from-same = refl; front = refl; queue-gap = refl; how-gap = refl; after = refl; long = refl; grows = omega arith; standing = h }
+
 pub held-none : (F : Underway → Underway) (end : ℕ) {s : SearchState} {w : List ℕ} → Standing s w → F (underwayIn s w) ≡ underwayIn s w → Held F end s w s w
-held-none F end h e =
-    record { now-held = sym e; plan-same = refl; from-same = refl; front = refl; queue-gap = refl; how-gap = refl; after = refl; long = refl; grows = omega arith; standing = h }
+held-none F end h e = held-idle F end h (λ _. e)
 
 module _ {F : Underway → Underway} {end : ℕ} {s : SearchState} {w : List ℕ} {r : SearchState} {v : List ℕ} (a : Held F end s w r v) where
   -- what is done, said in another way, and fewer words that stay
   pub held-as : (H : Underway → Underway) (later : ℕ) → end ≤ later → H (underwayIn s w) ≡ F (underwayIn s w) → Held H later s w r v
   held-as H later h e = record {
-    now-held = a .now-held ∙ sym e;
+    now-held = λ g. a .now-held g ∙ sym e;
+    searched = a .searched;
     plan-same = a .plan-same;
     from-same = a .from-same;
     front = a .front;
@@ -91,7 +95,8 @@ module _ {F : Underway → Underway} {end : ℕ} {s : SearchState} {w : List ℕ
         let p = s .plan in
         let room = a .standing .laid .room in
         record {
-          now-held = b .now-held ∙ (ap G (a .now-held) ∙ sym e);
+          now-held = λ g. b .now-held (a .searched g) ∙ (ap G (a .now-held g) ∙ sym e);
+          searched = λ g. b .searched (a .searched g);
           plan-same = b .plan-same ∙ a .plan-same;
           from-same = b .from-same ∙ a .from-same;
           front = subst (λ (x : Plan). take (x .base) u ≡ take (x .base) v) (a .plan-same) (b .front) ∙ a .front;
@@ -143,7 +148,7 @@ turned-none {s = s} {program = program} {begin = begin} {amount = amount} {w = w
       few = omega arith;
       held = held-as a (takenByIn s program begin w (amount - amount)) _ (omega arith) (ap (λ n. takenByIn s program begin w n (underwayIn s w)) none);
       done = d;
-      going = λ j h. absurd (omega (arith, h));
+      going = λ _ j h. absurd (omega (arith, h));
     }
 
 -- one turn
@@ -158,11 +163,11 @@ turned-one {s = s} {program = program} {begin = begin} {amount = amount} {w = w}
       few = omega arith;
       held = held-as a (takenByIn s program begin w (amount - (amount - 1))) _ (omega arith) (ap (λ n. takenByIn s program begin w n (underwayIn s w)) one);
       done = λ _. tt;
-      going = λ j h. ap (λ n. atEnd (takenByIn s program begin w n (underwayIn s w))) (first j h) ∙ on;
+      going = λ _ j h. ap (λ n. atEnd (takenByIn s program begin w n (underwayIn s w))) (first j h) ∙ on;
     }
 
-module _ {First Second : Underway → Type 0} {end end′ : ℕ} {s : SearchState} {program : List ℕ} {begin amount : ℕ} {w : List ℕ} {g : Going} {v : List ℕ} {h : Going} {u : List ℕ}
-    (a : Turned First end s program begin amount w g v) (b : Turned Second end′ (g .state) program begin (g .left) v h u) where
+module _ {First Second : Underway → Type 0} {end end′ : ℕ} {s : SearchState} {program : List ℕ} {begin amount : ℕ} {w : List ℕ} {mid : Going} {v : List ℕ} {h : Going} {u : List ℕ}
+    (a : Turned First end s program begin amount w mid v) (b : Turned Second end′ (mid .state) program begin (mid .left) v h u) where
   abbrev start : Underway
   start = underwayIn s w
 
@@ -170,27 +175,27 @@ module _ {First Second : Underway → Type 0} {end end′ : ℕ} {s : SearchStat
   by = takenByIn s program begin w
 
   -- so many more after the turns of the first
-  more : (k : ℕ) → by (amount - g .left + k) start ≡ takenByIn (g .state) program begin v k (by (amount - g .left) start)
+  more : (k : ℕ) → by (amount - mid .left + k) start ≡ takenByIn (mid .state) program begin v k (by (amount - mid .left) start)
   more k =
       let S = settingAt program (s .plan) w in
-      taken-add (firstStates (s .plan) begin (s .from)) (s .plan .lines) (trace S) (succs S) (amount - g .left) k start
-      ∙ ap (λ (f : ℕ → Underway → Underway). f k (by (amount - g .left) start)) (sym (taken-by-same (a .held) program begin))
+      taken-add (firstStates (s .plan) begin (s .from)) (s .plan .lines) (trace S) (succs S) (amount - mid .left) k start
+      ∙ ap (λ (f : ℕ → Underway → Underway). f k (by (amount - mid .left) start)) (sym (taken-by-same (a .held) program begin))
 
   -- one after another
   pub turned-then : {Done : Underway → Type 0} (later : ℕ) → end ≤ later → end′ ≤ later → (0 < h .left → Done (underwayIn (h .state) u)) → Turned Done later s program begin amount w h u
   turned-then later l l′ d =
-      let sum : amount - h .left ≡ amount - g .left + (g .left - h .left) = omega (arith, a .few, b .few) in
+      let sum : amount - h .left ≡ amount - mid .left + (mid .left - h .left) = omega (arith, a .few, b .few) in
       record {
         few = omega (arith, a .few, b .few);
-        held = held-then (a .held) (b .held) (by (amount - h .left)) later l l′ (ap (λ n. by n start) sum ∙ more (g .left - h .left));
+        held = held-then (a .held) (b .held) (by (amount - h .left)) later l l′ (ap (λ n. by n start) sum ∙ more (mid .left - h .left));
         done = d;
-        going = λ j low. elim (decLt j (amount - g .left)) [
-          | yes e ↦ a .going j e
+        going = λ g j low. elim (decLt j (amount - mid .left)) [
+          | yes e ↦ a .going g j e
           | no n ↦
-              let k = j - (amount - g .left) in
-              let split : j ≡ amount - g .left + k = omega arith in
+              let k = j - (amount - mid .left) in
+              let split : j ≡ amount - mid .left + k = omega arith in
               ap (λ m. atEnd (by m start)) split
-              ∙ (ap atEnd (more k ∙ ap (takenByIn (g .state) program begin v k) (sym (a .held .now-held))) ∙ b .going k (omega (arith, low, n, a .few, b .few)))
+              ∙ (ap atEnd (more k ∙ ap (takenByIn (mid .state) program begin v k) (sym (a .held .now-held g))) ∙ b .going (a .held .searched g) k (omega (arith, low, n, a .few, b .few)))
         ];
       }
 
@@ -231,36 +236,6 @@ module _ (S : List ℕ) (m : ℕ) (trace : ℕ → ℕ → Reached → Reached) 
       go (forward e k t o) = t
       go (ended t o) = absurd (false≢true (sym (forth-goes u one l) ∙ o))
 
-  -- after phase one the phase stays
-  phase-one : (u : Underway) → (u .phase ≡ 0 → ⊥) → taken S m trace succs u .phase ≡ u .phase
-  unfolding sweptNext
-  phase-one u n = go (took S m trace succs u)
-    where
-      go : Took S m trace succs u → taken S m trace succs u .phase ≡ u .phase
-      go (backward e t o) = absurd (n e)
-      go (forward e k t o) = ap (λ (x : Underway). x .phase) t
-      go (ended t o) = ap (λ (x : Underway). x .phase) t
-
-  phase-stays : (k : ℕ) (u : Underway) → (u .phase ≡ 0 → ⊥) → takenBy S m trace succs k u .phase ≡ u .phase
-  unfolding takenBy
-  phase-stays zero u n = refl
-  phase-stays (suc k) u n =
-      let e = phase-one u n in
-      phase-stays k (taken S m trace succs u) (λ z. n (sym e ∙ z)) ∙ e
-
--- by a turn, and by turns
-pub held-phase : {s : SearchState} (program : List ℕ) (begin : ℕ) {end : ℕ} {w : List ℕ} {r : SearchState} {v : List ℕ}
-    → Held (takenIn s program begin w) end s w r v → (underwayIn s w .phase ≡ 0 → ⊥) → underwayIn r v .phase ≡ underwayIn s w .phase
-held-phase {s = s} program begin {w = w} a n =
-    let S = settingAt program (s .plan) w in
-    ap (λ (x : Underway). x .phase) (a .now-held) ∙ phase-one (firsts s begin) (s .plan .lines) (trace S) (succs S) (underwayIn s w) n
-
-pub turned-phase : {Done : Underway → Type 0} {end : ℕ} {s : SearchState} {program : List ℕ} {begin amount : ℕ} {w : List ℕ} {g : Going} {v : List ℕ}
-    → Turned Done end s program begin amount w g v → (underwayIn s w .phase ≡ 0 → ⊥) → underwayIn (g .state) v .phase ≡ underwayIn s w .phase
-turned-phase {s = s} {program = program} {begin = begin} {amount = amount} {w = w} {g = g} t n =
-    let S = settingAt program (s .plan) w in
-    ap (λ (x : Underway). x .phase) (t .held .now-held) ∙ phase-stays (firsts s begin) (s .plan .lines) (trace S) (succs S) (amount - g .left) (underwayIn s w) n
-
 -- ---- words after the tags change
 
 module _ {s : SearchState} {w : List ℕ} (h : Standing s w) (v : List ℕ) (same : take (marksAt (s .plan)) v ≡ take (marksAt (s .plan)) w) (long : length v ≡ length w) where
@@ -283,8 +258,11 @@ module _ {s : SearchState} {w : List ℕ} (h : Standing s w) (v : List ℕ) (sam
   unfolding reachedIn
   reached-same = λ i. record { table = found-same i; how = early (s .plan .base + 2 * s .plan .size) (s .at .found) (omega (arith, h .fits .found-low)) i }
 
-  ready-same : ReadyBack (s .plan) (s .at .found) v
-  ready-same = record { room = omega (arith, h .ready .room, long); small = h .ready .small; fits = h .ready .fits; good = rw found-same (h .ready .good) }
+  ready-same : RoomBack (s .plan) (s .at .found) v
+  ready-same = record { room = omega (arith, h .ready .room, long); small = h .ready .small; fits = h .ready .fits }
+
+  searched-same : Searched s w → Searched s v
+  searched-same g = rw found-same g
 
   -- the gaps of the queue and of the tags
   queue-same : stretch (s .plan .base + s .plan .size + s .at .found) (s .plan .size - s .at .found) v ≡ stretch (s .plan .base + s .plan .size + s .at .found) (s .plan .size - s .at .found) w
@@ -319,13 +297,14 @@ kept-held {s = s} {w = w} {v = v} h k =
     let same = kept-take k (marksAt p) (omega arith) in
     let marks : marksIn p v ≡ marksIn p w = before-same (indexAt p) (marksAt p) (p .size) w v (omega arith) (omega (arith, h .room)) (omega (arith, h .room, k .long)) (k .before) in
     record {
-      now-held = λ i. record {
+      now-held = λ _ i. record {
         found = reached-same h v same (k .long) i;
         expanded = s .at .expanded;
         phase = s .at .phase;
         far = s .at .far;
         sweep = record { rest = s .at .rest; chosen = s .at .chosen; noted = record { line = s .at .noted; marks = marks i } };
       };
+      searched = searched-same h v same (k .long);
       plan-same = refl;
       from-same = refl;
       front = front-same h v same (k .long);
@@ -385,7 +364,8 @@ swept-held {s = s} program begin {w = w} {y = y} {v = v} h one some z =
     let same = o .before in
     let S = settingAt program p w in
     record {
-      now-held = (λ i. record { found = reached-same h v same (o .long) i; expanded = s .at .expanded; phase = s .at .phase; far = s .at .far; sweep = z .now-swept i }) ∙ sym (taken-forth (firsts s begin) (p .lines) (trace S) (succs S) (underwayIn s w) one some);
+      now-held = λ g. (λ i. record { found = reached-same h v same (o .long) i; expanded = s .at .expanded; phase = s .at .phase; far = s .at .far; sweep = z .now-swept g i }) ∙ sym (taken-forth (firsts s begin) (p .lines) (trace S) (succs S) (underwayIn s w) one some);
+      searched = searched-same h v same (o .long);
       plan-same = refl;
       from-same = refl;
       front = front-same h v same (o .long);

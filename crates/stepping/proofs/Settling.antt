@@ -22,8 +22,8 @@ use Rattle.search.specs.Loaded.{settingAt}
 use Rattle.search.specs.Product.{Setting, succs}
 use Rattle.search.specs.Traced.{trace}
 use Rattle.area.specs.Area.{stretch, found, Good}
-use Rattle.area.proofs.Changes.{ready-long}
-use Rattle.states.specs.Pairs.{distances, ReadyBack}
+use Rattle.area.proofs.Anyhow.{room-long}
+use Rattle.states.specs.Pairs.{distances, RoomBack}
 use Rattle.sorted.specs.Runs.{same-stretch}
 use Rattle.forward.specs.Firsts.{firstStates}
 use Rattle.holding.specs.declared.SearchState.{SearchState}
@@ -31,8 +31,8 @@ use Rattle.tracing.specs.Tracing.{howAt, reachedIn, StepTraced}
 use Rattle.tracing.proofs.Traces.{back-later}
 use Rattle.sweeping.specs.Sweeping.{marksAt, indexAt, marksIn, FirstsMarked}
 use Rattle.sweeping.proofs.Marks.{only-front, only-stretch, only-laid}
-use Rattle.stepping.proofs.Moving.{held-none, held-then}
-use Rattle.stepping.specs.Stepping.{underwayIn, firsts, expandedBy, takenIn, Standing, Held, StepHeld}
+use Rattle.stepping.proofs.Moving.{held-none, held-idle, held-then}
+use Rattle.stepping.specs.Stepping.{underwayIn, firsts, expandedBy, takenIn, Standing, Searched, Held, StepHeld}
 
 -- ---- the word of the state expanded last
 
@@ -62,13 +62,13 @@ module _ (s : SearchState) (w : List ℕ) where
   module _ (h : Standing s w) where
     none-waits : s .at .found ≤ s .at .expanded → waitingIn (underwayIn s w) ≡ []
     unfolding underwayIn reachedIn
-    none-waits past = drop-of-length-le (queueIn s w) {i = s .at .expanded} (omega (arith, past, ready-long (h .ready)))
+    none-waits past = drop-of-length-le (queueIn s w) {i = s .at .expanded} (omega (arith, past, room-long (h .ready)))
 
     some-waits : s .at .expanded < s .at .found → (t : ℕ) → t ≡ getD (queueIn s w) (s .at .expanded) 0
         → waitingIn (underwayIn s w) ≡ t ∷ drop (suc (s .at .expanded)) (queueIn s w)
     unfolding underwayIn reachedIn
     some-waits less t is =
-        drop-cons (queueIn s w) (s .at .expanded) 0 (omega (arith, less, ready-long (h .ready)))
+        drop-cons (queueIn s w) (s .at .expanded) 0 (omega (arith, less, room-long (h .ready)))
         ∙ ap (_∷ drop (suc (s .at .expanded)) (queueIn s w)) (sym is)
 
     -- ---- does phase one go on?
@@ -170,10 +170,10 @@ module _ (s : SearchState) (w : List ℕ) (h : Standing s w) (begin : ℕ) where
   abbrev going : Bool
   going = goesOn (firsts s begin) (s .plan .lines) (underwayIn s w)
 
-  pub settle-on : true ≡ going → StepHeld (settled (firsts s begin) (s .plan .lines)) s w s w
-  settle-on e = held-none _ _ h (settled-on (firsts s begin) (s .plan .lines) (underwayIn s w) (sym e))
+  pub settle-on : (Searched s w → true ≡ going) → StepHeld (settled (firsts s begin) (s .plan .lines)) s w s w
+  settle-on e = held-idle _ _ h (λ g. settled-on (firsts s begin) (s .plan .lines) (underwayIn s w) (sym (e g)))
 
-  module _ (near : ℕ) (is : near ≡ nearestWord (distances (s .plan) w) (firsts s begin)) (ends : false ≡ going) where
+  module _ (near : ℕ) (is : near ≡ nearestWord (distances (s .plan) w) (firsts s begin)) (ends : Searched s w → false ≡ going) where
     near-is : near ≡ nearIn (firsts s begin) (s .plan .lines) (underwayIn s w)
     unfolding underwayIn reachedIn found
     near-is = is
@@ -182,7 +182,8 @@ module _ (s : SearchState) (w : List ℕ) (h : Standing s w) (begin : ℕ) where
     unfolding underwayIn given-up
     settle-up z =
         record {
-          now-held = sym (settled-up (firsts s begin) (s .plan .lines) (underwayIn s w) (sym ends) (sym near-is ∙ z));
+          now-held = λ g. sym (settled-up (firsts s begin) (s .plan .lines) (underwayIn s w) (sym (ends g)) (sym near-is ∙ z));
+          searched = λ g. g;
           plan-same = refl;
           from-same = refl;
           front = refl;
@@ -232,17 +233,19 @@ module _ (s : SearchState) (w : List ℕ) (h : Standing s w) (begin : ℕ) where
             expanded = s .at .expanded;
             phase = 1;
             far = is i;
-            sweep = record { rest = sym (ready-long (h .ready)) i; chosen = lines; noted = record { line = lines; marks = marked-now i } };
+            sweep = record { rest = sym (room-long (h .ready)) i; chosen = lines; noted = record { line = lines; marks = marked-now i } };
           }
 
-      ready-still : ReadyBack (s .plan) (s .at .found) v
+      ready-still : RoomBack (s .plan) (s .at .found) v
       ready-still =
           record {
             room = omega (arith, h .ready .room, marks .only .long);
             small = h .ready .small;
             fits = h .ready .fits;
-            good = subst (Good (s .plan .size)) (sym table-same) (h .ready .good);
           }
+
+      searched-still : Searched s w → Searched (stateTurned s near) v
+      searched-still = subst (Good (s .plan .size)) (sym table-same)
 
       pub settle-turned : (near ≡ 0 → ⊥) → StepHeld (settled (firsts s begin) (s .plan .lines)) s w (stateTurned s near) v
       settle-turned n =
@@ -251,7 +254,8 @@ module _ (s : SearchState) (w : List ℕ) (h : Standing s w) (begin : ℕ) where
           let size = s .plan .size in
           let tail = s .at .found in
           record {
-            now-held = turned-is ∙ sym (settled-turned (firsts s begin) (s .plan .lines) (underwayIn s w) (sym ends) (λ z. n (near-is ∙ z)));
+            now-held = λ g. turned-is ∙ sym (settled-turned (firsts s begin) (s .plan .lines) (underwayIn s w) (sym (ends g)) (λ z. n (near-is ∙ z)));
+            searched = searched-still;
             plan-same = refl;
             from-same = refl;
             front = only-front (marks .only);
@@ -280,18 +284,17 @@ module _ (s : SearchState) (program w : List ℕ) (h : Standing s w) where
   expand-none past = held-none _ _ h (expanded-end [] 0 (trace setting) (succs setting) (underwayIn s w) (none-waits s w h past))
 
   module _ (less : s .at .expanded < s .at .found) (t d u : ℕ) (v : List ℕ)
-      (is : t ≡ getD (queueIn s w) (s .at .expanded) 0) (word : d ≡ getD (wordsIn s w) t 0) (step : StepTraced (s .plan) (trace setting (d + 1) t) (s .at .found) w u v) where
+      (is : Searched s w → t ≡ getD (queueIn s w) (s .at .expanded) 0) (word : Searched s w → d ≡ suc (getD (wordsIn s w) t 0)) (step : StepTraced (s .plan) (trace setting d t) (s .at .found) w u v) where
     -- what stands after the tags is as it was
     late : (b n : ℕ) → howAt (s .plan) + u ≤ b → stretch b n v ≡ stretch b n w
     late b n = same-stretch (howAt (s .plan) + u) w v (step .back) b n
 
-    expanded-is : underwayIn (stateNext s u) v ≡ expandedBy s program w (underwayIn s w)
+    expanded-is : Searched s w → underwayIn (stateNext s u) v ≡ expandedBy s program w (underwayIn s w)
     unfolding underwayIn
-    expanded-is =
-        let one = expanded-one [] 0 (trace setting) (succs setting) (underwayIn s w) t _ (some-waits s w h less t is) in
-        let more : d + 1 ≡ suc (getD (wordsIn s w) t 0) = omega (arith, word) in
+    expanded-is g =
+        let one = expanded-one [] 0 (trace setting) (succs setting) (underwayIn s w) t _ (some-waits s w h less t (is g)) in
         let next : s .at .expanded + 1 ≡ suc (s .at .expanded) = omega arith in
-        let reached = step .now-reached ∙ ap (λ (n : ℕ). trace setting n t (reachedIn (s .plan) (s .at .found) w)) more in
+        let reached = step .now-reached g ∙ ap (λ (n : ℕ). trace setting n t (reachedIn (s .plan) (s .at .found) w)) (word g) in
         let marks = late (marksAt (s .plan)) (s .plan .size) (omega (arith, step .ready .fits)) in
         (λ i.
         record {
@@ -309,6 +312,7 @@ module _ (s : SearchState) (program w : List ℕ) (h : Standing s w) where
         let size = s .plan .size in
         record {
           now-held = expanded-is;
+          searched = step .good;
           plan-same = refl;
           from-same = refl;
           front = step .front;

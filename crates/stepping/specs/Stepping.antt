@@ -12,7 +12,7 @@ use Rattle.search.specs.Loaded.{settingAt}
 use Rattle.search.specs.Product.{succs}
 use Rattle.search.specs.Traced.{trace}
 use Rattle.area.specs.Area.{stretch}
-use Rattle.states.specs.Pairs.{ReadyBack}
+use Rattle.states.specs.Pairs.{RoomBack, GoodBack}
 use Rattle.states.specs.Spots.{Fit}
 use Rattle.forward.specs.Firsts.{firstStates}
 use Rattle.holding.specs.Holding.{InOrder, OfPlan}
@@ -56,14 +56,18 @@ module _ (s : SearchState) (program : List ℕ) where
 
 -- ---- what is asked
 
--- the numbers are in order, a search stands in the pair, and the four stretches stand in the area
+-- the numbers are in order, and the four stretches stand in the area, whatever words these have
 pub record Standing (s : SearchState) (w : List ℕ) : Type 0 where
   pub laid : Laid (s .plan) (length w)
   pub from-low : s .from < s .plan .places
   pub room : indexEnd (s .plan) ≤ length w
   pub order : InOrder (s .at)
   pub fits : OfPlan (s .plan .size) (s .plan .lines) (s .at)
-  pub ready : ReadyBack (s .plan) (s .at .found) w
+  pub ready : RoomBack (s .plan) (s .at .found) w
+
+-- a search stands in them
+abbrev pub Searched : SearchState → List ℕ → Type 0
+Searched s w = GoodBack (s .plan) (s .at .found) w
 
 -- the loaded tables fit; and the lines stand in order of the place that they lead to, or that they come from
 abbrev pub Fitting : SearchState → List ℕ → List ℕ → Type 0
@@ -79,10 +83,11 @@ pub record Ordering (s : SearchState) (program w : List ℕ) : Type 0 where
 
 -- ---- what is promised
 
--- from the state s in words w to the state r in words v: what is under way is F of what was, and only its own words and those of the four stretches
--- change; `end` is the first word that stays after these
+-- from the state s in words w to the state r in words v: only its own words and those of the four stretches change, `end` being the first word that
+-- stays after these; and where a search stands in w, what is under way is F of what was, and a search stands in v
 pub record Held (F : Underway → Underway) (end : ℕ) (s : SearchState) (w : List ℕ) (r : SearchState) (v : List ℕ) : Type 0 where
-  pub now-held : underwayIn r v ≡ F (underwayIn s w)
+  pub now-held : Searched s w → underwayIn r v ≡ F (underwayIn s w)
+  pub searched : Searched s w → Searched r v
   pub plan-same : r .plan ≡ s .plan
   pub from-same : r .from ≡ s .from
   pub front : take (s .plan .base) v ≡ take (s .plan .base) w
@@ -98,12 +103,12 @@ pub record Held (F : Underway → Underway) (end : ℕ) (s : SearchState) (w : L
 abbrev pub StepHeld : (Underway → Underway) → SearchState → List ℕ → SearchState → List ℕ → Type 0
 StepHeld F s w r v = Held F (indexAt (s .plan)) s w r v
 
--- so many turns are done; all of them, or `Done` holds of what is under way then; and before each the search had not ended
+-- so many turns are done; all of them, or `Done` holds of what is under way then; and before each the search, if it is one, had not ended
 pub record Turned (Done : Underway → Type 0) (end : ℕ) (s : SearchState) (program : List ℕ) (begin amount : ℕ) (w : List ℕ) (g : Going) (v : List ℕ) : Type 0 where
   pub few : g .left ≤ amount
   pub held : Held (takenByIn s program begin w (amount - g .left)) end s w (g .state) v
   pub done : 0 < g .left → Done (underwayIn (g .state) v)
-  pub going : (j : ℕ) → j < amount - g .left → atEnd (takenByIn s program begin w j (underwayIn s w)) ≡ false
+  pub going : Searched s w → (j : ℕ) → j < amount - g .left → atEnd (takenByIn s program begin w j (underwayIn s w)) ≡ false
 
 -- turns of one phase: no word after the four stretches changes
 module _ (s : SearchState) where
@@ -118,7 +123,7 @@ module _ (s : SearchState) where
   BackMoved = Turned (λ u. u .phase ≡ 0 → ⊥) (indexEnd (s .plan)) s
 
   abbrev pub ForthMoved : List ℕ → ℕ → ℕ → List ℕ → Going → List ℕ → Type 0
-  ForthMoved = Turned (λ u. (u .phase ≡ 0 → ⊥) → atEnd u ≡ true) (indexEnd (s .plan)) s
+  ForthMoved = Turned (λ u. (s .at .phase ≡ 0 → ⊥) → atEnd u ≡ true) (indexEnd (s .plan)) s
 
   -- both phases
   abbrev pub MovedOn : List ℕ → ℕ → ℕ → List ℕ → Going → List ℕ → Type 0

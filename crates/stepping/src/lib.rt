@@ -1,9 +1,10 @@
 // A search under way moved on: `Going` has the search state by value, and its methods take it and return it moved on. Phase one expands the states found until
-// nothing waits or a first state is met; then phase two sweeps over them, the last found first. Each turn takes up one state.
+// nothing waits or a first state is met; then phase two sweeps over them, the last found first. Each turn takes up one state. Whatever words the four
+// stretches have, no other word changes; where a search stands in them, it is moved on as it should be.
 ghost use mathlib.Core.Path.{_≡_};
-ghost use Prim.Native.Nat.{_<_};
+ghost use Prim.Native.Nat.{suc, _+_, _≤_, _<_};
 ghost use Rattle.graph.specs.Underway.{settled, goesOn, lastWord};
-ghost use Rattle.stepping.specs.Stepping.{underwayIn, firsts, expandedBy, takenIn, Standing, Fitting, Indexing, Ordering, StepHeld, BackBy, ForthBy, BackMoved, ForthMoved, MovedOn};
+ghost use Rattle.stepping.specs.Stepping.{underwayIn, firsts, expandedBy, takenIn, Standing, Searched, Fitting, Indexing, Ordering, StepHeld, BackBy, ForthBy, BackMoved, ForthMoved, MovedOn};
 use holding::Counters;
 use holding::SearchState;
 use sorted::Order;
@@ -18,7 +19,7 @@ pub struct Going {
 // The word of the state expanded last, 0 where none is.
 fn last_word(work: &[u32], s: SearchState) -> u32
     requires { ⌜ Standing s (now work) ⌝ }
-    ensures { λ r. ⌜ r ≡ lastWord (underwayIn s (now (work .entry))) ⌝ }
+    ensures { λ r. ⌜ (Searched s (now (work .entry)) → r ≡ lastWord (underwayIn s (now (work .entry)))) ⌝ }
 {
     let plan = s.plan;
     let at = s.at;
@@ -26,14 +27,14 @@ fn last_word(work: &[u32], s: SearchState) -> u32
         return 0;
     }
     let found = at.found as usize;
-    let t = area::waiting(work, plan.base, plan.size, found, at.expanded as usize - 1);
+    let t = area::waiting_checked(work, plan.base, plan.size, found, at.expanded as usize - 1);
     area::dist_at(work, plan.base, plan.size, found, t)
 }
 
 // Does a state wait, and is no first state as near as it?
 fn goes_on(work: &[u32], s: SearchState, begin: u64) -> bool
     requires { ⌜ Standing s (now work) ⌝ }
-    ensures { λ r. ⌜ r ≡ goesOn (firsts s begin) (s .plan .lines) (underwayIn s (now (work .entry))) ⌝ }
+    ensures { λ r. ⌜ (Searched s (now (work .entry)) → r ≡ goesOn (firsts s begin) (s .plan .lines) (underwayIn s (now (work .entry)))) ⌝ }
 {
     let plan = s.plan;
     let at = s.at;
@@ -41,7 +42,7 @@ fn goes_on(work: &[u32], s: SearchState, begin: u64) -> bool
         return false;
     }
     let found = at.found as usize;
-    let t = area::waiting(work, plan.base, plan.size, found, at.expanded as usize);
+    let t = area::waiting_checked(work, plan.base, plan.size, found, at.expanded as usize);
     let d = area::dist_at(work, plan.base, plan.size, found, t);
     let last = last_word(work, s);
     !backward::first_met(work, plan, begin, s.from, d, last)
@@ -72,6 +73,18 @@ pub fn settle(work: &mut [u32], s: SearchState, begin: u64) -> SearchState
     SearchState { plan, from, at }
 }
 
+// The word of states one farther than those with the word `d`, where `found` states are found. In a search no word is above that count; in an area
+// that was altered it can be any number.
+fn farther(d: u32, found: usize) -> u32
+    requires { ⌜ found < 4294967295 ⌝ }
+    ensures { λ r. ⌜ (0 < r) × (r ≤ suc found) × (d ≤ found → r ≡ d + 1) ⌝ }
+{
+    if found < d as usize {
+        return 1;
+    }
+    d + 1
+}
+
 // The next state that waits, if any, is expanded.
 fn expand_next(work: &mut [u32], s: SearchState, program: &[u64; 128]) -> SearchState
     requires { ⌜ Standing s (now work) × Indexing s (now program) (now work) ⌝ }
@@ -84,9 +97,9 @@ fn expand_next(work: &mut [u32], s: SearchState, program: &[u64; 128]) -> Search
         return s;
     }
     let found = at.found as usize;
-    let t = area::waiting(work, plan.base, plan.size, found, at.expanded as usize);
+    let t = area::waiting_checked(work, plan.base, plan.size, found, at.expanded as usize);
     let d = area::dist_at(work, plan.base, plan.size, found, t);
-    let more = tracing::expand_traced(work, plan, program, d + 1, t, found);
+    let more = tracing::expand_traced(work, plan, program, farther(d, found), t, found);
     at.expanded = at.expanded + 1;
     at.found = more as u32;
     SearchState { plan, from, at }
@@ -106,7 +119,7 @@ fn back_one(work: &mut [u32], s: SearchState, program: &[u64; 128], begin: u64) 
 fn forth_one(work: &mut [u32], s: SearchState, program: &[u64; 128], begin: u64) -> SearchState
     requires { ⌜ Standing s (now work) × Ordering s (now program) (now work) ⌝ }
     requires { ⌜ (s .at .phase ≡ 1) × (1 < s .at .rest) ⌝ }
-    ensures { λ r. ⌜ StepHeld (takenIn s (now (program .entry)) begin (now (work .entry))) s (now (work .entry)) r (now (work .exit)) ⌝ }
+    ensures { λ r. ⌜ StepHeld (takenIn s (now (program .entry)) begin (now (work .entry))) s (now (work .entry)) r (now (work .exit)) × (r .at .phase ≡ 1) ⌝ }
 {
     let plan = s.plan;
     let from = s.from;

@@ -15,7 +15,7 @@ use Rattle.search.specs.Loaded.{settingAt}
 use Rattle.search.specs.Moves.{onward}
 use Rattle.search.specs.Product.{Setting, succs}
 use Rattle.area.specs.Area.{stretch}
-use Rattle.states.specs.Pairs.{distances}
+use Rattle.states.specs.Pairs.{distances, GoodBack}
 use Rattle.states.specs.Spots.{front}
 use Rattle.sorted.specs.Sorting.{sortedEnd, Sorted}
 use Rattle.sorted.specs.declared.Order.the-variants as Order
@@ -96,9 +96,9 @@ pub record TakenUp (plan : Plan) (S : Setting) (s d : ℕ) (at : Sweeping) (w : 
 abbrev pub sweepIn : Plan → Sweeping → List ℕ → Sweep
 sweepIn plan at w = record { rest = at .rest; chosen = at .chosen; noted = notedIn plan (at .noted) w }
 
--- by the queue's `tail` words
+-- by the queue's `tail` words, where a search stands in the pair
 pub record SweptTo (plan : Plan) (S : Setting) (tail : ℕ) (at : Sweeping) (w : List ℕ) (r : Sweeping) (v : List ℕ) : Type 0 where
-  pub now-swept : sweepIn plan r v ≡ back (distances plan w) (succs S) (plan .lines) (stretch (plan .base + plan .size) tail w) (sweepIn plan at w)
+  pub now-swept : GoodBack plan tail w → sweepIn plan r v ≡ back (distances plan w) (succs S) (plan .lines) (stretch (plan .base + plan .size) tail w) (sweepIn plan at w)
   pub rest-is : suc (r .rest) ≡ at .rest
   pub chosen-low : r .chosen ≤ plan .lines
   pub noted-low : r .noted ≤ plan .lines

@@ -10,7 +10,7 @@ ghost use Rattle.graph.specs.Loops.{turns};
 ghost use Rattle.request.specs.Layout.{Laid};
 ghost use Rattle.search.specs.Front.{stateIn};
 ghost use Rattle.search.specs.Loaded.{settingAt};
-ghost use Rattle.states.specs.Pairs.{distances, ReadyBack};
+ghost use Rattle.states.specs.Pairs.{distances, RoomBack};
 ghost use Rattle.states.specs.Spots.{front, Fit, nextTurn};
 ghost use Rattle.forward.specs.Leads.{SomeLead};
 ghost use Rattle.sweeping.specs.Sweeping.{indexAt, Ordered, markTurn, firstTurn, Marked, LineMarked, LedOn, TakenUp, SweptTo, FirstsMarked};
@@ -190,15 +190,15 @@ pub fn sweep_state(
     tail: usize,
     at: Sweeping,
 ) -> Sweeping
-    requires { ⌜ ReadyBack plan tail (now work) ⌝ }
+    requires { ⌜ RoomBack plan tail (now work) ⌝ }
     requires { ⌜ Fit plan (now program) (now work) × Ordered plan (now work) ⌝ }
     requires { ⌜ (1 < at .rest) × (at .rest ≤ tail) × (at .chosen ≤ plan .lines) × (at .noted ≤ plan .lines) ⌝ }
     ensures { λ r. ⌜ SweptTo plan (settingAt (now (program .entry)) plan (now (work .entry))) tail at (now (work .entry)) r (now (work .exit)) ⌝ }
 {
     let rest = at.rest - 1;
-    let s = area::waiting(work, plan.base, plan.size, tail, rest);
+    let s = area::waiting_checked(work, plan.base, plan.size, tail, rest);
     let w = area::dist_at(work, plan.base, plan.size, tail, s);
-    let before = area::waiting(work, plan.base, plan.size, tail, rest - 1);
+    let before = area::waiting_checked(work, plan.base, plan.size, tail, rest - 1);
     let level = area::dist_at(work, plan.base, plan.size, tail, before);
     let noted = take_up(work, plan, program, s, w, at);
     if level == w {

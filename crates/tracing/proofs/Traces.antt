@@ -14,7 +14,8 @@ use Rattle.graph.specs.Trace.{Reached, tagged}
 use Rattle.area.specs.Area.{stretch, patch, found, outside, Outside}
 use Rattle.area.proofs.Stretches.{stretch-length, stretch-take, patch-length, patch-same, patch-take, patch-drop}
 use Rattle.area.proofs.Changes.{turns-none, turns-next, ready-long}
-use Rattle.states.specs.Pairs.{ReadyBack, StepBack}
+use Rattle.area.proofs.Anyhow.{ready-of}
+use Rattle.states.specs.Pairs.{RoomBack, StepBackAny, GoodBack}
 use Rattle.sorted.specs.Runs.{same-stretch, sorted-same}
 use Rattle.sorted.specs.declared.Order.the-variants as Order
 use Rattle.expanding.specs.Undoing.{Undoing}
@@ -53,7 +54,7 @@ stretch-end b n k w h room =
 
 -- ---- a step, and the tags after it
 
-module _ (plan : Plan) (tag : ℕ) (f : Search → Search) (t u : ℕ) (w v : List ℕ) (s : StepBack plan f t w u v) (was : ReadyBack plan t w) (room : plan .base + 3 * plan .size ≤ length w) where
+module _ (plan : Plan) (tag : ℕ) (f : Search → Search) (t u : ℕ) (w v : List ℕ) (s : StepBackAny plan f t w u v) (was : RoomBack plan t w) (room : plan .base + 3 * plan .size ≤ length w) where
   -- the first tag, and the area with the tags written
   abbrev at : ℕ
   at = howAt plan + t
@@ -106,32 +107,34 @@ module _ (plan : Plan) (tag : ℕ) (f : Search → Search) (t u : ℕ) (w v : Li
   pub traced : StepTraced plan (tagged tag f) t w u z
   unfolding tagged reachedIn outside
   traced =
-      let now : found (plan .base) (plan .size) u z ≡ f (found (plan .base) (plan .size) t w) = same-found ∙ s .now-found in
-      let new : u - t ≡ length (f (found (plan .base) (plan .size) t w) .queue) - length (found (plan .base) (plan .size) t w .queue) =
-      omega (arith, ready-long was, sym (ap (λ (x : Search). length (x .queue)) (s .now-found)) ∙ ready-long (s .ready)) in
+      let now : GoodBack plan t w → found (plan .base) (plan .size) u z ≡ f (found (plan .base) (plan .size) t w) = λ g. same-found ∙ s .sound g .now-found in
+      let new : GoodBack plan t w → u - t ≡ length (f (found (plan .base) (plan .size) t w) .queue) - length (found (plan .base) (plan .size) t w .queue) =
+      λ g. omega (arith, ready-long (ready-of was g), sym (ap (λ (x : Search). length (x .queue)) (s .sound g .now-found)) ∙ ready-long (s .sound g .ready)) in
       let end = plan .base + plan .size + u in
       let near : plan .base ≤ at = omega arith in
       record {
-        now-reached = λ i. record { table = now i; how = (how-is ∙ ap (λ n. stretch (howAt plan) t w ++ replicate n tag) new) i };
+        now-reached = λ g i. record { table = now g i; how = (how-is ∙ ap (λ n. stretch (howAt plan) t w ++ replicate n tag) (new g)) i };
+        good = λ g. rw same-found (s .sound g .ready .good);
         front = sym (take-take (plan .base) at z near) ∙ (ap (take (plan .base)) head-same ∙ (take-take (plan .base) at v near ∙ ap (λ (o : Outside). o .front) (s .same)));
         gap = early end (plan .size - u) (omega (arith, s .ready .fits)) ∙ same-stretch end w v behind end (plan .size - u) (omega arith);
         back = tail-same;
         long = long-z ∙ s .long;
         grows = s .grows;
-        ready = record { room = omega (arith, s .ready .room, long-z); small = s .ready .small; fits = s .ready .fits; good = rw same-found (s .ready .good) };
+        ready = record { room = omega (arith, s .ready .room, long-z); small = s .ready .small; fits = s .ready .fits };
       }
 
 -- ---- a loop under way
 
 -- from words w₀ with t₀ in the queue F is to be done; at w with t in the queue G of it is left
 pub record UnderTraced (plan : Plan) (F : Reached → Reached) (t₀ : ℕ) (w₀ : List ℕ) (G : Reached → Reached) (t : ℕ) (w : List ℕ) : Type 0 where
-  pub rest : G (reachedIn plan t w) ≡ F (reachedIn plan t₀ w₀)
+  pub rest : GoodBack plan t₀ w₀ → G (reachedIn plan t w) ≡ F (reachedIn plan t₀ w₀)
+  pub good : GoodBack plan t₀ w₀ → GoodBack plan t w
   pub front : take (plan .base) w ≡ take (plan .base) w₀
   pub gap : stretch (plan .base + plan .size + t) (plan .size - t) w ≡ stretch (plan .base + plan .size + t) (plan .size - t) w₀
   pub back : drop (howAt plan + t) w ≡ drop (howAt plan + t) w₀
   pub long : length w ≡ length w₀
   pub grows : t₀ ≤ t
-  pub ready : ReadyBack plan t w
+  pub ready : RoomBack plan t w
 
 -- where more waits, fewer words are left
 gap-later : (plan : Plan) (t u : ℕ) (w v : List ℕ) → t ≤ u → u ≤ plan .size → plan .base + 2 * plan .size ≤ length w → length w ≡ length v
@@ -155,22 +158,23 @@ module _ {plan : Plan} where
   -- a step by G is one by F, where the two do the same here
   pub traced-as : (F : Reached → Reached) {G : Reached → Reached} {t : ℕ} {w : List ℕ} {u : ℕ} {v : List ℕ}
       → StepTraced plan G t w u v → F (reachedIn plan t w) ≡ G (reachedIn plan t w) → StepTraced plan F t w u v
-  traced-as F s e = record { now-reached = s .now-reached ∙ sym e; front = s .front; gap = s .gap; back = s .back; long = s .long; grows = s .grows; ready = s .ready }
+  traced-as F s e = record { now-reached = λ g. s .now-reached g ∙ sym e; good = s .good; front = s .front; gap = s .gap; back = s .back; long = s .long; grows = s .grows; ready = s .ready }
 
   -- no step is one by F, where F does nothing here
-  pub traced-none : (F : Reached → Reached) {t : ℕ} {w : List ℕ} → ReadyBack plan t w → F (reachedIn plan t w) ≡ reachedIn plan t w → StepTraced plan F t w t w
-  traced-none F r e = record { now-reached = sym e; front = refl; gap = refl; back = refl; long = refl; grows = omega arith; ready = r }
+  pub traced-none : (F : Reached → Reached) {t : ℕ} {w : List ℕ} → RoomBack plan t w → F (reachedIn plan t w) ≡ reachedIn plan t w → StepTraced plan F t w t w
+  traced-none F r e = record { now-reached = λ _. sym e; good = λ g. g; front = refl; gap = refl; back = refl; long = refl; grows = omega arith; ready = r }
 
   -- where it starts, with what is to be done said in another way
-  pub loop-start : (F G : Reached → Reached) {t : ℕ} {w : List ℕ} → ReadyBack plan t w → G (reachedIn plan t w) ≡ F (reachedIn plan t w) → UnderTraced plan F t w G t w
-  loop-start F G r e = record { rest = e; front = refl; gap = refl; back = refl; long = refl; grows = omega arith; ready = r }
+  pub loop-start : (F G : Reached → Reached) {t : ℕ} {w : List ℕ} → RoomBack plan t w → G (reachedIn plan t w) ≡ F (reachedIn plan t w) → UnderTraced plan F t w G t w
+  loop-start F G r e = record { rest = λ _. e; good = λ g. g; front = refl; gap = refl; back = refl; long = refl; grows = omega arith; ready = r }
 
   module _ {F : Reached → Reached} {t₀ : ℕ} {w₀ : List ℕ} (f : ℕ → Reached → Reached) (i n : ℕ) {t : ℕ} {w : List ℕ} (l : UnderTraced plan F t₀ w₀ (turns f i (n - i)) t w) where
     -- a turn
     pub loop-turn : {t′ : ℕ} {w′ : List ℕ} → i < n → StepTraced plan (f i) t w t′ w′ → UnderTraced plan F t₀ w₀ (turns f (i + 1) (n - (i + 1))) t′ w′
     loop-turn {t′} {w′} h s =
         record {
-          rest = ap (turns f (i + 1) (n - (i + 1))) (s .now-reached) ∙ (turns-next f i n _ h ∙ l .rest);
+          rest = λ g. ap (turns f (i + 1) (n - (i + 1))) (s .now-reached (l .good g)) ∙ (turns-next f i n _ h ∙ l .rest g);
+          good = λ g. s .good (l .good g);
           front = s .front ∙ l .front;
           gap = s .gap ∙ gap-later plan t t′ w w₀ (s .grows) (s .ready .fits) (omega (arith, l .ready .room)) (l .long) (l .gap);
           back = s .back ∙ back-later (howAt plan + t) (howAt plan + t′) w w₀ (omega (arith, s .grows)) (l .back);
@@ -182,7 +186,7 @@ module _ {plan : Plan} where
     -- where it ends
     pub loop-end : n ≤ i → StepTraced plan F t₀ w₀ t w
     loop-end h =
-        record { now-reached = sym (turns-none f i n _ h) ∙ l .rest; front = l .front; gap = l .gap; back = l .back; long = l .long; grows = l .grows; ready = l .ready }
+        record { now-reached = λ g. sym (turns-none f i n _ h) ∙ l .rest g; good = l .good; front = l .front; gap = l .gap; back = l .back; long = l .long; grows = l .grows; ready = l .ready }
 
   -- ---- what it goes by stays
 

@@ -11,7 +11,7 @@ use Rattle.request.specs.declared.Plan.{Plan}
 use Rattle.graph.specs.Loops.{turns}
 use Rattle.graph.specs.Trace.{Reached, tagOf, tagged}
 use Rattle.area.specs.Area.{stretch, found}
-use Rattle.states.specs.Pairs.{ReadyBack}
+use Rattle.states.specs.Pairs.{RoomBack, GoodBack}
 use Rattle.states.specs.Spots.{spotIn, lineTurn}
 use Rattle.states.specs.declared.Target.{Target}
 use Rattle.sorted.specs.Sorting.{sortedEnd, Sorted}
@@ -38,9 +38,11 @@ pub record Indexed (plan : Plan) (w : List ℕ) : Type 0 where
 unfoldable pub reachedIn : Plan → ℕ → List ℕ → Reached
 reachedIn plan tail w = record { table = found (plan .base) (plan .size) tail w; how = stretch (howAt plan) tail w }
 
--- from words w with t in the queue to words v with u in it: what is reached is F of what was reached, and every other word is as it was
+-- from words w with t in the queue to words v with u in it, whatever words these are: every word that is not of the search is as it was; and where a
+-- search stands in w, what is reached is F of what was reached, and a search stands in v
 pub record StepTraced (plan : Plan) (F : Reached → Reached) (t : ℕ) (w : List ℕ) (u : ℕ) (v : List ℕ) : Type 0 where
-  pub now-reached : reachedIn plan u v ≡ F (reachedIn plan t w)
+  pub now-reached : GoodBack plan t w → reachedIn plan u v ≡ F (reachedIn plan t w)
+  pub good : GoodBack plan t w → GoodBack plan u v
   pub front : take (plan .base) v ≡ take (plan .base) w
   -- the queue's words that are not used yet
   pub gap : stretch (plan .base + plan .size + u) (plan .size - u) v ≡ stretch (plan .base + plan .size + u) (plan .size - u) w
@@ -48,7 +50,7 @@ pub record StepTraced (plan : Plan) (F : Reached → Reached) (t : ℕ) (w : Lis
   pub back : drop (howAt plan + u) v ≡ drop (howAt plan + u) w
   pub long : length v ≡ length w
   pub grows : t ≤ u
-  pub ready : ReadyBack plan u v
+  pub ready : RoomBack plan u v
 
 -- ---- what is done
 

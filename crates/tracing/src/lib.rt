@@ -8,7 +8,7 @@ ghost use Rattle.request.specs.Layout.{Laid};
 ghost use Rattle.search.specs.Loaded.{settingAt, codeAt};
 ghost use Rattle.search.specs.Traced.{trace};
 ghost use Rattle.area.specs.Area.{patch};
-ghost use Rattle.states.specs.Pairs.{ReadyBack};
+ghost use Rattle.states.specs.Pairs.{RoomBack};
 ghost use Rattle.states.specs.Spots.{front, Aimed, Starts, Fit, Sane};
 ghost use Rattle.expanding.specs.Undoing.{Undoing, LeadsTo};
 ghost use Rattle.tracing.specs.Tracing.{StepTraced, Indexed, lineTraced, intoTraced, spotTraced};
@@ -138,7 +138,7 @@ fn spot_traced(
     parent: usize,
     tail: usize,
 ) -> usize
-    requires { ⌜ ReadyBack plan tail (now work) ⌝ }
+    requires { ⌜ RoomBack plan tail (now work) ⌝ }
     requires { ⌜ Fit plan (now program) (now work) × Indexed plan (now work) ⌝ }
     requires { ⌜ Aimed plan target × (parent < plan .size) ⌝ }
     requires { ⌜ (0 < d) × (d ≤ suc tail) × (c < plan .done) × (bitOf (followAt (now program) c) (target .position) ≡ 1) ⌝ }
@@ -159,7 +159,7 @@ pub fn expand_traced(
     t: usize,
     tail: usize,
 ) -> usize
-    requires { ⌜ ReadyBack plan tail (now work) ⌝ }
+    requires { ⌜ RoomBack plan tail (now work) ⌝ }
     requires { ⌜ Fit plan (now program) (now work) × Indexed plan (now work) ⌝ }
     requires { ⌜ (0 < d) × (d ≤ suc tail) × (t < plan .size) ⌝ }
     ensures { λ r. ⌜ StepTraced plan (trace (settingAt (now (program .entry)) plan (now (work .entry))) d t) tail (now (work .entry)) r (now (work .exit)) ⌝ }

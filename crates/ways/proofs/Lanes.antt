@@ -42,11 +42,14 @@ module _ (B : ℕ → ℕ) (lane : Lane) (d e : ℕ) (st : Search) where
       go false = refl
 
 -- a word after the queue's last is as it was
+pub back-word : (p : ℕ) (w v : List ℕ) → drop p w ≡ drop p v → getD w p 0 ≡ getD v p 0
+back-word p w v e =
+    let at : (l : List ℕ) → getD (drop p l) 0 0 ≡ getD l p 0 = λ l. getD-drop p l 0 0 ∙ ap (λ n. getD l n 0) (add-zero p) in
+    sym (at w) ∙ (ap (λ l. getD l 0 0) e ∙ at v)
+
 pub under-word : {base size : ℕ} {F : Search → Search} {t₀ : ℕ} {w₀ : List ℕ} {G : Search → Search} {t : ℕ} {w : List ℕ}
     → Under base size F t₀ w₀ G t w → (p : ℕ) → base + size + t ≤ p → getD w p 0 ≡ getD w₀ p 0
-under-word {w₀ = w₀} {w = w} u p le =
-    let at : (l : List ℕ) → getD (drop p l) 0 0 ≡ getD l p 0 = λ l. getD-drop p l 0 0 ∙ ap (λ n. getD l n 0) (add-zero p) in
-    sym (at w) ∙ (ap (λ l. getD l 0 0) (under-back u p le) ∙ at w₀)
+under-word {w₀ = w₀} {w = w} u p le = back-word p w w₀ (under-back u p le)
 
 -- a word of a stretch is in it
 pub stretch-word : (w : List ℕ) (lo hi p : ℕ) → hi ≤ length w → lo ≤ p → p < hi → getD w p 0 ∈ stretch lo (hi - lo) w

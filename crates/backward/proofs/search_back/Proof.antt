@@ -10,6 +10,7 @@ use Rattle.states.specs.Spots.{front, Fit}
 use Rattle.expanding.proofs.Backs.{backing-under}
 use Rattle.backward.proofs.Stopping.{met-near, Going, going-start, going-end, going-met, going-next}
 use Rattle.area.proofs.Changes.{step-under, under-front}
+use Rattle.area.proofs.Anyhow.{room-of}
 use borrow.Author.Needs.{needs}
 use Rattle.backward.proofs.search_back.Statement.{statement}
 use Rattle.backward.proofs.search_back.Tie as tie
@@ -33,7 +34,7 @@ waiting-requires : tie.Need-waiting-requires Inv-loop μ-loop
 waiting-requires c κs = (c .before .before .loop .inv .step .ready, omega arith)
 
 dist-at-requires : tie.Need-dist-at-requires Inv-loop μ-loop
-dist-at-requires c κs = (c .before .before .before .before .loop .inv .step .ready, c .before .waiting .ensures .1)
+dist-at-requires c κs = (room-of (c .before .before .before .before .loop .inv .step .ready), c .before .waiting .ensures .1)
 
 first-met-requires : tie.Need-first-met-requires Inv-loop μ-loop
 first-met-requires c κs = let a = c .before .before .before .before .before .before .before .before in (backing-under (step-under (c .before .before .before .before .before .before .loop .inv .step)) (a .pre .1 .0) .fit .laid, a .pre .1 .1)
@@ -47,12 +48,12 @@ returns c =
     going-met (c .before .before .before .before .before .before .before .before .loop .inv) _ _ (c .before .before .before .before .before .before .before .loop-test .taken) (c .before .before .before .before .before .waiting .ensures .0) (c .before .before .before .dist-at .ensures .0) _ any near
 
 add-expand-state : tie.Need-add-expand-state Inv-loop μ-loop
-add-expand-state c = omega (arith, c .before .before .before .before .dist-at .ensures .1, c .before .before .before .before .before .before .before .before .before .loop .inv .step .ready .fits, fit (c .before .before .before .before .before .before .before .before .before .before .before) .laid .small)
+add-expand-state c = let ready = c .before .before .before .before .before .before .before .before .before .loop .inv .step .ready in omega (arith, c .before .before .before .before .dist-at .ensures .1 (ready .good), ready .fits, fit (c .before .before .before .before .before .before .before .before .before .before .before) .laid .small)
 
 expand-state-requires : tie.Need-expand-state-requires Inv-loop μ-loop
 expand-state-requires c κs =
     let step = c .before .before .before .before .before .before .before .before .before .loop .inv .step in
-    (step .ready, (backing-under (step-under step) (c .before .before .before .before .before .before .before .before .before .before .before .pre .1 .0), (omega arith, omega (arith, c .before .before .before .before .dist-at .ensures .1), c .before .before .before .before .before .before .waiting .ensures .1)))
+    (step .ready, (backing-under (step-under step) (c .before .before .before .before .before .before .before .before .before .before .before .pre .1 .0), (omega arith, omega (arith, c .before .before .before .before .dist-at .ensures .1 (step .ready .good)), c .before .before .before .before .before .before .waiting .ensures .1)))
 
 add-head : tie.Need-add-head Inv-loop μ-loop
 add-head c = omega (arith, c .before .before .before .before .before .before .before .before .before .before .before .loop-test .taken, c .before .before .before .before .before .before .before .before .before .before .before .before .loop .inv .step .ready .fits, fit (c .before .before .before .before .before .before .before .before .before .before .before .before .before .before) .laid .small)

@@ -17,6 +17,7 @@ use Rattle.states.specs.Spots.{front}
 use Rattle.search.specs.Front.{goal-in}
 use Rattle.states.proofs.Bounds.{stacks-pos}
 use Rattle.area.proofs.Changes.{cleared-under}
+use Rattle.area.proofs.Anyhow.{room-of}
 use Rattle.forward.specs.Firsts.{firstStates}
 use Rattle.checker.specs.Walk.{seeded, walked, marks, Advanced}
 use Rattle.states.proofs.Bounds.{fit-same}
@@ -68,7 +69,7 @@ state-at-requires c κs =
     ((l .size-is, l .small, l .few-positions), (omega (arith, a .pre .1 .1 .0, a .pre .1 .1 .1), omega arith, stacks-pos l))
 
 dist-at-requires : tie.Need-dist-at-requires
-dist-at-requires c κs = (c .before .before .before .before .run-chain .ensures .alive .ready, c .before .state-at .ensures .1)
+dist-at-requires c κs = (room-of (c .before .before .before .before .run-chain .ensures .alive .ready), c .before .state-at .ensures .1)
 
 -- ---- the reply
 

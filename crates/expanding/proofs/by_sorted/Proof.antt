@@ -6,6 +6,7 @@ use Rattle.graph.specs.Loops.{turns}
 use Rattle.area.specs.Area.{found}
 use Rattle.states.specs.Spots.{boatsIn}
 use Rattle.area.proofs.Changes.{step-as}
+use Rattle.area.proofs.Anyhow.{room-of}
 use Rattle.ways.proofs.Lanes.{found-long}
 use Rattle.expanding.specs.Undoing.{wordUndone}
 use Rattle.expanding.proofs.Undone.{by-word, undo-power, undo-leads, undo-goes, undo-fits}
@@ -25,7 +26,7 @@ over-stacked-requires c κs =
     let is = c .before .before .before .undo-of .ensures in
     let b = a .pre .1 .1 .0 in
     let (some, near) = a .pre .1 .1 .1 .0 in
-    (undo-goes b is (a .pre .0) (a .pre .1 .0 .0) some near, (c .before .lines-for .ensures .words, undo-leads b is))
+    (undo-goes b is (room-of (a .pre .0)) (a .pre .1 .0 .0) some near, (c .before .lines-for .ensures .words, undo-leads b is))
 
 same-length : tie.Need-same-length
 same-length c = search needs
@@ -40,7 +41,7 @@ returns c =
     let lo = run .result .lo in
     let n = run .result .hi - lo in
     let st = found (x .plan .base) (x .plan .size) (x .tail) w in
-    step-as _ (c .before .before .over-stacked .ensures)
+    step-as _ (c .before .before .over-stacked .ensures .sound (a .pre .0 .good))
     (run .ensures .same (x .d) (x .c) _ (a .pre .1 .1 .1 .0 .0) (b .position-low) (undo-fits b) st (found-long (x .plan .base) (x .plan .size) (x .tail) w (a .pre .0))
     ∙ (by-word (x .plan) (x .spot) (x .target) (x .d) (x .c) (x .leaves) st (boatsIn (x .plan) w) w lo n ∙ sym (ap (λ u. turns (λ p. wordUndone (x .plan) u (boatsIn (x .plan) w) (x .c) (getD w p 0)) lo n st) (c .before .before .before .before .before .before .undo-of .ensures))))
 

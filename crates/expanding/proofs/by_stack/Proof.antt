@@ -4,6 +4,7 @@ use Rattle.graph.specs.Loops.{turns}
 use Rattle.area.specs.Area.{found}
 use Rattle.states.specs.Spots.{front}
 use Rattle.area.proofs.Changes.{step-as}
+use Rattle.area.proofs.Anyhow.{room-of}
 use Rattle.expanding.specs.Undoing.{lineUndone}
 use Rattle.expanding.proofs.Undone.{by-line, undo-power, undo-leads, undo-goes}
 use borrow.Author.Needs.{needs}
@@ -19,17 +20,18 @@ over-lines-requires c κs =
     let is = c .before .undo-of .ensures in
     let b = a .pre .1 .1 .0 in
     let (some, near) = a .pre .1 .1 .1 in
-    (undo-goes b is (a .pre .0) (a .pre .1 .0 .0) some near, (a .pre .1 .0 .1 .starts, undo-leads b is))
+    (undo-goes b is (room-of (a .pre .0)) (a .pre .1 .0 .0) some near, (a .pre .1 .0 .1 .starts, undo-leads b is))
 
 same-length : tie.Need-same-length
 same-length c = search needs
 
 returns : tie.Need-returns
 returns c =
-    let x = c .before .before .before .before .before .before .args in
+    let a = c .before .before .before .before .before .before in
+    let x = a .args in
     let g = front (x .plan) (x .work .now) in
     let st = found (x .plan .base) (x .plan .size) (x .tail) (x .work .now) in
-    step-as _ (c .before .before .over-lines .ensures)
+    step-as _ (c .before .before .over-lines .ensures .sound (a .pre .0 .good))
     (by-line (x .plan) (x .spot) (x .target) (x .d) (x .c) (x .leaves) st g ∙ sym (ap (λ u. turns (lineUndone (x .plan) u g (x .target .place) (x .c)) 0 (x .plan .lines) st) (c .before .before .before .before .undo-of .ensures)))
 
 pub by-stack-spec : {M : Type 1} → statement M

@@ -6,7 +6,7 @@ use Rattle.request.specs.Layout.{fromIn, toIn, kindIn}
 use Rattle.search.specs.Loaded.{wordAt}
 use Rattle.states.specs.Spots.{front}
 use Rattle.states.proofs.Bounds.{word-front, code-front, stacks-pos}
-use Rattle.area.proofs.Changes.{step-as, step-none}
+use Rattle.area.proofs.Anyhow.{step-as, step-none}
 use Rattle.expanding.proofs.Undone.{home-in, line-elsewhere, line-other-kind, line-taken}
 use borrow.Author.Needs.{needs}
 use Rattle.expanding.proofs.one_line.Statement.{statement}

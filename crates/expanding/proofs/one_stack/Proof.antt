@@ -2,7 +2,7 @@
 use mathlib.Core.Path.{sym, _∙_}
 use native.Mathlib.Omega.{arith}
 use Rattle.states.proofs.Bounds.{off-le}
-use Rattle.area.proofs.Changes.{step-as, step-none}
+use Rattle.area.proofs.Anyhow.{step-as, step-none}
 use Rattle.expanding.proofs.Backs.{stack-taken, stack-refused, stack-other}
 use borrow.Author.Needs.{needs}
 use Rattle.expanding.proofs.one_stack.Statement.{statement}

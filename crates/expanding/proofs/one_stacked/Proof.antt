@@ -4,7 +4,7 @@ use mathlib.Core.Path.{sym, subst}
 use Prim.Native.Nat.{_/_, _<_}
 use Rattle.sorted.specs.Sorting.{packBy}
 use Rattle.states.proofs.Bounds.{stacks-pos}
-use Rattle.area.proofs.Changes.{step-as}
+use Rattle.area.proofs.Anyhow.{step-as}
 use Rattle.expanding.proofs.Undone.{home-in, word-is}
 use borrow.Author.Needs.{needs}
 use Rattle.expanding.proofs.one_stacked.Statement.{statement}

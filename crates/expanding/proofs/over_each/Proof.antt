@@ -5,10 +5,10 @@ use native.Mathlib.Omega.{arith}
 use Rattle.request.specs.Layout.{Laid}
 use Rattle.graph.specs.Loops.{turns}
 use Rattle.graph.specs.Table.{Search}
-use Rattle.area.specs.Area.{found, Under}
+use Rattle.area.specs.Area.{found, UnderAny}
 use Rattle.states.specs.Spots.{boatsIn, stackAt, stackTurn}
-use Rattle.states.proofs.Bounds.{boats-under}
-use Rattle.area.proofs.Changes.{loop-start, step-as, loop-turn, loop-end}
+use Rattle.states.proofs.Bounds.{boats-front}
+use Rattle.area.proofs.Anyhow.{loop-start, step-as, loop-turn, loop-end, under-front}
 use Rattle.expanding.specs.Undoing.{undone}
 use borrow.Author.Needs.{needs}
 use Rattle.expanding.proofs.over_each.Statement.{statement}
@@ -16,7 +16,7 @@ use Rattle.expanding.proofs.over_each.Tie as tie
 
 abbrev Inv-loop : tie.InvT-loop
 Inv-loop work₀ plan undo home code tail spot count t₀ x₀ work t x =
-    (x ≤ undo .count) × Under (plan .base) (plan .size) (undone plan undo (boatsIn plan work₀) home code) tail work₀ (turns (stackTurn (boatsIn plan work₀) (plan .radix) (undo .spot) (undo .d) home code (undo .weight) (undo .stack)) x (undo .count - x)) t work
+    (x ≤ undo .count) × UnderAny (plan .base) (plan .size) (undone plan undo (boatsIn plan work₀) home code) tail work₀ (turns (stackTurn (boatsIn plan work₀) (plan .radix) (undo .spot) (undo .d) home code (undo .weight) (undo .stack)) x (undo .count - x)) t work
 
 abbrev μ-loop : tie.MeasureT-loop
 μ-loop work₀ plan undo home code tail spot count t₀ x₀ work t x = undo .count - x
@@ -50,7 +50,7 @@ loop-again c =
     let l = c .before .before .before .before .before .before .before .loop in
     let v = l .x * x .undo .weight + x .undo .stack in
     let here = found (x .plan .base) (x .plan .size) (l .t) (l .work) in
-    let boats = boats-under (x .plan) (l .inv .1) in
+    let boats = boats-front (x .plan) (l .work) (x .work .now) (under-front (l .inv .1) (x .plan .base) (omega arith)) in
     let turn : (ℕ → ℕ) → Search → Search = λ B. stackAt B (x .plan .radix) (x .undo .spot) (x .undo .d) (x .home) (x .code) v in
     let step = step-as (turn (boatsIn (x .plan) (x .work .now))) (c .before .before .one-stack .ensures) (λ i. turn (sym boats i) here) in
     (omega arith, loop-turn _ _ _ (l .inv .1) (c .before .before .before .before .before .before .loop-test .taken) step)

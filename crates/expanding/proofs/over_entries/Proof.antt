@@ -4,8 +4,8 @@ use native.Mathlib.Nat.{zero-mul}
 use native.Mathlib.Omega.{arith}
 use Rattle.request.specs.Layout.{largest}
 use Rattle.graph.specs.Loops.{turns}
-use Rattle.area.specs.Area.{Under}
-use Rattle.area.proofs.Changes.{loop-start, loop-turn, loop-end}
+use Rattle.area.specs.Area.{UnderAny}
+use Rattle.area.proofs.Anyhow.{loop-start, loop-turn, loop-end}
 use Rattle.expanding.specs.Stepping.{entriesTurn}
 use Rattle.expanding.proofs.Entries.{le-product}
 use borrow.Author.Needs.{needs}
@@ -14,7 +14,7 @@ use Rattle.expanding.proofs.over_entries.Tie as tie
 
 abbrev Inv-loop : tie.InvT-loop
 Inv-loop work₀ plan undo home code below above tail t₀ h₀ work t h =
-    (h ≤ above) × Under (plan .base) (plan .size) (turns (entriesTurn plan undo home code below) 0 above) tail work₀ (turns (entriesTurn plan undo home code below) h (above - h)) t work
+    (h ≤ above) × UnderAny (plan .base) (plan .size) (turns (entriesTurn plan undo home code below) 0 above) tail work₀ (turns (entriesTurn plan undo home code below) h (above - h)) t work
 
 abbrev μ-loop : tie.MeasureT-loop
 μ-loop work₀ plan undo home code below above tail t₀ h₀ work t h = above - h

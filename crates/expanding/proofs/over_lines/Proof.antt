@@ -3,9 +3,9 @@ use mathlib.Core.Path.{sym, subst}
 use Prim.Native.Nat.{_-_, _≤_}
 use native.Mathlib.Omega.{arith}
 use Rattle.graph.specs.Loops.{turns}
-use Rattle.area.specs.Area.{Under}
+use Rattle.area.specs.Area.{UnderAny}
 use Rattle.states.specs.Spots.{front, Starts}
-use Rattle.area.proofs.Changes.{loop-start, loop-turn, loop-end, under-front}
+use Rattle.area.proofs.Anyhow.{loop-start, loop-turn, loop-end, under-front}
 use Rattle.expanding.specs.Undoing.{lineUndone}
 use Rattle.expanding.proofs.Undone.{undoing-under}
 use borrow.Author.Needs.{needs}
@@ -15,7 +15,7 @@ use Rattle.expanding.proofs.over_lines.Tie as tie
 abbrev Inv-loop : tie.InvT-loop
 Inv-loop work₀ plan undo place c tail lines t₀ i₀ work t i =
     (i ≤ plan .lines)
-    × Under (plan .base) (plan .size) (turns (lineUndone plan undo (front plan work₀) place c) 0 (plan .lines)) tail work₀ (turns (lineUndone plan undo (front plan work₀) place c) i (plan .lines - i)) t work
+    × UnderAny (plan .base) (plan .size) (turns (lineUndone plan undo (front plan work₀) place c) 0 (plan .lines)) tail work₀ (turns (lineUndone plan undo (front plan work₀) place c) i (plan .lines - i)) t work
 
 abbrev μ-loop : tie.MeasureT-loop
 μ-loop work₀ plan undo place c tail lines t₀ i₀ work t i = plan .lines - i

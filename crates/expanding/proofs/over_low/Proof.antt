@@ -3,14 +3,14 @@ use Prim.Native.Nat.{_+_, _*_, _-_, _≤_}
 use native.Mathlib.Omega.{arith}
 use Rattle.graph.specs.Loops.{turns}
 use Rattle.graph.specs.Table.{push}
-use Rattle.area.specs.Area.{Under}
-use Rattle.area.proofs.Changes.{loop-start, loop-turn, loop-end}
+use Rattle.area.specs.Area.{UnderAny}
+use Rattle.area.proofs.Anyhow.{loop-start, loop-turn, loop-end}
 use borrow.Author.Needs.{needs}
 use Rattle.expanding.proofs.over_low.Statement.{statement}
 use Rattle.expanding.proofs.over_low.Tie as tie
 
 abbrev Inv-loop : tie.InvT-loop
-Inv-loop work₀ plan d first weight many tail t₀ l₀ work t l = (l ≤ many) × Under (plan .base) (plan .size) (turns (λ n. push d (first + n * weight)) 0 many) tail work₀ (turns (λ n. push d (first + n * weight)) l (many - l)) t work
+Inv-loop work₀ plan d first weight many tail t₀ l₀ work t l = (l ≤ many) × UnderAny (plan .base) (plan .size) (turns (λ n. push d (first + n * weight)) 0 many) tail work₀ (turns (λ n. push d (first + n * weight)) l (many - l)) t work
 
 abbrev μ-loop : tie.MeasureT-loop
 μ-loop work₀ plan d first weight many tail t₀ l₀ work t l = many - l

@@ -3,7 +3,7 @@
 use mathlib.Core.Path.{sym, _∙_}
 use native.Mathlib.Omega.{arith}
 use Rattle.states.specs.Spots.{boatsIn}
-use Rattle.area.proofs.Changes.{step-as, step-none}
+use Rattle.area.proofs.Anyhow.{step-as, step-none}
 use Rattle.expanding.proofs.Entries.{same-unread, same-none, same-entries, entries-low}
 use borrow.Author.Needs.{needs}
 use Rattle.expanding.proofs.over_same.Statement.{statement}

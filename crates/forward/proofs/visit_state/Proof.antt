@@ -15,7 +15,7 @@ same-length : tie.Need-same-length
 same-length c = search needs
 
 returns : tie.Need-returns
-returns c = step-as _ (c .before .before .push-if-new .ensures) (visit-all _ _ _ _ (c .before .before .before .before .if1 .taken))
+returns c = step-as _ (c .before .before .push-if-new .ensures .sound (c .before .before .before .before .before .before .pre .0 .good)) (visit-all _ _ _ _ (c .before .before .before .before .if1 .taken))
 
 add-word : tie.Need-add-word
 add-word c = let laid = c .before .before .before .before .pre .1 .0 in omega (arith, laid .room, laid .few-words, laid .small, c .before .before .before .before .pre .1 .1)
@@ -31,9 +31,10 @@ same-length-2 c = search needs
 
 returns-2 : tie.Need-returns-2
 returns-2 c =
+    let p = c .before .before .before .before .before .before .before .before .before .before .pre in
     let a = c .before .before .before .before .before .before .before .before .before .before .args in
-    let own = stretch-get (a .plan .base) (a .plan .size) (a .work .now) (a .t) (c .before .before .before .before .before .before .before .before .before .before .pre .1 .1) in
-    step-as _ (c .before .before .push-if-new2 .ensures) (visit-taken _ _ _ _ (c .before .before .before .before .before .before .before .before .if1 .left) (own ∙ (sym (c .before .before .before .before .before .word .ensures) ∙ c .before .before .before .before .if2 .taken)))
+    let own = stretch-get (a .plan .base) (a .plan .size) (a .work .now) (a .t) (p .1 .1) in
+    step-as _ (c .before .before .push-if-new2 .ensures .sound (p .0 .good)) (visit-taken _ _ _ _ (c .before .before .before .before .before .before .before .before .if1 .left) (own ∙ (sym (c .before .before .before .before .before .word .ensures) ∙ c .before .before .before .before .if2 .taken)))
 
 same-length-3 : tie.Need-same-length-3
 same-length-3 c = search needs

@@ -1,13 +1,17 @@
 -- `lines_sound` meets its contract: after i turns the first i lines are sound. Assumes nothing.
-use mathlib.Core.Path.{refl, sym, _∙_}
+use mathlib.Core.Path.{refl, sym, _∙_, subst}
 use mathlib.Core.Bool.{false≢true}
-use Prim.Native.Nat.{ℕ, _-_, _<_, _≤_}
+use Prim.Native.Nat.{ℕ, _+_, _-_, _<_, _≤_}
 use native.Mathlib.Omega.{arith}
+use native.Mathlib.Decide.{ℕ-discrete}
 use Rattle.states.specs.Spots.{front}
 use Rattle.holding.specs.Holding.{LineSound}
-use Rattle.holding.proofs.Sound.{below-next}
 use Rattle.holding.proofs.lines_sound.Statement.{statement}
 use Rattle.holding.proofs.lines_sound.Tie as tie
+
+-- what holds of the numbers below i, and of i
+below-next : (P : ℕ → Type 0) (i : ℕ) → ((j : ℕ) → j < i → P j) → P i → (j : ℕ) → j < i + 1 → P j
+below-next P i h p j less = elim (ℕ-discrete j i) [ yes e ↦ subst P (sym e) p | no e ↦ h j (omega arith) ]
 
 abbrev Inv-loop : tie.InvT-loop
 Inv-loop work plan i₀ i = (i ≤ plan .lines) × ((j : ℕ) → j < i → LineSound plan (front plan work) j)

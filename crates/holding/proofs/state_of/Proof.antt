@@ -1,10 +1,7 @@
--- `state_of` meets its contract: the four checks say all that a search by the plan has; where one says no there is none. Assumes nothing.
+-- `state_of` meets its contract: the three checks say all that a search by the plan has; where one says no there is none. Assumes nothing.
 use mathlib.Core.Path.{refl, sym, _∙_, subst}
 use mathlib.Core.Bool.{false≢true}
-use native.Mathlib.Omega.{arith}
-use Rattle.states.specs.Pairs.{ReadyBack}
 use Rattle.holding.specs.Holding.{InOrder, OfPlan}
-use Rattle.holding.specs.declared.Counters.{Counters}
 use borrow.Author.Needs.{needs}
 use Rattle.holding.proofs.state_of.Statement.{statement}
 use Rattle.holding.proofs.state_of.Tie as tie
@@ -21,16 +18,6 @@ of-plan-requires c κs = search needs
 lines-sound-requires : tie.Need-lines-sound-requires
 lines-sound-requires c κs = search needs
 
-cast-pair-sound : tie.Need-cast-pair-sound
-cast-pair-sound c = search needs
-
-pair-sound-requires : tie.Need-pair-sound-requires
-pair-sound-requires c κs =
-    let d = c .before .before .before in
-    let a = d .before .before .before .before .before .before in
-    let fits = d .before .of-plan .ensures .0 (d .if2 .taken) in
-    (omega (arith, a .pre .1 .room), omega (arith, a .pre .1 .small), fits .found-low)
-
 word-requires : tie.Need-word-requires
 word-requires c κs = search needs
 
@@ -39,8 +26,7 @@ cast-from c = search needs
 
 returns : tie.Need-returns
 returns c =
-    let d = c .before in
-    let e = d .before .before .before in
+    let e = c .before in
     let f = e .before .before in
     let g = f .before .before in
     record {
@@ -50,28 +36,20 @@ returns c =
       order = g .before .in-order .ensures .0 (g .if1 .taken);
       fits = f .before .of-plan .ensures .0 (f .if2 .taken);
       lines = e .before .lines-sound .ensures .0 (e .if3 .taken);
-      ready = d .before .pair-sound .ensures .0 (d .if4 .taken);
     }
 
 returns-2 : tie.Need-returns-2
-returns-2 c s p =
-    let g = c .before .before .before .before .before .before .before in
-    let same = p .at-is ∙ sym (g .before .before .read-counters .ensures) in
-    let a = g .before .before .before .before in
-    false≢true (sym (c .if4 .left) ∙ c .before .pair-sound .ensures .1 (subst (λ (x : Counters). ReadyBack (a .args .plan) (x .found) (a .args .work .now)) same (p .ready)))
+returns-2 c s p = false≢true (sym (c .if3 .left) ∙ c .before .lines-sound .ensures .1 (p .lines))
 
 returns-3 : tie.Need-returns-3
-returns-3 c s p = false≢true (sym (c .if3 .left) ∙ c .before .lines-sound .ensures .1 (p .lines))
-
-returns-4 : tie.Need-returns-4
-returns-4 c s p =
+returns-3 c s p =
     let g = c .before .before in
     let same = p .at-is ∙ sym (g .before .before .read-counters .ensures) in
     let a = g .before .before .before .before in
     false≢true (sym (c .if2 .left) ∙ c .before .of-plan .ensures .1 (subst (OfPlan (a .args .plan .size) (a .args .plan .lines)) same (p .fits)))
 
-returns-5 : tie.Need-returns-5
-returns-5 c s p =
+returns-4 : tie.Need-returns-4
+returns-4 c s p =
     let same = p .at-is ∙ sym (c .before .before .read-counters .ensures) in
     false≢true (sym (c .if1 .left) ∙ c .before .in-order .ensures .1 (subst InOrder same (p .order)))
 
@@ -83,12 +61,9 @@ state-of-spec =
     in-order-requires
     of-plan-requires
     lines-sound-requires
-    cast-pair-sound
-    pair-sound-requires
     word-requires
     cast-from
     returns
     returns-2
     returns-3
-    returns-4
-    returns-5)
+    returns-4)

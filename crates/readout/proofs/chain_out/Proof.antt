@@ -34,8 +34,9 @@ returns c =
     let m = c .before .before .before .before .before .before in
     let f = m .before .before .before .before in
     let a = f .before .before .before .before .before in
+    λ g.
     let all = chain-told (a .args .plan) (a .args .tail) (a .args .far) _ (a .pre .0 .0) _ (levels (f .before .before)) _ _ _ _ (a .pre .1) in
-    all (f .clear-front .ensures) (m .note-marks .ensures) (c .before .before .lines-of .ensures)
+    all (f .clear-front .ensures) (m .note-marks .ensures g) (c .before .before .lines-of .ensures)
 
 pub chain-out-spec : {M : Type 1} → statement M
 chain-out-spec =

@@ -12,8 +12,8 @@ use Rattle.readout.proofs.note_mark.Tie as tie
 few : (a : tie.Start) → length (a .args .out .now) * 2 < 2 ^ 63
 few a = search needs
 
-waiting-requires : tie.Need-waiting-requires
-waiting-requires c κs = search needs
+waiting-checked-requires : tie.Need-waiting-checked-requires
+waiting-checked-requires c κs = search needs
 
 dist-at-requires : tie.Need-dist-at-requires
 dist-at-requires c κs = search needs
@@ -24,12 +24,12 @@ cast-w c = search needs
 returns : tie.Need-returns
 returns c =
     let s = c .before .before in
-    note-none (s .before .before .before .args .plan) _ _ _ _ _ _ _ (s .waiting .ensures .0) (c .before .dist-at .ensures .0) (c .if1 .taken)
+    λ g. note-none (s .before .before .before .args .plan) _ _ _ _ _ _ _ (s .waiting-checked .ensures .1 g) (c .before .dist-at .ensures .0) (c .if1 .taken)
 
 returns-2 : tie.Need-returns-2
 returns-2 c =
     let s = c .before .before .before in
-    note-far (s .before .before .before .args .plan) _ _ _ _ _ _ _ (s .waiting .ensures .0) (c .before .before .dist-at .ensures .0) (c .if2 .taken)
+    λ g. note-far (s .before .before .before .args .plan) _ _ _ _ _ _ _ (s .waiting-checked .ensures .1 g) (c .before .before .dist-at .ensures .0) (c .if2 .taken)
 
 mul-word : tie.Need-mul-word
 mul-word c = search needs
@@ -79,15 +79,16 @@ returns-3 c =
     let d = i .before .before in
     let s = d .before in
     let plan = s .before .before .before .args .plan in
-    let low = sym (mark-low plan _ _ (s .waiting .ensures .1)) in
-    let here = note-here plan _ _ _ _ _ _ _ (s .waiting .ensures .0) (d .dist-at .ensures .0) in
+    let low = sym (mark-low plan _ _ (s .waiting-checked .ensures .0)) in
+    λ g.
+    let here = note-here plan _ _ _ _ _ _ _ (s .waiting-checked .ensures .1 g) (d .dist-at .ensures .0) in
     here (i .before .if1 .left) (omega (arith, i .if2 .left)) _ (ap (λ x. x % 65536) (c .before .before .word .ensures) ∙ low) _ _ refl (c .lesser .ensures)
 
 pub note-mark-spec : {M : Type 1} → statement M
 note-mark-spec =
     tie.close
     (tie.spec
-    waiting-requires
+    waiting-checked-requires
     dist-at-requires
     cast-w
     returns

@@ -6,20 +6,20 @@ use native.Mathlib.Omega.{arith}
 use lib.ListN.{length}
 use Rattle.graph.specs.Loops.{turns}
 use Rattle.area.proofs.Changes.{turns-none, turns-next}
+use Rattle.states.specs.Pairs.{GoodBack}
 use Rattle.readout.specs.Readout.{noteTurn, noted}
-use Rattle.readout.proofs.Chains.{turn-long}
 use Rattle.readout.proofs.note_marks.Statement.{statement}
 use Rattle.readout.proofs.note_marks.Tie as tie
 
 abbrev Inv-loop : tie.InvT-loop
 Inv-loop work plan tail far out₀ j₀ out j =
-    (j ≤ tail) × (length out ≡ length out₀) × (turns (noteTurn plan tail far work) j (tail - j) out ≡ noted plan tail far work out₀)
+    (j ≤ tail) × (length out ≡ length out₀) × (GoodBack plan tail work → turns (noteTurn plan tail far work) j (tail - j) out ≡ noted plan tail far work out₀)
 
 abbrev μ-loop : tie.MeasureT-loop
 μ-loop work plan tail far out₀ j₀ out j = tail - j
 
 loop-holds : tie.Need-loop-holds Inv-loop μ-loop
-loop-holds c = (omega arith, refl, rw sub-zero (unfold noted in refl))
+loop-holds c = (omega arith, refl, λ _. rw sub-zero (unfold noted in refl))
 
 note-mark-requires : tie.Need-note-mark-requires Inv-loop μ-loop
 note-mark-requires c κs =
@@ -44,13 +44,13 @@ loop-again c =
     let t = c .before .before .before .before .loop-test .taken in
     let e = c .before .before .note-mark .ensures in
     let next = turns-next f (l .j) (a .tail) (l .out) t in
-    (omega (arith, t), rw e (turn-long _ _ _ _ _ _ ∙ l .inv .1), ap (turns f (l .j + 1) (a .tail - (l .j + 1))) e ∙ (next ∙ l .inv .2))
+    (omega (arith, t), omega (arith, c .before .before .note-mark, l .inv .1), λ g. ap (turns f (l .j + 1) (a .tail - (l .j + 1))) (e g) ∙ (next ∙ l .inv .2 g))
 
 same-length : tie.Need-same-length Inv-loop μ-loop
 same-length c = c .before .loop .inv .1
 
 returns : tie.Need-returns Inv-loop μ-loop
-returns c = sym (turns-none _ _ _ _ (omega (arith, c .loop-test .left))) ∙ c .before .loop .inv .2
+returns c g = sym (turns-none _ _ _ _ (omega (arith, c .loop-test .left))) ∙ c .before .loop .inv .2 g
 
 pub note-marks-spec : {M : Type 1} → statement M
 note-marks-spec =

@@ -4,6 +4,7 @@ use mathlib.Core.Path.{_∙_, ap, subst, sym}
 use Prim.Native.Nat.{_<_}
 use native.Mathlib.Omega.{arith}
 use lib.ListN.{length}
+use Rattle.area.proofs.Anyhow.{room-of}
 use Rattle.states.proofs.Bounds.{stacks-pos}
 use Rattle.searching.specs.Promise.{heldIn}
 use Rattle.searching.specs.Words.{stretched-held}
@@ -29,7 +30,7 @@ state-at-requires c κs =
 push-if-new-requires : tie.Need-push-if-new-requires
 push-if-new-requires c κs =
     let a = c .before .before .before .before .before .before in
-    (begin-ready (ready a), (c .before .state-at .ensures .1, omega arith, omega arith))
+    (room-of (begin-ready (ready a)), (c .before .state-at .ensures .1, omega arith, omega arith))
 
 cast-t15 : tie.Need-cast-t15
 cast-t15 c =
@@ -39,18 +40,18 @@ cast-t15 c =
 settle-requires : tie.Need-settle-requires
 settle-requires c κs =
     let a = c .before .before .before .before .before .before .before .before .before .before in
-    begun-standing (ready a) _ (c .before .before .before .push-if-new .ensures)
+    begun-standing (ready a) _ (c .before .before .before .push-if-new .ensures .sound (begin-ready (ready a) .good))
 
 put-front-requires : tie.Need-put-front-requires
 put-front-requires c κs =
     let a = c .before .before .before .before .before .before .before .before .before .before .before .before .before .before in
-    let step = c .before .before .before .before .before .before .before .push-if-new .ensures in
+    let step = c .before .before .before .before .before .before .before .push-if-new .ensures .sound (begin-ready (ready a) .good) in
     ((front-room (ready a) _ step _ (c .before .before .before .settle .ensures), ready a .short), begin-small (ready a))
 
 put-back-requires : tie.Need-put-back-requires
 put-back-requires c κs =
     let a = c .before .before .before .before .before .before .before .before .before .before .before .before .before .before .before .before .before .before in
-    let step = c .before .before .before .before .before .before .before .before .before .before .before .push-if-new .ensures in
+    let step = c .before .before .before .before .before .before .before .before .before .before .before .push-if-new .ensures .sound (begin-ready (ready a) .good) in
     let held = c .before .before .before .before .before .before .before .settle .ensures in
     let room = front-room (ready a) _ step _ held in
     omega (
@@ -72,7 +73,7 @@ returns c q posed =
     let r = ready a in
     let made = c .before .before .before .before .before .before .before .before .before .before .before .before .before .before .before .before .before .compile .ensures in
     let goal = c .before .before .before .before .before .before .before .before .before .before .before .before .before .before .before .before .state-at .ensures .0 in
-    let step = c .before .before .before .before .before .before .before .before .before .before .before .before .before .before .push-if-new .ensures in
+    let step = c .before .before .before .before .before .before .before .before .before .before .before .before .before .before .push-if-new .ensures .sound (begin-ready (ready a) .good) in
     let held = c .before .before .before .before .before .before .before .before .before .before .settle .ensures in
     let fronted = c .before .before .before .before .before .before .put-front .ensures in
     let put = c .before .before .put-back .ensures in

@@ -5,7 +5,7 @@ use Prim.Native.Nat.{ℕ, _+_, _*_}
 use Rattle.meaning.specs.Request.{sizeOf}
 use Rattle.stepping.specs.Stepping.{Standing}
 use Rattle.searching.proofs.Bridge.{sound-standing, sound-fit, left-parts, left-size}
-use Rattle.searching.proofs.Ending.{finished-in, none-read, long-read}
+use Rattle.searching.proofs.Ending.{finished-in}
 use borrow.Author.Needs.{needs}
 use Rattle.searching.proofs.finish_taken.Statement.{statement}
 use Rattle.searching.proofs.finish_taken.Tie as tie
@@ -44,8 +44,8 @@ returns c =
     record {
       small = read .small;
       long = same-length-2 c;
-      none-out = none-read read;
-      too-long-out = long-read read;
+      none-out = read .none-out;
+      too-long-out = read .too-long-out;
       begun = λ rec from to q k left.
           let compiled = made .0 (q .pattern) (left-parts left .pattern-read) in
           let is : c .before .before .before .before .before .before .before .before .before .before .all-turns .result ≡ 2 * sizeOf q + 2 = all ∙ ap (λ (n : ℕ). 2 * n + 2) (left-size left (a .pre)) in

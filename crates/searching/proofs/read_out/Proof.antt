@@ -1,10 +1,6 @@
 -- `read_out` meets its contract, case by case of its tests. Assumes nothing.
-use mathlib.Core.Path.{subst, sym}
-use mathlib.Core.List.{List}
-use Prim.Native.Nat.{ℕ}
 use native.Mathlib.Omega.{arith}
 use borrow.Author.Needs.{needs}
-use Rattle.searching.specs.Searching.{ReadOut}
 use Rattle.searching.proofs.Writing.{read-other, read-none, read-long, read-fits}
 use Rattle.searching.proofs.read_out.Statement.{statement}
 use Rattle.searching.proofs.read_out.Tie as tie
@@ -52,8 +48,7 @@ returns-4 c =
     let k = t .before .before in
     let b = k .before .before in
     let a = b .before .before .before .before .before .args in
-    let done = read-fits (a .s) (a .work .now) (a .out .now) (b .if1 .left) (k .if2 .left) (search needs) (omega (arith, t .if3 .left)) in
-    subst (λ (l : List ℕ). ReadOut (a .s) (a .work .now) (a .out .now) (a .s .at .far) l) (sym (c .before .before .chain-out .ensures)) done
+    read-fits (a .s) (a .work .now) (a .out .now) (b .if1 .left) (k .if2 .left) (search needs) (omega (arith, t .if3 .left)) _ (c .before .before .chain-out .ensures)
 
 pub read-out-spec : {M : Type 1} → statement M
 read-out-spec =

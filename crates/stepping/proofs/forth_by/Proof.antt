@@ -1,10 +1,10 @@
 -- `stepping::forth_by` meets its contract: the invariant is the contract for the turns that are done, in phase two. Assumes nothing.
-use mathlib.Core.Path.{_≡_, refl, ap, _∙_}
+use mathlib.Core.Path.{_≡_, refl, ap}
 use native.Mathlib.Omega.{arith}
 use Rattle.request.specs.declared.Plan.{Plan}
 use Rattle.sweeping.specs.Sweeping.{indexAt}
 use Rattle.stepping.specs.Stepping.{underwayIn, Turned}
-use Rattle.stepping.proofs.Moving.{held-none, held-fit, held-ordered, held-phase, turned-none, turned-one, turned-then, forth-goes, forth-over}
+use Rattle.stepping.proofs.Moving.{held-none, held-fit, held-ordered, turned-none, turned-one, turned-then, forth-goes, forth-over}
 use Rattle.stepping.proofs.forth_by.Statement.{statement}
 use Rattle.stepping.proofs.forth_by.Tie as tie
 
@@ -43,10 +43,9 @@ loop-again : tie.Need-loop-again Inv-loop μ-loop
 unfolding underwayIn
 loop-again c =
     let (one, i) = c .before .before .before .before .before .before .before .loop .inv in
-    let step = c .before .before .forth-one .ensures in
-    let a = c .before .before .before .before .before .before .before .before .before .args in
+    let (step, still) = c .before .before .forth-one .ensures in
     let turn = turned-one (c .before .before .before .before .before .before .loop-test .taken) (forth-goes _ one (c .before .before .before .before .if1 .left)) step in
-    (held-phase (a .program .now) (a .begin) step (λ z. omega (arith, one, z)) ∙ one, turned-then i turn _ (omega arith) (omega (arith, ap (λ (p : Plan). indexAt p) (i .held .plan-same))) (λ _. tt))
+    (still, turned-then i turn _ (omega arith) (omega (arith, ap (λ (p : Plan). indexAt p) (i .held .plan-same))) (λ _. tt))
 
 same-length-2 : tie.Need-same-length-2 Inv-loop μ-loop
 same-length-2 c = c .before .loop .inv .1 .held .long

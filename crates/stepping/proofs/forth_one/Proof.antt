@@ -43,7 +43,7 @@ same-length c = c .before .before .before .before .before .sweep-state .ensures 
 returns : tie.Need-returns
 returns c =
     let a = c .before .before .before .before .before .before .before .before .before .before .before .before .before .before in
-    swept-held (a .args .program .now) (a .args .begin) (a .pre .0 .0) (a .pre .1 .0) (a .pre .1 .1) (c .before .before .before .before .before .sweep-state .ensures)
+    (swept-held (a .args .program .now) (a .args .begin) (a .pre .0 .0) (a .pre .1 .0) (a .pre .1 .1) (c .before .before .before .before .before .sweep-state .ensures), a .pre .1 .0)
 
 pub forth-one-spec : {M : Type 1} → statement M
 forth-one-spec =

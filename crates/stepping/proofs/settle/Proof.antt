@@ -12,7 +12,7 @@ same-length : tie.Need-same-length
 same-length c = search needs
 
 returns : tie.Need-returns
-returns c = settle-on _ _ (c .before .before .before .before .before .before .pre) _ (sym (c .if1 .taken) ∙ c .before .goes-on .ensures)
+returns c = settle-on _ _ (c .before .before .before .before .before .before .pre) _ (λ g. sym (c .if1 .taken) ∙ c .before .goes-on .ensures g)
 
 nearest-requires : tie.Need-nearest-requires
 nearest-requires c κs = search needs
@@ -22,8 +22,7 @@ same-length-2 c = search needs
 
 returns-2 : tie.Need-returns-2
 returns-2 c =
-    let ends = sym (c .before .before .before .if1 .left) ∙ c .before .before .before .before .goes-on .ensures in
-    settle-up _ _ (c .before .before .before .before .before .before .before .before .before .pre) _ _ (c .before .nearest .ensures) ends (c .if2 .taken)
+    settle-up _ _ (c .before .before .before .before .before .before .before .before .before .pre) _ _ (c .before .nearest .ensures) (λ g. sym (c .before .before .before .if1 .left) ∙ c .before .before .before .before .goes-on .ensures g) (c .if2 .taken)
 
 mark-firsts-requires : tie.Need-mark-firsts-requires
 mark-firsts-requires c κs = search needs
@@ -41,8 +40,8 @@ returns-3 : tie.Need-returns-3
 returns-3 c =
     let pre = c .before .before .before .before .before .before .before .before .before .before .before .before .before .before .before .pre in
     let near = c .before .before .before .before .before .before .before .nearest .ensures in
-    let ends = sym (c .before .before .before .before .before .before .before .before .before .if1 .left) ∙ c .before .before .before .before .before .before .before .before .before .before .goes-on .ensures in
-    settle-turned _ _ pre _ _ near ends _ (c .before .before .before .before .mark-firsts .ensures) (c .before .before .before .before .before .before .if2 .left)
+    let on = c .before .before .before .before .before .before .before .before .before in
+    settle-turned _ _ pre _ _ near (λ g. sym (on .if1 .left) ∙ on .before .goes-on .ensures g) _ (c .before .before .before .before .mark-firsts .ensures) (c .before .before .before .before .before .before .if2 .left)
 
 pub settle-spec : {M : Type 1} → statement M
 settle-spec =

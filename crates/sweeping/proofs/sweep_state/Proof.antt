@@ -14,17 +14,17 @@ use Rattle.sweeping.proofs.sweep_state.Tie as tie
 sub-rest : tie.Need-sub-rest
 sub-rest c = search needs
 
-waiting-requires : tie.Need-waiting-requires
-waiting-requires c κs = search needs
+waiting-checked-requires : tie.Need-waiting-checked-requires
+waiting-checked-requires c κs = search needs
 
 dist-at-requires : tie.Need-dist-at-requires
 dist-at-requires c κs = search needs
 
-sub-waiting : tie.Need-sub-waiting
-sub-waiting c = search needs
+sub-waiting-checked : tie.Need-sub-waiting-checked
+sub-waiting-checked c = search needs
 
-waiting-requires-2 : tie.Need-waiting-requires-2
-waiting-requires-2 c κs = search needs
+waiting-checked-requires-2 : tie.Need-waiting-checked-requires-2
+waiting-checked-requires-2 c κs = search needs
 
 dist-at-requires-2 : tie.Need-dist-at-requires-2
 dist-at-requires-2 c κs = search needs
@@ -40,11 +40,13 @@ unfolding found
 returns c =
     let a = c .before .before .before .before .before .before .before .before .before .before .before .before .before .before .before in
     let taken = c .before .before .before .take-up .ensures in
-    let s = c .before .before .before .before .before .before .before .before .before .before .before .waiting .ensures .0 in
+    let s = c .before .before .before .before .before .before .before .before .before .before .before .waiting-checked .ensures .1 in
     let d = c .before .before .before .before .before .before .before .before .before .dist-at .ensures .0 in
-    let e = c .before .before .before .before .before .dist-at2 .ensures .0 ∙ ap (λ (t : ℕ). getD (distances (a .args .plan) (a .args .work .now)) t 0) (c .before .before .before .before .before .before .before .waiting2 .ensures .0) in
+    let b = c .before .before .before .before .before .before .before .waiting-checked2 .ensures .1 in
+    let e = c .before .before .before .before .before .dist-at2 .ensures .0 in
+    let D = distances (a .args .plan) (a .args .work .now) in
     record {
-      now-swept = back-same _ _ _ _ (sweepIn (a .args .plan) (a .args .at) (a .args .work .now)) _ _ _ _ refl s d e _ (taken .now-noted) (c .if1 .taken);
+      now-swept = λ g. back-same _ _ _ _ (sweepIn (a .args .plan) (a .args .at) (a .args .work .now)) _ _ _ _ refl (s g) d (e ∙ ap (λ (t : ℕ). getD D t 0) (b g)) _ (taken .now-noted) (c .if1 .taken);
       rest-is = omega (arith, a .pre .1 .1 .0);
       chosen-low = a .pre .1 .1 .2;
       noted-low = taken .low;
@@ -59,11 +61,13 @@ unfolding found
 returns-2 c =
     let a = c .before .before .before .before .before .before .before .before .before .before .before .before .before .before .before in
     let taken = c .before .before .before .take-up .ensures in
-    let s = c .before .before .before .before .before .before .before .before .before .before .before .waiting .ensures .0 in
+    let s = c .before .before .before .before .before .before .before .before .before .before .before .waiting-checked .ensures .1 in
     let d = c .before .before .before .before .before .before .before .before .before .dist-at .ensures .0 in
-    let e = c .before .before .before .before .before .dist-at2 .ensures .0 ∙ ap (λ (t : ℕ). getD (distances (a .args .plan) (a .args .work .now)) t 0) (c .before .before .before .before .before .before .before .waiting2 .ensures .0) in
+    let b = c .before .before .before .before .before .before .before .waiting-checked2 .ensures .1 in
+    let e = c .before .before .before .before .before .dist-at2 .ensures .0 in
+    let D = distances (a .args .plan) (a .args .work .now) in
     record {
-      now-swept = back-other _ _ _ _ (sweepIn (a .args .plan) (a .args .at) (a .args .work .now)) _ _ _ _ refl s d e _ (taken .now-noted) (c .if1 .left);
+      now-swept = λ g. back-other _ _ _ _ (sweepIn (a .args .plan) (a .args .at) (a .args .work .now)) _ _ _ _ refl (s g) d (e ∙ ap (λ (t : ℕ). getD D t 0) (b g)) _ (taken .now-noted) (c .if1 .left);
       rest-is = omega (arith, a .pre .1 .1 .0);
       chosen-low = taken .low;
       noted-low = omega arith;
@@ -75,10 +79,10 @@ sweep-state-spec =
     tie.close
     (tie.spec
     sub-rest
-    waiting-requires
+    waiting-checked-requires
     dist-at-requires
-    sub-waiting
-    waiting-requires-2
+    sub-waiting-checked
+    waiting-checked-requires-2
     dist-at-requires-2
     take-up-requires
     same-length

@@ -3,6 +3,7 @@ use mathlib.Core.Path.{_≡_, sym, ap, _∙_, subst}
 use Prim.Native.Nat.{_%_, _<_}
 use lib.ListN.{getD}
 use Rattle.area.proofs.Changes.{step-as, step-none}
+use Rattle.area.proofs.Anyhow.{room-of}
 use Rattle.sorted.specs.Sorting.{packBy}
 use Rattle.states.specs.Spots.{boatsIn}
 use Rattle.ways.specs.Ways.{laneState, takenBy}
@@ -25,7 +26,7 @@ state-low : (c : tie.After-lane-state) → c .lane-state .result < c .before .be
 state-low c = let a = c .before .before .before .before in subst (_< a .args .plan .size) (sym (state-is c)) (a .pre .1 .1 .3)
 
 dist-at-requires : tie.Need-dist-at-requires
-dist-at-requires c κs = (c .before .before .before .before .before .pre .0, state-low (c .before))
+dist-at-requires c κs = (room-of (c .before .before .before .before .before .pre .0), state-low (c .before))
 
 same-length : tie.Need-same-length
 same-length c = search needs
@@ -47,7 +48,7 @@ push-if-new-requires c κs =
     let b = c .before .before .before .before .before .before .before in
     let a = b .before .before .before .before in
     let (some, near, in-area, low) = a .pre .1 .1 in
-    (a .pre .0, (state-low b, some, near))
+    (room-of (a .pre .0), (state-low b, some, near))
 
 same-length-2 : tie.Need-same-length-2
 same-length-2 c = search needs
@@ -58,7 +59,7 @@ returns-2 c =
     let a = b .before .before .before .before in
     let B = boatsIn (a .args .plan) (a .args .work .now) in
     let yes = ap (λ e. takenBy B (a .args .lane .taking) (e % packBy) (a .args .lane .number)) (sym (b .before .word .ensures)) ∙ (sym (c .before .before .before .before .before .taken .ensures) ∙ c .before .before .before .before .if2 .taken) in
-    step-as _ (c .before .before .push-if-new .ensures) (lane-taken B (a .args .lane) (a .args .d) _ _ _ yes (state-is b))
+    step-as _ (c .before .before .push-if-new .ensures .sound (a .pre .0 .good)) (lane-taken B (a .args .lane) (a .args .d) _ _ _ yes (state-is b))
 
 same-length-3 : tie.Need-same-length-3
 same-length-3 c = search needs
