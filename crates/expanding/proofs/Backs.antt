@@ -1,15 +1,16 @@
 -- Case by case: what undoing a stack, a line and a position does; and that what the loops go by stays.
-use mathlib.Core.Path.{_≡_, _∙_}
-use mathlib.Core.Bool.{true, false}
+use mathlib.Core.Path.{_≡_, refl, sym, ap, _∙_}
+use mathlib.Core.Bool.{Bool, true, false, cond, _&&_}
 use mathlib.Core.List.{List}
 use Prim.Native.Nat.{ℕ, _+_, _-_, _^_, _≤_}
 use native.Mathlib.Omega.{arith}
-use lib.ListN.{drop}
+use lib.Dec.{eqb}
+use lib.ListN.{getD, drop}
 use borrow.Author.Tests.{eq-eqb, ne-eqb}
 use Rattle.positions.specs.Program.{bitOf, followAt, leavesAt}
 use Rattle.request.specs.declared.Plan.{Plan}
 use Rattle.graph.specs.Loops.{turns}
-use Rattle.graph.specs.Table.{Search, push}
+use Rattle.graph.specs.Table.{Search, push, push-met}
 use Rattle.area.specs.Area.{Under}
 use Rattle.sorted.specs.Runs.{sorted-same}
 use Rattle.sorted.specs.declared.Order.{Order}
@@ -46,6 +47,15 @@ module _ (B : ℕ → ℕ) (R : ℕ) (s : Spot) (d home x v : ℕ) (st : Search)
   pub stack-other : (on s u x ≡ v → ⊥) → stackAt B R s d home x v st ≡ st
   unfolding stackAt
   stack-other h = rw (← eu, ne-eqb _ _ h)
+
+  -- a state that has been met is not pushed, whether the boat passes or not
+  pub stack-met : (getD (st .dist) (home + u) 0 ≡ 0 → ⊥) → stackAt B R s d home x v st ≡ st
+  unfolding stackAt
+  stack-met met = go (eqb (on s (off s v) x) v && okay B R s x (off s v))
+    where
+      go : (b : Bool) → cond b (push d (home + off s v) st) st ≡ st
+      go true = ap (λ n. push d (home + n) st) (sym eu) ∙ push-met d (home + u) st met
+      go false = refl
 
 -- ---- a position
 

@@ -1,6 +1,7 @@
 -- Case by case: what is undone by a line and by a word of the sorted lines; that it is what all lines do, for a target and a position; and
 -- that what it goes by stays.
 use mathlib.Core.Path.{_≡_, refl, sym, ap, _∙_, subst}
+use mathlib.Core.Bool.{false}
 use mathlib.Core.List.{List}
 use Prim.Native.Nat.{ℕ, suc, _+_, _*_, _-_, _^_, _/_, _%_, _<_, _≤_}
 use native.Mathlib.Nat.{pow-zero}
@@ -16,7 +17,7 @@ use Rattle.graph.specs.Loops.{turns, turns-same}
 use Rattle.graph.specs.Table.{Search}
 use Rattle.area.specs.Area.{UnderAny}
 use Rattle.states.specs.Pairs.{RoomBack}
-use Rattle.states.specs.Spots.{lineTurn, Stacks}
+use Rattle.states.specs.Spots.{offBy, off, stackTurn, lineTurn, Stacks}
 use Rattle.states.specs.declared.Spot.{Spot}
 use Rattle.states.specs.declared.Target.{Target}
 use Rattle.states.proofs.Bounds.{power-small, stacks-fit, state-low}
@@ -24,6 +25,7 @@ use Rattle.ways.specs.Stacked.{stackedTurn}
 use Rattle.ways.specs.Ways.{Before}
 use Rattle.expanding.specs.Undoing.{linesBack, undoOf, undone, lineUndone, wordUndone, Undoing, InStates, LeadsTo}
 use Rattle.expanding.specs.declared.Undo.{Undo}
+use Rattle.expanding.proofs.Backs.{stack-met}
 
 -- ---- what it goes by
 
@@ -59,6 +61,18 @@ module _ (plan : Plan) (u : Undo) (g : List ℕ) (place c i : ℕ) (st : Search)
 pub word-is : (plan : Plan) (u : Undo) (B : ℕ → ℕ) (c e : ℕ) (st : Search) (r : ℕ) → r ≡ e → (home : ℕ) → home ≡ stateIn plan (r / packBy) c 0 → wordUndone plan u B c e st ≡ undone plan u B home (r % packBy) st
 unfolding wordUndone
 word-is plan u B c e st r er home eh = rw (eh, er)
+
+-- ---- one stack
+
+-- where one is undone, by a position that does not push, and the state before has been met, nothing is done
+pub alone-met : (plan : Plan) (u : Undo) (B : ℕ → ℕ) (home x : ℕ) (st : Search) → u .count ≡ 1 → u .spot .push ≡ false → (getD (st .dist) (home + u .stack) 0 ≡ 0 → ⊥)
+    → undone plan u B home x st ≡ st
+unfolding turns stackTurn off
+alone-met plan u B home x st one stays met =
+    let v = 0 * u .weight + u .stack in
+    let f = stackTurn B (plan .radix) (u .spot) (u .d) home x (u .weight) (u .stack) in
+    let is : u .stack ≡ offBy (u .spot .push) (u .spot .weight) v = omega arith ∙ sym (ap (λ b. offBy b (u .spot .weight) v) stays) in
+    ap (λ n. turns f 0 n st) one ∙ stack-met B (plan .radix) (u .spot) (u .d) home x v st (u .stack) is met
 
 -- ---- a target and a position
 

@@ -1,5 +1,6 @@
 -- Going back from a state that is expanded to a position: the stacks after the position that are undone, by one line, by each line, and by
 -- the words of the sorted lines.
+use mathlib.Core.Path.{_≡_}
 use mathlib.Core.Bool.{cond, _&&_}
 use mathlib.Core.List.{List}
 use Prim.Native.Nat.{ℕ, suc, _+_, _*_, _-_, _^_, _/_, _%_, _≤_, _<_}
@@ -12,7 +13,7 @@ use Rattle.search.specs.Loaded.{boatAt, codeAt, wordAt}
 use Rattle.graph.specs.Loops.{turns}
 use Rattle.graph.specs.Table.{Search}
 use Rattle.sorted.specs.Sorting.{packBy}
-use Rattle.states.specs.Pairs.{RoomBack}
+use Rattle.states.specs.Pairs.{RoomBack, foundBack}
 use Rattle.states.specs.Spots.{boatsIn, Sane, stackTurn, lineTurn, Stacks}
 use Rattle.states.specs.declared.Spot.{Spot}
 use Rattle.states.specs.declared.Target.{Target}
@@ -60,6 +61,10 @@ module _ (plan : Plan) (u : Undo) where
   -- from `home` on, every stack tried is a state
   abbrev pub InStates : ℕ → Type 0
   InStates home = (x : ℕ) → x < u .count → home + (x * u .weight + u .stack) < plan .size
+
+  -- what is undone there is nothing, by whichever boats
+  abbrev pub NothingBack : ℕ → ℕ → List ℕ → Type 0
+  NothingBack home tail w = (B : ℕ → ℕ) (x : ℕ) → undone B home x (foundBack plan tail w) ≡ foundBack plan tail w
 
   -- the position c is a position, and every stack tried is one of the stacks
   pub record LeadsTo (c : ℕ) : Type 0 where

@@ -18,7 +18,7 @@ ghost use Rattle.ways.specs.Filed.{Filed};
 ghost use Rattle.ways.specs.Stacked.{Words};
 ghost use Rattle.expanding.specs.Backing.{Backing};
 ghost use Rattle.expanding.specs.Stepping.{Steps, Entries, entriesTurn, WantsSame, EntryBelow, EntryAmong};
-ghost use Rattle.expanding.specs.Undoing.{undone, lineUndone, wordUndone, wordsUndone, linesBack, undoOf, Undoing, InStates, LeadsTo};
+ghost use Rattle.expanding.specs.Undoing.{undone, lineUndone, wordUndone, wordsUndone, linesBack, undoOf, Undoing, InStates, NothingBack, LeadsTo};
 ghost use Rattle.states.specs.Spots.{front, boatsIn, Sane, stackAt, Aimed, Starts, spotTurn};
 use request::Plan;
 use sorted::Order;
@@ -32,7 +32,8 @@ use ways::Way;
 
 // ---- the stacks of one line
 
-// One stack `v` after the position: it is undone for the line's boat, and the state before is pushed.
+// One stack `v` after the position: it is undone for the line's boat, and the state before is pushed. Most states have been met before, so that is
+// asked first.
 fn one_stack(
     work: &mut [u32],
     plan: Plan,
@@ -50,6 +51,9 @@ fn one_stack(
     ensures { λ r. ⌜ StepBackAny plan (stackAt (boatsIn plan (now (work .entry))) (plan .radix) spot d home code v) tail (now (work .entry)) r (now (work .exit)) ⌝ }
 {
     let u = states::take_off(spot, v);
+    if area::dist_at(work, plan.base, plan.size, tail, home + u) != 0 {
+        return tail;
+    }
     if states::put_on(spot, u, code) == v {
         if states::passes(work, plan, spot, code, u) {
             return area::push_if_new(work, plan.base, plan.size, d, home + u, tail);
@@ -208,7 +212,7 @@ fn wants_same(undo: Undo) -> bool
 }
 
 // Each stack, for a line with the boat number `code`; `home` is the state with the empty stack at the line's start.
-fn over_stacks(
+fn try_stacks(
     work: &mut [u32],
     plan: Plan,
     undo: Undo,
@@ -224,6 +228,44 @@ fn over_stacks(
         return over_same(work, plan, undo, home, code, tail);
     }
     over_each(work, plan, undo, home, code, tail)
+}
+
+// Is one stack undone, by a position that does not push, and has the state before been met?
+fn met_alone(work: &[u32], plan: Plan, undo: Undo, home: usize, tail: usize) -> bool
+    requires { ⌜ Undoing plan undo tail (now work) ⌝ }
+    requires { ⌜ InStates plan undo home ⌝ }
+    ensures { λ r. ⌜ (r ≡ true → NothingBack plan undo home tail (now (work .entry))) ⌝ }
+{
+    let spot = undo.spot;
+    if undo.count != 1 {
+        return false;
+    }
+    if spot.push {
+        return false;
+    }
+    if area::dist_at(work, plan.base, plan.size, tail, home + undo.stack) == 0 {
+        return false;
+    }
+    true
+}
+
+// The same, unless it would do nothing: of the lines into a place most come from states that have been met.
+fn over_stacks(
+    work: &mut [u32],
+    plan: Plan,
+    undo: Undo,
+    home: usize,
+    code: u32,
+    tail: usize,
+) -> usize
+    requires { ⌜ Undoing plan undo tail (now work) ⌝ }
+    requires { ⌜ InStates plan undo home ⌝ }
+    ensures { λ r. ⌜ StepBackAny plan (undone plan undo (boatsIn plan (now (work .entry))) home code) tail (now (work .entry)) r (now (work .exit)) ⌝ }
+{
+    if met_alone(work, plan, undo, home, tail) {
+        return tail;
+    }
+    try_stacks(work, plan, undo, home, code, tail)
 }
 
 // ---- each line

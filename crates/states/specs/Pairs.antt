@@ -22,8 +22,11 @@ RoomBack plan = Room (plan .base) (plan .size)
 abbrev pub StepBackAny : Plan → (Search → Search) → ℕ → List ℕ → ℕ → List ℕ → Type 0
 StepBackAny plan = StepAny (plan .base) (plan .size)
 
+abbrev pub foundBack : Plan → ℕ → List ℕ → Search
+foundBack plan = found (plan .base) (plan .size)
+
 abbrev pub GoodBack : Plan → ℕ → List ℕ → Type 0
-GoodBack plan tail w = Good (plan .size) (found (plan .base) (plan .size) tail w)
+GoodBack plan tail w = Good (plan .size) (foundBack plan tail w)
 
 -- the words of the distances
 abbrev pub distances : Plan → List ℕ → List ℕ

@@ -1,22 +1,23 @@
--- `expanding::over_stacks` meets its contract, by either loop. Assumes nothing.
+-- `expanding::over_stacks` meets its contract: nothing is to be done, or each stack is tried. Assumes nothing.
+use mathlib.Core.Path.{sym, _∙_}
+use Rattle.area.proofs.Anyhow.{step-none}
 use borrow.Author.Needs.{needs}
 use Rattle.expanding.proofs.over_stacks.Statement.{statement}
 use Rattle.expanding.proofs.over_stacks.Tie as tie
 
-wants-same-requires : tie.Need-wants-same-requires
-wants-same-requires c κs = search needs
-
-over-same-requires : tie.Need-over-same-requires
-over-same-requires c κs = let a = c .before .before .before .before in (a .pre .0, (a .pre .1, c .before .before .wants-same .ensures (c .before .if1 .taken)))
+met-alone-requires : tie.Need-met-alone-requires
+met-alone-requires c κs = search needs
 
 same-length : tie.Need-same-length
 same-length c = search needs
 
 returns : tie.Need-returns
-returns c = search needs
+returns c =
+    let a = c .before .before .before .before in
+    step-none _ (a .pre .0 .ready) (c .before .met-alone .ensures (c .if1 .taken) _ _)
 
-over-each-requires : tie.Need-over-each-requires
-over-each-requires c κs = search needs
+try-stacks-requires : tie.Need-try-stacks-requires
+try-stacks-requires c κs = search needs
 
 same-length-2 : tie.Need-same-length-2
 same-length-2 c = search needs
@@ -27,11 +28,4 @@ returns-2 c = search needs
 pub over-stacks-spec : {M : Type 1} → statement M
 over-stacks-spec =
     tie.close
-    (tie.spec
-    wants-same-requires
-    over-same-requires
-    same-length
-    returns
-    over-each-requires
-    same-length-2
-    returns-2)
+    (tie.spec met-alone-requires same-length returns try-stacks-requires same-length-2 returns-2)
