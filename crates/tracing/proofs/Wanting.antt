@@ -1,5 +1,5 @@
 -- The wanted boats: where one stack is undone, another boat than its top, or than the entry that is compared with, undoes nothing
--- (`top-alone`, `kept-alone`); and a line that cannot have a wanted boat does nothing (`line-unwanted`). Assumes nothing.
+-- (`top-alone`, `kept-alone`); and a line of another kind, or that cannot have a wanted boat, does nothing (`line-unwanted`). Assumes nothing.
 use mathlib.Core.Path.{_≡_, refl, sym, ap, _∙_}
 use mathlib.Core.Bool.{Bool, true, false, cond, _&&_, false≢true}
 use mathlib.Core.List.{List}
@@ -20,7 +20,7 @@ use Rattle.states.specs.declared.Spot.{Spot}
 use Rattle.expanding.specs.Undoing.{undone, lineUndone}
 use Rattle.expanding.specs.declared.Undo.{Undo}
 use Rattle.tracing.specs.Tracing.{lineTraced}
-use Rattle.tracing.specs.Wanting.{canHave, WantedBy}
+use Rattle.tracing.specs.Wanting.{canHave, canLead, WantedBy}
 use Rattle.tracing.specs.declared.Wanted.{Wanted}
 use Rattle.tracing.specs.declared.Wanted.the-variants as Wanted
 use Rattle.tracing.proofs.Traces.{tagged-idle}
@@ -94,6 +94,23 @@ module _ (plan : Plan) (u : Undo) (g : List ℕ) (place c i : ℕ) where
   idle-by (Wanted.Only y) h no-boat st = cond-same (eqb (toIn (wordAt plan g i)) place && eqb (kindIn (wordAt plan g i)) (u .spot .kind)) _ st (h (boatAt plan g) (stateIn plan (fromIn (wordAt plan g i)) c 0) (codeAt plan g i) st (eqb-false _ _ no-boat))
   idle-by Wanted.Any h no-boat st = absurd (false≢true (sym no-boat))
 
-  pub line-unwanted : (parent : ℕ) (y : Wanted) → WantedBy plan u y → canHave y (codeAt plan g i) ≡ false → (x : Reached) → lineTraced plan u g place c parent i x ≡ x
+  -- a line of another kind
+  idle-kind : eqb (kindIn (wordAt plan g i)) (u .spot .kind) ≡ false → (st : Search) → lineUndone plan u g place c i st ≡ st
+  unfolding lineUndone
+  idle-kind no-kind st = go (eqb (toIn (wordAt plan g i)) place) (eqb (kindIn (wordAt plan g i)) (u .spot .kind)) no-kind
+    where
+      go : (a b : Bool) → b ≡ false → cond (a && b) (undone plan u (boatAt plan g) (stateIn plan (fromIn (wordAt plan g i)) c 0) (codeAt plan g i) st) st ≡ st
+      go true true e = absurd (false≢true (sym e))
+      go true false e = refl
+      go false b e = refl
+
+  idle-line : (y : Wanted) → WantedBy plan u y → canLead (u .spot .kind) y (wordAt plan g i) (codeAt plan g i) ≡ false → (st : Search) → lineUndone plan u g place c i st ≡ st
+  idle-line y h never st = go (eqb (kindIn (wordAt plan g i)) (u .spot .kind)) refl never
+    where
+      go : (b : Bool) → eqb (kindIn (wordAt plan g i)) (u .spot .kind) ≡ b → (b && canHave y (codeAt plan g i)) ≡ false → lineUndone plan u g place c i st ≡ st
+      go true e n = idle-by y h n st
+      go false e n = idle-kind e st
+
+  pub line-unwanted : (parent : ℕ) (y : Wanted) → WantedBy plan u y → canLead (u .spot .kind) y (wordAt plan g i) (codeAt plan g i) ≡ false → (x : Reached) → lineTraced plan u g place c parent i x ≡ x
   unfolding lineTraced
-  line-unwanted parent y h no-boat x = tagged-idle (tagOf i parent) (lineUndone plan u g place c i) x (idle-by y h no-boat (x .table))
+  line-unwanted parent y h never x = tagged-idle (tagOf i parent) (lineUndone plan u g place c i) x (idle-line y h never (x .table))

@@ -5,14 +5,14 @@ ghost use Prim.Native.Nat.{suc, _+_, _*_, _-_, _≤_, _<_};
 ghost use lib.ListN.{length, replicate};
 ghost use Rattle.positions.specs.Program.{bitOf, followAt};
 ghost use Rattle.request.specs.Layout.{Laid};
-ghost use Rattle.search.specs.Loaded.{settingAt, codeAt};
+ghost use Rattle.search.specs.Loaded.{settingAt, codeAt, wordAt};
 ghost use Rattle.search.specs.Traced.{trace};
 ghost use Rattle.area.specs.Area.{patch};
 ghost use Rattle.states.specs.Pairs.{RoomBack};
 ghost use Rattle.states.specs.Spots.{front, Aimed, Starts, Fit, Sane};
 ghost use Rattle.expanding.specs.Undoing.{Undoing, LeadsTo};
 ghost use Rattle.tracing.specs.Tracing.{StepTraced, Indexed, lineTraced, intoTraced, spotTraced};
-ghost use Rattle.tracing.specs.Wanting.{canHave, WantedBy};
+ghost use Rattle.tracing.specs.Wanting.{canHave, canLead, WantedBy};
 use expanding::Undo;
 use request::Plan;
 use sorted::Order;
@@ -99,7 +99,19 @@ fn can_have(work: &[u32], plan: Plan, wanted: Wanted, i: usize) -> bool
     true
 }
 
-// Each line that leads to the place, one after the other; those whose boat cannot be the wanted one are left out.
+// Can line `i` lead back: is it of the kind, and can it have the wanted boat? Both are asked before the line is gone over, since most lines fail one.
+fn can_lead(work: &[u32], plan: Plan, kind: usize, wanted: Wanted, i: usize) -> bool
+    requires { ⌜ Laid plan (length (now work)) × (i < plan .lines) ⌝ }
+    ensures { λ r. ⌜ r ≡ canLead kind wanted (wordAt plan (front plan (now (work .entry))) i) (codeAt plan (front plan (now (work .entry))) i) ⌝ }
+{
+    let line = area::word(work, plan.words + i);
+    if request::kind_of(line) == kind {
+        return can_have(work, plan, wanted, i);
+    }
+    false
+}
+
+// Each line that leads to the place, one after the other; those that are not of the kind or cannot have the wanted boat are left out.
 fn over_into(
     work: &mut [u32],
     plan: Plan,
@@ -117,10 +129,11 @@ fn over_into(
     let at = plan.base + 4 * plan.size;
     let run = sorted::run_at(work, plan, Order::End, at, place);
     let boats = wanted_by(plan, undo);
+    let spot = undo.spot;
     let mut t = tail;
     for k in run.lo..run.hi {
         let i = area::word(work, k) as usize;
-        if can_have(work, plan, boats, i) {
+        if can_lead(work, plan, spot.kind, boats, i) {
             t = one_traced(work, plan, undo, place, c, i, parent, t);
         }
     }
