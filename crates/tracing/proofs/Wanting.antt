@@ -105,11 +105,11 @@ module _ (plan : Plan) (u : Undo) (g : List ℕ) (place c i : ℕ) where
       go false b e = refl
 
   idle-line : (y : Wanted) → WantedBy plan u y → canLead (u .spot .kind) y (wordAt plan g i) (codeAt plan g i) ≡ false → (st : Search) → lineUndone plan u g place c i st ≡ st
-  idle-line y h never st = go (eqb (kindIn (wordAt plan g i)) (u .spot .kind)) refl never
+  idle-line y h never st = go (canHave y (codeAt plan g i)) refl never
     where
-      go : (b : Bool) → eqb (kindIn (wordAt plan g i)) (u .spot .kind) ≡ b → (b && canHave y (codeAt plan g i)) ≡ false → lineUndone plan u g place c i st ≡ st
-      go true e n = idle-by y h n st
-      go false e n = idle-kind e st
+      go : (b : Bool) → canHave y (codeAt plan g i) ≡ b → (b && eqb (kindIn (wordAt plan g i)) (u .spot .kind)) ≡ false → lineUndone plan u g place c i st ≡ st
+      go true e n = idle-kind n st
+      go false e n = idle-by y h e st
 
   pub line-unwanted : (parent : ℕ) (y : Wanted) → WantedBy plan u y → canLead (u .spot .kind) y (wordAt plan g i) (codeAt plan g i) ≡ false → (x : Reached) → lineTraced plan u g place c parent i x ≡ x
   unfolding lineTraced

@@ -18,7 +18,7 @@ canHave Wanted.Any x = true
 
 -- and is a line with the word e of the kind?
 abbrev pub canLead : ℕ → Wanted → ℕ → ℕ → Bool
-canLead kind y e x = eqb (kindIn e) kind && canHave y x
+canLead kind y e x = canHave y x && eqb (kindIn e) kind
 
 -- whatever the table and the line's start, another boat undoes nothing
 abbrev pub WantedBy : Plan → Undo → Wanted → Type 0

@@ -99,14 +99,15 @@ fn can_have(work: &[u32], plan: Plan, wanted: Wanted, i: usize) -> bool
     true
 }
 
-// Can line `i` lead back: is it of the kind, and can it have the wanted boat? Both are asked before the line is gone over, since most lines fail one.
+// Can line `i` lead back: can it have the wanted boat, and is it of the kind? Both are asked before the line is gone over, since most lines fail one;
+// the boat first, which fewer pass.
 fn can_lead(work: &[u32], plan: Plan, kind: usize, wanted: Wanted, i: usize) -> bool
     requires { ⌜ Laid plan (length (now work)) × (i < plan .lines) ⌝ }
     ensures { λ r. ⌜ r ≡ canLead kind wanted (wordAt plan (front plan (now (work .entry))) i) (codeAt plan (front plan (now (work .entry))) i) ⌝ }
 {
-    let line = area::word(work, plan.words + i);
-    if request::kind_of(line) == kind {
-        return can_have(work, plan, wanted, i);
+    if can_have(work, plan, wanted, i) {
+        let line = area::word(work, plan.words + i);
+        return request::kind_of(line) == kind;
     }
     false
 }
