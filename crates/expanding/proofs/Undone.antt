@@ -1,11 +1,12 @@
 -- Case by case: what is undone by a line and by a word of the sorted lines; that it is what all lines do, for a target and a position; and
 -- that what it goes by stays.
 use mathlib.Core.Path.{_≡_, refl, sym, ap, _∙_, subst}
-use mathlib.Core.Bool.{false}
+use mathlib.Core.Bool.{Bool, true, false, cond, _&&_}
 use mathlib.Core.List.{List}
 use Prim.Native.Nat.{ℕ, suc, _+_, _*_, _-_, _^_, _/_, _%_, _<_, _≤_}
 use native.Mathlib.Nat.{pow-zero}
 use native.Mathlib.Omega.{arith}
+use lib.Dec.{eqb}
 use lib.ListN.{length, getD}
 use borrow.Author.Tests.{eq-eqb, ne-eqb}
 use Rattle.request.specs.Layout.{largest, Laid, fromIn, toIn, kindIn}
@@ -55,6 +56,19 @@ module _ (plan : Plan) (u : Undo) (g : List ℕ) (place c i : ℕ) (st : Search)
     pub line-taken : x ≡ u .spot .kind → (q : ℕ) → q ≡ fromIn (wordAt plan g i) → (b home : ℕ) → b ≡ codeAt plan g i → home ≡ stateIn plan q c 0 → lineUndone plan u g place c i st ≡ undone plan u (boatAt plan g) home b st
     unfolding lineUndone
     line-taken k q eq b home eb eh = rw (← eb, ← er, ← ex, ← eq, ← eh, eq-eqb _ _ h, eq-eqb _ _ k)
+
+-- where nothing is undone from its start, a line does nothing
+pub line-idle : (plan : Plan) (u : Undo) (g : List ℕ) (place c i : ℕ) (st : Search) (home : ℕ) → home ≡ stateIn plan (fromIn (wordAt plan g i)) c 0
+    → ((B : ℕ → ℕ) (x : ℕ) → undone plan u B home x st ≡ st) → lineUndone plan u g place c i st ≡ st
+unfolding lineUndone
+line-idle plan u g place c i st home is idle =
+    go (eqb (toIn (wordAt plan g i)) place && eqb (kindIn (wordAt plan g i)) (u .spot .kind))
+    (ap (λ n. undone plan u (boatAt plan g) n (codeAt plan g i) st) (sym is) ∙ idle (boatAt plan g) (codeAt plan g i))
+  where
+    go : (b : Bool) → undone plan u (boatAt plan g) (stateIn plan (fromIn (wordAt plan g i)) c 0) (codeAt plan g i) st ≡ st
+        → cond b (undone plan u (boatAt plan g) (stateIn plan (fromIn (wordAt plan g i)) c 0) (codeAt plan g i) st) st ≡ st
+    go true e = e
+    go false e = refl
 
 -- ---- a word of the sorted lines, read as r
 

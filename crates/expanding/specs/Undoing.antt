@@ -14,7 +14,7 @@ use Rattle.graph.specs.Loops.{turns}
 use Rattle.graph.specs.Table.{Search}
 use Rattle.sorted.specs.Sorting.{packBy}
 use Rattle.states.specs.Pairs.{RoomBack, foundBack}
-use Rattle.states.specs.Spots.{boatsIn, Sane, stackTurn, lineTurn, Stacks}
+use Rattle.states.specs.Spots.{front, boatsIn, Sane, stackTurn, lineTurn, Stacks}
 use Rattle.states.specs.declared.Spot.{Spot}
 use Rattle.states.specs.declared.Target.{Target}
 use Rattle.expanding.specs.declared.Undo.{Undo}
@@ -65,6 +65,10 @@ module _ (plan : Plan) (u : Undo) where
   -- what is undone there is nothing, by whichever boats
   abbrev pub NothingBack : ℕ → ℕ → List ℕ → Type 0
   NothingBack home tail w = (B : ℕ → ℕ) (x : ℕ) → undone B home x (foundBack plan tail w) ≡ foundBack plan tail w
+
+  -- and so by line i, to whichever place it leads
+  abbrev pub NothingByLine : ℕ → ℕ → ℕ → List ℕ → Type 0
+  NothingByLine c i tail w = (place : ℕ) → lineUndone (front plan w) place c i (foundBack plan tail w) ≡ foundBack plan tail w
 
   -- the position c is a position, and every stack tried is one of the stacks
   pub record LeadsTo (c : ℕ) : Type 0 where

@@ -18,7 +18,7 @@ ghost use Rattle.ways.specs.Filed.{Filed};
 ghost use Rattle.ways.specs.Stacked.{Words};
 ghost use Rattle.expanding.specs.Backing.{Backing};
 ghost use Rattle.expanding.specs.Stepping.{Steps, Entries, entriesTurn, WantsSame, EntryBelow, EntryAmong};
-ghost use Rattle.expanding.specs.Undoing.{undone, lineUndone, wordUndone, wordsUndone, linesBack, undoOf, Undoing, InStates, NothingBack, LeadsTo};
+ghost use Rattle.expanding.specs.Undoing.{undone, lineUndone, wordUndone, wordsUndone, linesBack, undoOf, Undoing, InStates, NothingBack, NothingByLine, LeadsTo};
 ghost use Rattle.states.specs.Spots.{front, boatsIn, Sane, stackAt, Aimed, Starts, spotTurn};
 use request::Plan;
 use sorted::Order;
@@ -295,6 +295,19 @@ pub fn one_line(
         }
     }
     tail
+}
+
+// Is it known that line `i` finds nothing at the position `c`, since the one state that it could find has been met? For a loop that asks this of
+// each line, before it hands on what `one_line` needs.
+pub fn line_met(work: &[u32], plan: Plan, undo: Undo, c: usize, i: usize, tail: usize) -> bool
+    requires { ⌜ Undoing plan undo tail (now work) ⌝ }
+    requires { ⌜ Starts plan (front plan (now work)) × (i < plan .lines) ⌝ }
+    requires { ⌜ LeadsTo plan undo c ⌝ }
+    ensures { λ r. ⌜ (r ≡ true → NothingByLine plan undo c i tail (now (work .entry))) ⌝ }
+{
+    let line = area::word(work, plan.words + i);
+    let home = states::state_at(plan, request::from_of(line), c, 0);
+    met_alone(work, plan, undo, home, tail)
 }
 
 // Each line, one after the other.

@@ -12,7 +12,7 @@ use Rattle.graph.specs.Loops.{turns}
 use Rattle.graph.specs.Trace.{Reached, tagOf, tagged}
 use Rattle.area.specs.Area.{stretch, found}
 use Rattle.states.specs.Pairs.{RoomBack, GoodBack}
-use Rattle.states.specs.Spots.{spotIn, lineTurn}
+use Rattle.states.specs.Spots.{front, spotIn, lineTurn}
 use Rattle.states.specs.declared.Target.{Target}
 use Rattle.sorted.specs.Sorting.{sortedEnd, Sorted}
 use Rattle.sorted.specs.declared.Order.the-variants as Order
@@ -62,6 +62,11 @@ module _ (plan : Plan) (u : Undo) (g : List ℕ) (place c parent : ℕ) where
   -- by each line
   unfoldable pub intoTraced : Reached → Reached
   intoTraced = turns lineTraced 0 (plan .lines)
+
+-- line i finds nothing, whichever place and state it is asked for
+abbrev pub NothingTraced : Plan → Undo → ℕ → ℕ → ℕ → List ℕ → Type 0
+NothingTraced plan u c i tail w =
+    (place parent : ℕ) → lineTraced plan u (front plan w) place c parent i (reachedIn plan tail w) ≡ reachedIn plan tail w
 
 -- back to the position c, if the target's position may come after it
 unfoldable pub spotTraced : List ℕ → Plan → List ℕ → Target → ℕ → ℕ → ℕ → Reached → Reached

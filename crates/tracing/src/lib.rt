@@ -1,6 +1,7 @@
 // A state expanded, backward, with how each state before it is reached: the line, and the state that is expanded, as a tag beside the queue.
 // The lines stand in order of the place that they lead to, after the four stretches.
 ghost use mathlib.Core.Path.{_≡_};
+ghost use mathlib.Core.Bool.{false};
 ghost use Prim.Native.Nat.{suc, _+_, _*_, _-_, _≤_, _<_};
 ghost use lib.ListN.{length, replicate};
 ghost use Rattle.positions.specs.Program.{bitOf, followAt};
@@ -11,7 +12,7 @@ ghost use Rattle.area.specs.Area.{patch};
 ghost use Rattle.states.specs.Pairs.{RoomBack};
 ghost use Rattle.states.specs.Spots.{front, Aimed, Starts, Fit, Sane};
 ghost use Rattle.expanding.specs.Undoing.{Undoing, LeadsTo};
-ghost use Rattle.tracing.specs.Tracing.{StepTraced, Indexed, lineTraced, intoTraced, spotTraced};
+ghost use Rattle.tracing.specs.Tracing.{StepTraced, Indexed, NothingTraced, lineTraced, intoTraced, spotTraced};
 ghost use Rattle.tracing.specs.Wanting.{canHave, canLead, WantedBy};
 use expanding::Undo;
 use request::Plan;
@@ -112,7 +113,32 @@ fn can_lead(work: &[u32], plan: Plan, kind: usize, wanted: Wanted, i: usize) -> 
     false
 }
 
-// Each line that leads to the place, one after the other; those that are not of the kind or cannot have the wanted boat are left out.
+// Is line `i` to be gone over: can it lead back, and is the state that it would find not one that has been met?
+fn worth_going(
+    work: &[u32],
+    plan: Plan,
+    undo: Undo,
+    wanted: Wanted,
+    c: usize,
+    i: usize,
+    tail: usize,
+) -> bool
+    requires { ⌜ Undoing plan undo tail (now work) × WantedBy plan undo wanted ⌝ }
+    requires { ⌜ Starts plan (front plan (now work)) × (i < plan .lines) ⌝ }
+    requires { ⌜ LeadsTo plan undo c ⌝ }
+    ensures { λ r. ⌜ (r ≡ false → NothingTraced plan undo c i tail (now (work .entry))) ⌝ }
+{
+    let spot = undo.spot;
+    if can_lead(work, plan, spot.kind, wanted, i) {
+        if expanding::line_met(work, plan, undo, c, i, tail) {
+            return false;
+        }
+        return true;
+    }
+    false
+}
+
+// Each line that leads to the place, one after the other; those that would do nothing are left out.
 fn over_into(
     work: &mut [u32],
     plan: Plan,
@@ -130,11 +156,10 @@ fn over_into(
     let at = plan.base + 4 * plan.size;
     let run = sorted::run_at(work, plan, Order::End, at, place);
     let boats = wanted_by(plan, undo);
-    let spot = undo.spot;
     let mut t = tail;
     for k in run.lo..run.hi {
         let i = area::word(work, k) as usize;
-        if can_lead(work, plan, spot.kind, boats, i) {
+        if worth_going(work, plan, undo, boats, c, i, t) {
             t = one_traced(work, plan, undo, place, c, i, parent, t);
         }
     }

@@ -1,5 +1,5 @@
 -- `tracing::over_into` meets its contract: the words of the run are the lines that lead to the place, and going over them is going over all lines.
--- They stand after the stretches, and stay. A line of another kind, or that cannot have a wanted boat, is left out, and would do nothing. Assumes nothing.
+-- They stand after the stretches, and stay. A line that is left out would do nothing. Assumes nothing.
 use mathlib.Core.Path.{_≡_, sym, _∙_, subst, subst₂}
 use mathlib.Core.Logic.{⊎-elim}
 use Prim.Native.Nat.{_-_, _≤_, _<_}
@@ -16,12 +16,12 @@ use Rattle.tracing.proofs.over_into.Statement.{statement}
 use Rattle.tracing.proofs.over_into.Tie as tie
 
 abbrev Inv-loop : tie.InvT-loop
-Inv-loop work₀ plan undo place c parent tail at boats spot t₀ k₀ k-end work t k =
+Inv-loop work₀ plan undo place c parent tail at boats t₀ k₀ k-end work t k =
     ((k₀ ≤ k) × (k ≤ k-end) × Lined plan k₀ k-end work₀)
     × UnderTraced plan (intoTraced plan undo (front plan work₀) place c parent) tail work₀ (turns (λ p. lineTraced plan undo (front plan work₀) place c parent (getD work₀ p 0)) k (k-end - k)) t work
 
 abbrev μ-loop : tie.MeasureT-loop
-μ-loop work₀ plan undo place c parent tail at boats spot t₀ k₀ k-end work t k = k-end - k
+μ-loop work₀ plan undo place c parent tail at boats t₀ k₀ k-end work t k = k-end - k
 
 mul-at : tie.Need-mul-at Inv-loop μ-loop
 mul-at c = search needs
@@ -40,9 +40,9 @@ wanted-by-requires c κs = let h = c .before .before .before .before .before .pr
 
 loop-holds : tie.Need-loop-holds Inv-loop μ-loop
 loop-holds c =
-    let a = c .before .before .before .before .before .before .before in
+    let a = c .before .before .before .before .before .before in
     let (starts, index, low, state) = a .pre .1 .0 in
-    let run = c .before .before .run-at .ensures in
+    let run = c .before .run-at .ensures in
     ((omega arith, run .2, lined-of index low run), loop-start _ _ (a .pre .0 .ready) (into-run index low run (a .args .undo) (a .args .c) (a .args .parent) _))
 
 word-requires : tie.Need-word-requires Inv-loop μ-loop
@@ -56,7 +56,7 @@ cast-i c = search needs
 -- ---- one turn
 
 abbrev start : tie.After-word Inv-loop μ-loop → tie.Start Inv-loop μ-loop
-start k = k .before .before .before .before .before .before .before .before .before .before .before
+start k = k .before .before .before .before .before .before .before .before .before .before
 
 -- the word at k is as it was
 word-is : (k : tie.After-word Inv-loop μ-loop) → k .word .result ≡ getD (start k .args .work .now) (k .before .before .before .loop .k) 0
@@ -70,10 +70,13 @@ line-low k =
     let l = k .before .before .before .loop in
     omega (arith, word-is k, l .inv .0 .2 .lines-low (l .k) (l .inv .0 .0) (k .before .before .loop-test .taken))
 
-can-lead-requires : tie.Need-can-lead-requires Inv-loop μ-loop
-can-lead-requires c κs =
+worth-going-requires : tie.Need-worth-going-requires Inv-loop μ-loop
+worth-going-requires c κs =
     let k = c .before in
-    (undoing-traced (k .before .before .before .loop .inv .1) (start k .pre .0) .laid, line-low k)
+    let a = start k in
+    let u = k .before .before .before .loop .inv .1 in
+    let (starts, index, low, state) = a .pre .1 .0 in
+    ((undoing-traced u (a .pre .0), k .before .before .before .before .wanted-by .ensures), ((subst (Starts (a .args .plan)) (sym (u .front)) starts, line-low k), a .pre .1 .1))
 
 one-traced-requires : tie.Need-one-traced-requires Inv-loop μ-loop
 one-traced-requires c κs =
@@ -84,7 +87,7 @@ one-traced-requires c κs =
     let (starts, index, low, state) = a .pre .1 .0 in
     (undoing-traced u (a .pre .0), ((subst (Starts p) (sym (u .front)) starts, line-low k, omega (arith, indexed-traced u index .room), state), a .pre .1 .1))
 
--- a line that can lead back is gone over, and another does nothing
+-- a line that is worth it is gone over, and another does nothing
 step-of : (c : tie.Joined1 Inv-loop μ-loop) → let k = c .before .before .before in let x = start k .args in let l = k .before .before .before .loop in
     StepTraced (x .plan) (lineTraced (x .plan) (x .undo) (front (x .plan) (l .work)) (x .place) (x .c) (x .parent) (k .word .result)) (l .t) (l .work) (c .if1 .t) (c .if1 .work)
 step-of c =
@@ -93,10 +96,9 @@ step-of c =
     let l = k .before .before .before .loop in
     let g = front (x .plan) (l .work) in
     let turn = lineTraced (x .plan) (x .undo) g (x .place) (x .c) (x .parent) (k .word .result) in
-    let boats = k .before .before .before .before .before .wanted-by in
     ⊎-elim
     (λ m. subst₂ (λ t w. StepTraced (x .plan) turn (l .t) (l .work) t w) (sym (m .6)) (sym (m .5)) (m .2 .ensures))
-    (λ m. subst₂ (λ t w. StepTraced (x .plan) turn (l .t) (l .work) t w) (sym (m .2)) (sym (m .1)) (traced-none turn (l .inv .1 .ready) (line-unwanted (x .plan) (x .undo) g (x .place) (x .c) (k .word .result) (x .parent) (boats .result) (boats .ensures) (sym (c .before .can-lead .ensures) ∙ m .0 .left) _)))
+    (λ m. subst₂ (λ t w. StepTraced (x .plan) turn (l .t) (l .work) t w) (sym (m .2)) (sym (m .1)) (traced-none turn (l .inv .1 .ready) (c .before .worth-going .ensures (m .0 .left) (x .place) (x .parent))))
     (c .if1 .came)
 
 add-k : tie.Need-add-k Inv-loop μ-loop
@@ -133,7 +135,7 @@ over-into-spec =
     loop-holds
     word-requires
     cast-i
-    can-lead-requires
+    worth-going-requires
     one-traced-requires
     add-k
     loop-less
