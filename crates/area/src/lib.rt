@@ -52,8 +52,8 @@ pub fn word(work: &[u32], i: usize) -> u32
     work[i]
 }
 
-// The state `s` gets the word `d` and comes into the queue, unless it has a word. Returns how many are in the queue then. In a search a state
-// without a word leaves room in the queue; in words that are none the queue is asked.
+// The state `s` gets the word `d` and comes into the queue, unless it has a word. Returns how many are in the queue then. In a search, a state
+// without a word leaves room in the queue; whatever words stand there, nothing is written past its end.
 pub fn push_if_new(
     work: &mut [u32],
     base: usize,
