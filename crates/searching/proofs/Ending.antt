@@ -10,7 +10,7 @@ use native.Mathlib.Omega.{arith}
 use native.Mathlib.Decide.{decLt}
 use lib.Dec.{eqb, ltb, leb}
 use lib.ListN.{length, getD, drop}
-use borrow.Author.Tests.{eqb-true, lt-ltb, lt-leb}
+use borrow.Author.Tests.{eqb-true, lt-ltb}
 use Rattle.meaning.specs.Request.{Asked, sizeOf}
 use Rattle.positions.specs.Program.{Compiled}
 use Rattle.graph.specs.Sweep.{chainIn}

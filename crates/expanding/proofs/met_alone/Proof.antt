@@ -1,6 +1,6 @@
 -- `expanding::met_alone` meets its contract: the one state that could be pushed has a word. Assumes nothing.
-use mathlib.Core.Path.{_≡_, sym, _∙_}
-use mathlib.Core.Bool.{true, false, false≢true}
+use mathlib.Core.Path.{_≡_, _∙_}
+use mathlib.Core.Bool.{false≢true}
 use Prim.Native.Nat.{_+_, _<_}
 use native.Mathlib.Omega.{arith}
 use Rattle.expanding.proofs.Undone.{alone-met}

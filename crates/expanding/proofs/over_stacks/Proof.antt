@@ -1,5 +1,4 @@
 -- `expanding::over_stacks` meets its contract: nothing is to be done, or each stack is tried. Assumes nothing.
-use mathlib.Core.Path.{sym, _∙_}
 use Rattle.area.proofs.Anyhow.{step-none}
 use borrow.Author.Needs.{needs}
 use Rattle.expanding.proofs.over_stacks.Statement.{statement}

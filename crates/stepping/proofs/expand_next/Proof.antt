@@ -1,5 +1,4 @@
 -- `stepping::expand_next` meets its contract: the state that waits first is expanded, with one more than its word. Assumes nothing.
-use mathlib.Core.Path.{_∙_}
 use native.Mathlib.Omega.{arith}
 use Rattle.stepping.proofs.Settling.{expand-none, expand-one}
 use borrow.Author.Needs.{needs}

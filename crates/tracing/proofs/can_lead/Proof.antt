@@ -1,6 +1,6 @@
 -- `tracing::can_lead` meets its contract: the word read is the line's, and where its boat cannot be the wanted one nothing more is asked.
 -- Assumes nothing.
-use mathlib.Core.Path.{_≡_, sym, ap, _∙_}
+use mathlib.Core.Path.{sym, ap, _∙_}
 use mathlib.Core.Bool.{Bool, _&&_}
 use lib.Dec.{eqb}
 use Rattle.request.specs.Layout.{kindIn}

@@ -10,7 +10,6 @@ use Rattle.states.specs.Spots.{front, Starts}
 use Rattle.tracing.specs.Tracing.{reachedIn, StepTraced, lineTraced, intoTraced}
 use Rattle.tracing.proofs.Traces.{UnderTraced, loop-start, loop-turn, loop-end, traced-as, traced-none, undoing-traced, indexed-traced}
 use Rattle.tracing.proofs.Into.{Lined, end-keys, lined-of, lined-same, into-run}
-use Rattle.tracing.proofs.Wanting.{line-unwanted}
 use borrow.Author.Needs.{needs}
 use Rattle.tracing.proofs.over_into.Statement.{statement}
 use Rattle.tracing.proofs.over_into.Tie as tie
