@@ -1,6 +1,6 @@
 // The chain that the marks of a finished sweep say: the line into each level is the least mark of its states, less one. One pass over the states
-// found notes the least mark of every level in the output, and a second makes lines of marks. Whatever words the area has, no more than the front of
-// the output is written; where a search stands in it, it is the chain.
+// found notes the least mark of every level in the output, and a second makes lines of marks. Whatever words the area has, nothing but the output is
+// written; where a search stands in it, the output's front is the chain.
 ghost use mathlib.Core.Path.{_≡_};
 ghost use mathlib.Core.List.{_++_};
 ghost use Prim.Native.Nat.{_+_, _*_, _-_, _≤_, _<_};
