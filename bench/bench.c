@@ -1,5 +1,5 @@
 /* Times the library's finder and checker, its count of boats (by the words needed with one keep), the same by hand in C, and the second
-   program, on the same requests in one run; and beside the finder the library's search in steps.
+   program, on the same requests in one run; and beside the finder the library's search in steps, and its lengths from many places.
    Before anything is timed, each program's reply, output and cleared work area are compared with the others'. Work area and
    output are dirtied before every call, outside the clock. The calls of a sample alternate between the programs; each program
    makes as many as last at least BATCH together.
@@ -9,8 +9,12 @@
    bench --slowest                   the slowest requests, one call each
    bench --steps [ROW...]            searches in steps beside the finder and the C: every row of the table that finds a chain, or these
                                      rows, the slowest among them where they are named
-   bench --call ROW PROGRAM TIMES    calls alone, for a profiler; programs are 0 library, 1 C, 2 C grouped, 3 second, and in steps 5 begin
-                                     and finish, 6 with one move of everything between them, 7 with moves of 1,000
+   bench --starts [ROW...]           lists of places beside the finder and the C: every row of the table that finds a chain, but for one that
+                                     differs by its start alone, and rows about lists; or these rows. After it the times that it is made of
+   bench --call ROW PROGRAM TIMES    calls alone, for a profiler; programs are 0 library, 1 C, 2 C grouped, 3 second; in steps 5 begin and
+                                     finish, 6 with one move of everything between them, 7 with moves of 1,000; of many places 8 the finder
+                                     from a place without a chain, 9 a list of that place, 10 of one with a chain, 11 of all places, 12 of
+                                     all four times over, 13 the finder for each place, 14 C and 15 C grouped for all places
 
    Linked with an earlier build of the library, whose functions are then old_chains_*, it times that and the present one alone:
 
@@ -21,7 +25,8 @@
    It stops at a row where the replies of the two differ; with --differ it says what the reply was and goes on. A row whose pattern the
    earlier build refuses with 8, as one with a command that it does not have, is left out; with --differ it is timed.
 
-   Rows have their numbers for good, so the slowest requests stand among them: 30 and 31, and 40 to 45. */
+   Rows have their numbers for good, so the slowest requests stand among them: 30 and 31, and 40 to 45. From 54 on they are about lists of
+   places: --starts has them, and else they are measured where they are named. */
 #include "hand.h"
 
 #include <math.h>
@@ -34,6 +39,8 @@ uint64_t chains_words(const uint8_t *, size_t, const uint8_t *, size_t);
 uint64_t chains_find(const uint8_t *, size_t, const uint8_t *, size_t, uint16_t, uint16_t, uint32_t *, size_t, uint16_t *, size_t);
 uint64_t chains_check(const uint8_t *, size_t, const uint8_t *, size_t, uint16_t, uint16_t, const uint16_t *, size_t, uint32_t *,
                       size_t);
+uint64_t chains_starts(const uint8_t *, size_t, const uint8_t *, size_t, const uint16_t *, size_t, uint16_t, uint32_t *, size_t, uint32_t *,
+                       size_t);
 uint64_t chains_search_words(const uint8_t *, size_t, const uint8_t *, size_t);
 uint64_t chains_search_begin(const uint8_t *, size_t, const uint8_t *, size_t, uint16_t, uint16_t, uint32_t *, size_t);
 uint64_t chains_search_move(uint32_t *, size_t, size_t);
@@ -50,7 +57,9 @@ uint64_t second_check(const uint8_t *, size_t, const uint8_t *, size_t, uint16_t
 size_t second_proposition_3_day(uint16_t n, uint8_t *buf);
 size_t second_proposition_3_pattern(uint8_t keeps, uint8_t *buf);
 
-enum { MOST_BYTES = 40964, MOST_WORDS = 4 * 1048576 + 8192 + 3 * 4096, MOST_CHAIN = 1048576, MOST_SAMPLES = 401 };
+enum { MOST_BYTES = 40964, MOST_PLACES = 1024, MOST_WORDS = 4 * 1048576 + 8192 + 3 * 4096, MOST_CHAIN = 1048576, MOST_SAMPLES = 401 };
+
+enum { NO_PLACE = 65535 };
 
 static const double BATCH = 0.004; /* seconds of one program's calls in a sample */
 static const double LONG = 1.5;    /* seconds of one call that is not repeated */
@@ -58,22 +67,29 @@ static const double LONG = 1.5;    /* seconds of one call that is not repeated *
 /* The same for before and after, and seconds of all samples of a row: short samples, and many, for ratios near 1. */
 static const double BATCH_BEFORE = 0.001, ROW_BEFORE = 10;
 
+/* Seconds of all samples of a row about many places. */
+static const double ROW_STARTS = 2;
+
 static const uint64_t NO_CHAIN = 4294967295u;
 
 /* ---- programs */
 
-/* From STEPS on they are the library's search in steps: begin and finish, with one move of everything between them, with moves of 1,000. */
-enum { LIBRARY, HAND, GROUPED, SECOND, BEFORE, STEPS, ONE_MOVE, THOUSANDS, PROGRAMS };
+/* From STEPS on they are the library's search in steps: begin and finish, with one move of everything between them, with moves of 1,000.
+   From FIND_NONE on they are about places other than the request's start: the library's finder from a place without a chain; its lists of
+   that place, of one with a chain, of all places, and of all four times over; its finder for each place; and all places in C. */
+enum { LIBRARY, HAND, GROUPED, SECOND, BEFORE, STEPS, ONE_MOVE, THOUSANDS, FIND_NONE, ONE_NONE, ONE_FOUND, ALL, FOUR_TIMES, EACH, HAND_ALL,
+       GROUPED_ALL, PROGRAMS };
 
-enum { IN_STEPS = 1 << STEPS | 1 << ONE_MOVE | 1 << THOUSANDS };
+enum { IN_STEPS = 1 << STEPS | 1 << ONE_MOVE | 1 << THOUSANDS, OF_PLACES = (1 << PROGRAMS) - (1 << FIND_NONE) };
 
 /* Is an earlier build of the library linked; and may its replies differ from the present one's? */
 static int before, differ;
 
-static uint32_t work[MOST_WORDS];
+static uint32_t work[MOST_WORDS], lengths[4 * MOST_PLACES + 1];
 static uint16_t out[MOST_CHAIN];
 
-/* A request: to check a chain, to find one, or to say the words needed. `left_out` has the bit of each program that would take too long. */
+/* A request: to check a chain, to find one, or to say the words needed. `left_out` has the bit of each program that is not asked, or would
+   take too long. What stands after it is there for the programs of OF_PLACES. */
 struct request {
     char name[96];
     uint8_t rec[MOST_BYTES], pat[256];
@@ -83,6 +99,9 @@ struct request {
     uint16_t *chain;
     size_t chain_len, words[PROGRAMS]; /* the words lent */
     unsigned left_out;
+    size_t places;
+    uint16_t starts[4 * MOST_PLACES]; /* all places, four times over */
+    uint16_t none, found;             /* a place without a chain, and the nearest one with a chain; NO_PLACE where there is none */
 };
 
 static uint64_t begin_search(const struct request *r, size_t words)
@@ -108,9 +127,48 @@ static uint64_t in_steps(const struct request *r, size_t words, size_t amount)
     return chains_search_finish(work, words, out, MOST_CHAIN);
 }
 
+/* The list that a program is given. */
+static const uint16_t *list_of(const struct request *r, int program, size_t *count)
+{
+    *count = program == ONE_NONE || program == ONE_FOUND ? 1 : program == FOUR_TIMES ? 4 * r->places : r->places;
+    return program == ONE_NONE ? &r->none : program == ONE_FOUND ? &r->found : r->starts;
+}
+
+/* The lengths from all places by the finder, which is lent an output of no entries: a chain is not written then, and its length is said. */
+static uint64_t each_found(const struct request *r, size_t words)
+{
+    for (size_t i = 0; i < r->places; i++) {
+        uint64_t reply = chains_find(r->rec, r->rec_len, r->pat, r->pat_len, r->starts[i], r->to, work, words, out, 0);
+        if (reply >> 32 != 0 && reply >> 32 != 19)
+            return reply;
+        lengths[i] = (uint32_t)reply;
+    }
+    return r->places;
+}
+
+static uint64_t call_of_places(const struct request *r, int program, uint32_t *reached)
+{
+    size_t words = r->words[program], count;
+    const uint16_t *list = list_of(r, program, &count);
+    switch (program) {
+    case FIND_NONE:
+        return chains_find(r->rec, r->rec_len, r->pat, r->pat_len, r->none, r->to, work, words, out, MOST_CHAIN);
+    case EACH:
+        return each_found(r, words);
+    case HAND_ALL:
+        return hand_starts(r->rec, r->rec_len, r->pat, r->pat_len, list, count, r->to, work, words, lengths, count, reached);
+    case GROUPED_ALL:
+        return hand_starts_grouped(r->rec, r->rec_len, r->pat, r->pat_len, list, count, r->to, work, words, lengths, count, reached);
+    default:
+        return chains_starts(r->rec, r->rec_len, r->pat, r->pat_len, list, count, r->to, work, words, lengths, count);
+    }
+}
+
 static uint64_t call(const struct request *r, int program, uint32_t *reached)
 {
     size_t words = r->words[program];
+    if (OF_PLACES >> program & 1)
+        return call_of_places(r, program, reached);
     if (r->needed)
         switch (program) {
         case LIBRARY:
@@ -180,6 +238,8 @@ static double timed(const struct request *r, int program, uint64_t *reply, uint3
     memset(work, 0xA5, sizeof work[0] * r->words[program]);
     if (!r->check && !r->needed)
         memset(out, 0xA5, sizeof out[0] * (r->chain_len + 16));
+    if (OF_PLACES >> program & 1)
+        memset(lengths, 0xA5, sizeof lengths[0] * (4 * r->places + 1));
     double start = now();
     *reply = call(r, program, reached);
     return now() - start - clock_cost;
@@ -210,7 +270,7 @@ static void fail(const struct request *r, const char *what)
 static void lend(struct request *r)
 {
     for (int p = 0; p < PROGRAMS; p++) {
-        uint64_t (*needed)(const uint8_t *, size_t, const uint8_t *, size_t) = p >= STEPS ? chains_search_words : chains_words;
+        uint64_t (*needed)(const uint8_t *, size_t, const uint8_t *, size_t) = IN_STEPS >> p & 1 ? chains_search_words : chains_words;
         uint64_t words = (p == BEFORE && before ? old_chains_words : needed)(r->rec, r->rec_len, r->pat, r->pat_len);
         if (words >> 32 != 0 && !differ)
             fail(r, "refused");
@@ -222,6 +282,27 @@ static void lend(struct request *r)
         fail(r, "the words differ");
     if (r->needed)
         memset(r->words, 0, sizeof r->words);
+}
+
+/* The lengths that a program of OF_PLACES gave: as long as its list, the same for a place as those of the first such program, which has
+   all places, and nothing after them. */
+static void compare_lengths(const struct request *r, int program, uint64_t reply, int is_first)
+{
+    static uint32_t expected[MOST_PLACES];
+    size_t count;
+    const uint16_t *list = list_of(r, program, &count);
+    if (program == FIND_NONE) {
+        if (reply != NO_CHAIN)
+            fail(r, "a chain where there is none");
+        return;
+    }
+    if (is_first)
+        memcpy(expected, lengths, sizeof expected[0] * r->places);
+    if (reply != count || lengths[count] != 0xA5A5A5A5)
+        fail(r, "the lengths are not as many as the places listed");
+    for (size_t i = 0; i < count; i++)
+        if (lengths[i] != expected[list[i]])
+            fail(r, "the lengths differ");
 }
 
 /* One call of each program, the replies and lent words compared. Gives each one's reply and time, and whether they differ. */
@@ -237,6 +318,11 @@ static int compared(struct request *r, uint64_t reply[PROGRAMS], uint32_t *reach
         for (size_t i = 0; i < r->words[p]; i++)
             if (work[i] != 0)
                 fail(r, "the work area is not cleared");
+        if (OF_PLACES >> p & 1) {
+            compare_lengths(r, p, reply[p], first < 0);
+            first = p;
+            continue;
+        }
         size_t length = r->check || r->needed || reply[p] >= NO_CHAIN ? 0 : reply[p];
         if (first < 0) {
             first = p;
@@ -265,6 +351,9 @@ static void say(char said[24], const struct request *r, uint64_t reply)
         snprintf(said, 24, "found %u", (unsigned)reply);
 }
 
+/* 0 where one of them was left out. */
+static double by(double a, double b) { return a == 0 || b == 0 ? 0 : a / b; }
+
 static void show_ratio(double x)
 {
     if (x == 0)
@@ -273,11 +362,25 @@ static void show_ratio(double x)
         printf(" | %9.2f", x);
 }
 
+/* In microseconds. */
+static void show_time(double seconds)
+{
+    if (seconds == 0)
+        printf(" | %10s", "-");
+    else
+        printf(" | %10.1f", seconds * 1e6);
+}
+
+/* Programs whose samples have as many calls of the one as of the other, by turns. */
+enum { BY_BEFORE, NONE_BY_FIND, ALL_BY_NONE, ALL_BY_FOUND, RATIOS };
+
+static const int RATIO[RATIOS][2] = {{LIBRARY, BEFORE}, {ONE_NONE, FIND_NONE}, {ALL, ONE_NONE}, {ALL, ONE_FOUND}};
+
 /* What was measured: of each program the reply, the least time of a call and the median, 0 where it was left out; the states that the C's
-   phase one reached; and of before and after the median of the samples' ratios, and whether the replies differ. */
+   phase one reached; the medians of the samples' ratios; and whether the replies of before and after differ. */
 struct measured {
     uint64_t reply[PROGRAMS];
-    double least[PROGRAMS], middle[PROGRAMS], ratio;
+    double least[PROGRAMS], middle[PROGRAMS], ratio[RATIOS];
     uint32_t reached;
     int differing;
 };
@@ -291,12 +394,16 @@ static struct measured sampled(struct request *r)
     if (r->check || r->needed)
         r->left_out |= 1 << GROUPED;
     m.differing = compared(r, m.reply, &m.reached, time);
-    double round = 0;
+    double round = 0, list = 0;
+    for (int p = FIND_NONE; p <= FOUR_TIMES; p++)
+        list = fmax(list, time[p]);
     for (int p = 0; p < PROGRAMS; p++) {
         if (r->left_out >> p & 1)
             continue;
-        /* Before and after have as many calls each, by turns. */
+        /* Before and after have as many calls each, by turns; so have a find and the lists. */
         double batch = before ? BATCH_BEFORE : BATCH, lasts = before ? fmax(time[LIBRARY], time[BEFORE]) : time[p];
+        if (p >= FIND_NONE && p <= FOUR_TIMES)
+            lasts = list;
         calls[p] = lasts >= batch ? 1 : (unsigned)(batch / lasts) + 2;
         most = calls[p] > most ? calls[p] : most;
         round += time[p] >= LONG ? 0 : calls[p] * time[p];
@@ -306,6 +413,8 @@ static struct measured sampled(struct request *r)
         samples = 5;
     if (before)
         samples = fmax(5, fmin(MOST_SAMPLES, ROW_BEFORE / round));
+    else if (list > 0)
+        samples = fmax(15, fmin(MOST_SAMPLES, ROW_STARTS / round));
     for (int p = 0; p < PROGRAMS; p++)
         for (unsigned n = 0; n < samples; n++)
             sample[p][n] = time[p] >= LONG ? time[p] : 0;
@@ -321,10 +430,12 @@ static struct measured sampled(struct request *r)
             }
     }
     /* Whatever disturbs a sample disturbs both of its times: their ratio strays less than the ratio of the medians. */
-    double ratio[MOST_SAMPLES];
-    for (unsigned n = 0; before && n < samples; n++)
-        ratio[n] = sample[LIBRARY][n] / sample[BEFORE][n];
-    m.ratio = before ? median(ratio, samples) : 0;
+    for (int q = 0; q < RATIOS; q++) {
+        double ratio[MOST_SAMPLES];
+        for (unsigned n = 0; n < samples; n++)
+            ratio[n] = by(sample[RATIO[q][0]][n], sample[RATIO[q][1]][n]);
+        m.ratio[q] = median(ratio, samples);
+    }
     for (int p = 0; p < PROGRAMS; p++)
         if (calls[p] != 0) {
             m.middle[p] = median(sample[p], samples) / calls[p];
@@ -345,7 +456,7 @@ static void measure(struct request *r, double least[PROGRAMS])
         snprintf(both, sizeof both, "%s, was %s", said, strcmp(said, was) == 0 ? "another" : was);
         printf("| %-52s | %-11s | %10.1f", r->name, m.differing ? both : said, least[BEFORE] * 1e6);
         show_ratio(least[LIBRARY] / least[BEFORE]);
-        show_ratio(m.ratio);
+        show_ratio(m.ratio[BY_BEFORE]);
         printf(" |\n");
         fflush(stdout);
         return;
@@ -392,7 +503,7 @@ static double move_of_one(const struct request *r, uint32_t states)
 /* A search in steps beside the finder, and the C. */
 static void measure_steps(struct request *r)
 {
-    r->left_out = 1 << GROUPED | 1 << SECOND | 1 << BEFORE;
+    r->left_out = 1 << GROUPED | 1 << SECOND | 1 << BEFORE | OF_PLACES;
     const struct measured m = sampled(r);
     const uint32_t states = taken_up;
     char said[24];
@@ -404,6 +515,52 @@ static void measure_steps(struct request *r)
     show_ratio(m.least[ONE_MOVE] / m.least[STEPS]);
     show_ratio(m.least[THOUSANDS] / m.least[ONE_MOVE]);
     printf(" | %10.1f |\n", move_of_one(r, states) * 1e6);
+    fflush(stdout);
+}
+
+/* All places, and of them one without a chain and the nearest with one, by what the C says. Gives how many have a chain; the states that
+   its search reached go to *reached. */
+static unsigned choose_places(struct request *r, uint32_t *reached)
+{
+    unsigned chains = 0;
+    lend(r);
+    r->places = r->rec[1] << 8 | r->rec[2];
+    for (size_t i = 0; i < 4 * r->places; i++)
+        r->starts[i] = i % r->places;
+    r->none = r->found = NO_PLACE;
+    if (call(r, GROUPED_ALL, reached) != r->places)
+        fail(r, "the C refuses the places");
+    for (size_t i = 0; i < r->places; i++) {
+        chains += lengths[i] != NO_CHAIN;
+        if (lengths[i] == NO_CHAIN)
+            r->none = r->none == NO_PLACE ? i : r->none;
+        else if (r->found == NO_PLACE || lengths[i] - 1 < lengths[r->found] - 1) /* the empty chain comes last */
+            r->found = i;
+    }
+    return chains;
+}
+
+/* Lists of places beside the finder from a place without a chain, the finder for each place, and the C, but not the plain C where that
+   takes too long. The list of one is that of the place without a chain, where there is such a place. Gives each program's least time. */
+static void measure_starts(struct request *r, int too_long, double least[PROGRAMS])
+{
+    uint32_t reached;
+    const unsigned chains = choose_places(r, &reached);
+    const int all_have = r->none == NO_PLACE, none_has = r->found == NO_PLACE;
+    r->left_out = ~OF_PLACES | (too_long ? 1 << HAND_ALL : 0) | (all_have ? 1 << FIND_NONE | 1 << ONE_NONE : 0) |
+                  (none_has ? 1 << ONE_FOUND : 0);
+    const struct measured m = sampled(r);
+    memcpy(least, m.least, sizeof m.least);
+    printf("| %-52s | %4zu | %4u | %7u", r->name, r->places, chains, reached);
+    show_time(least[FIND_NONE]);
+    show_ratio(by(least[ONE_NONE], least[FIND_NONE]));
+    show_ratio(m.ratio[NONE_BY_FIND]);
+    show_ratio(by(least[ALL], least[all_have ? ONE_FOUND : ONE_NONE]));
+    show_ratio(m.ratio[all_have ? ALL_BY_FOUND : ALL_BY_NONE]);
+    printf(" | %9.5f", by(least[ALL], least[EACH]));
+    show_ratio(by(least[ALL], least[HAND_ALL]));
+    show_ratio(by(least[GROUPED_ALL], least[HAND_ALL]));
+    printf(" |\n");
     fflush(stdout);
 }
 
@@ -500,7 +657,7 @@ static struct request *fresh(const char *name)
 {
     struct request *r = calloc(1, sizeof *r);
     snprintf(r->name, sizeof r->name, "%s", name);
-    r->left_out = (before ? 1 << HAND | 1 << GROUPED | 1 << SECOND : 1 << BEFORE) | IN_STEPS;
+    r->left_out = (before ? 1 << HAND | 1 << GROUPED | 1 << SECOND : 1 << BEFORE) | IN_STEPS | OF_PLACES;
     seed = 1;
     return r;
 }
@@ -655,16 +812,22 @@ static unsigned place_before(const struct request *r, unsigned place)
     return line[1] * 256u + line[2];
 }
 
-/* 1,024 places in two halves that no line joins, 63 boats of so many classes, one kind: size 1,048,576. */
-static struct request *largest_one_keep(const char *name, int near, unsigned test, unsigned classes)
+/* 1,024 places in two halves that no line joins, 4,096 lines of one kind, so many boats of so many classes; the goal in the second half. */
+static void two_halves(struct request *r, unsigned boats, unsigned classes)
 {
-    struct request *r = fresh(name);
     begin_day(r, 1024);
     for (unsigned i = 0; i < 4096; i++) {
         unsigned half = i % 2 * 512;
-        add(r, half + below(512), 1, 1 + i % 63 % classes, i % 63, half + below(512));
+        add(r, half + below(512), 1, 1 + i % boats % classes, i % boats, half + below(512));
     }
     r->to = 512;
+}
+
+/* Two halves, 63 boats: size 1,048,576. */
+static struct request *largest_one_keep(const char *name, int near, unsigned test, unsigned classes)
+{
+    struct request *r = fresh(name);
+    two_halves(r, 63, classes);
     r->from = near ? place_before(r, place_before(r, 512)) : 0;
     /* A boat kept, then others by the test, and any line last. */
     command(r, KEEP, 1, 0);
@@ -838,22 +1001,78 @@ static struct request *three_sailed(const char *name, void (*record)(struct requ
     return r;
 }
 
-/* 1,024 places in two halves that no line joins, 55 boats, one kind: size 1,032,192 written out and 974,848 counted. */
+/* Two halves, 55 boats: size 1,032,192 written out and 974,848 counted. */
 static struct request *three_large(const char *name, int counted)
 {
     struct request *r = fresh(name);
-    begin_day(r, 1024);
-    for (unsigned i = 0; i < 4096; i++) {
-        unsigned half = i % 2 * 512;
-        add(r, half + below(512), 1, 1, i % 55, half + below(512));
-    }
+    two_halves(r, 55, 1);
     r->from = 0;
-    r->to = 512;
     /* A boat kept, three rounds of others, and any line last. */
     command(r, KEEP, 1, 0);
     byte(r, THEN);
     three(r, others, counted);
     command(r, LINE, 1, 0);
+    return r;
+}
+
+/* ---- lists of places */
+
+/* The full day, nothing kept: entered, started, ten to twenty roundings, finished, by whichever boats. */
+static struct request *full_day_any(const char *name)
+{
+    struct request *r = fresh(name);
+    full_record(r);
+    byte(r, THEN);
+    command(r, LINE, 1, 0);
+    byte(r, THEN);
+    command(r, LINE, 2, 0);
+    byte(r, THEN);
+    byte(r, COUNTED);
+    byte(r, 10);
+    byte(r, 20);
+    command(r, LINE, 3, 0);
+    command(r, LINE, 4, 0);
+    return r;
+}
+
+/* Two halves, nothing kept: ten to twenty rounds of two lines, size 63,488. */
+static struct request *rounds_of_two(const char *name)
+{
+    struct request *r = fresh(name);
+    two_halves(r, 63, 1);
+    byte(r, COUNTED);
+    byte(r, 10);
+    byte(r, 20);
+    byte(r, THEN);
+    command(r, LINE, 1, 0);
+    command(r, LINE, 1, 0);
+    return r;
+}
+
+/* Two halves, 63 commands: any lines by one of 31 positions, each of which a chain can begin with, or with a keep by one of 30 or two lines
+   of different boats. The search size is the largest that there is without a keep, 65,536, and with a keep and 15 boats, 1,048,576. */
+static struct request *many_beginnings(const char *name, int keep)
+{
+    struct request *r = fresh(name);
+    two_halves(r, 15, 1);
+    byte(r, REPEAT);
+    if (keep) {
+        byte(r, EITHER);
+        command(r, KEEP, 1, 0);
+        command(r, OTHER, 1, 0);
+    } else
+        byte(r, REPEAT);
+    tests(r, LINE, keep ? 30 : 31, 1, 1);
+    return r;
+}
+
+/* The same without a keep, the lines into the goal leading to the place after it: nothing is searched, and all places are looked up. */
+static struct request *goal_apart(const char *name)
+{
+    struct request *r = many_beginnings(name, 0);
+    for (uint8_t *line = r->rec + 3; *line == 2; line += 10)
+        if (line[8] * 256u + line[9] == r->to)
+            line[9]++;
     return r;
 }
 
@@ -863,10 +1082,16 @@ static struct request *three_large(const char *name, int counted)
    and then counted. */
 enum { FULL = 1, FULL_END = 7, CASES = 14, SLOWEST = CASES + 16, CLASSES = SLOWEST + 2, FULL_CLASSES = CLASSES + 2,
        FULL_CLASSES_END = FULL_CLASSES + 4, SLOWEST_CLASSES = FULL_CLASSES_END + 2, ROUNDS = SLOWEST_CLASSES + 6, ROUNDS_END = ROUNDS + 6,
-       ROWS = ROUNDS_END + 2 };
+       LISTS = ROUNDS_END + 2, ROWS = LISTS + 6 };
+
+/* The row that is another one from another start, so that their lists are the same. */
+enum { NEAR_BY = 8 };
 
 /* Is the row one of the slowest requests, which stand apart from the table? */
 static int is_slowest(int i) { return (i >= SLOWEST && i < CLASSES) || (i >= SLOWEST_CLASSES && i < ROUNDS); }
+
+/* Does the row stand apart from the table, as the rows about lists of places do too? */
+static int is_apart(int i) { return is_slowest(i) || i >= LISTS; }
 
 static struct request *row(unsigned i)
 {
@@ -887,7 +1112,7 @@ static struct request *row(unsigned i)
         return with_third_unread(full_day_others("full day, others twice", OTHER));
     case 7:
         return largest_one_keep("largest size, 1,024 places, one keep", 0, OTHER, 1);
-    case 8:
+    case NEAR_BY:
         return largest_one_keep("largest size, 1,024 places, a chain near by", 1, OTHER, 1);
     case 9:
         return largest_two_keeps();
@@ -947,6 +1172,18 @@ static struct request *row(unsigned i)
         return counted_boats("words, 4,096 lines of one boat, one keep", 1);
     case ROUNDS_END + 1:
         return counted_boats("words, 4,096 lines of 4,096 boats, one keep", 4096);
+    case LISTS:
+        return full_day_any("full day, nothing kept, ten to twenty roundings");
+    case LISTS + 1:
+        return growth("lists", 1024, 4096, 32, 0);
+    case LISTS + 2:
+        return rounds_of_two("1,024 places, no keep, ten to twenty rounds");
+    case LISTS + 3:
+        return many_beginnings("1,024 places, no keep, 31 beginnings", 0);
+    case LISTS + 4:
+        return many_beginnings("largest size, 1,024 places, one keep, 31 beginnings", 1);
+    case LISTS + 5:
+        return goal_apart("1,024 places, no line to the goal, 31 beginnings");
     }
     unsigned step = (i - CASES) % 4;
     switch ((i - CASES) / 4) {
@@ -973,8 +1210,8 @@ static void compare_pairs(double least[][PROGRAMS], int first, int end, const ch
         *titled = 1;
         struct request *r = row(i);
         printf("| %-52s", r->name);
-        for (int p = 0; p < PROGRAMS; p++)
-            show_ratio(least[i][p] == 0 ? 0 : least[i + 1][p] / least[i][p]);
+        for (int p = 0; p <= BEFORE; p++)
+            show_ratio(by(least[i + 1][p], least[i][p]));
         printf(" |\n");
         free(r);
     }
@@ -1000,6 +1237,10 @@ static int profiled(char **argument)
     uint32_t reached = 0;
     if (program >= STEPS && (r->check || r->needed))
         fail(r, "no search");
+    if (OF_PLACES >> program & 1)
+        choose_places(r, &reached);
+    if ((r->none == NO_PLACE && (program == FIND_NONE || program == ONE_NONE)) || (r->found == NO_PLACE && program == ONE_FOUND))
+        fail(r, "no such place");
     lend(r);
     while (times-- > 0)
         timed(r, program, &reply, &reached);
@@ -1023,9 +1264,38 @@ static void show_steps(int count, char **number)
     for (int i = 0; i < (count > 0 ? count : ROWS); i++) {
         int named = count > 0 ? atoi(number[i]) : i;
         struct request *r = row(named);
-        if (!r->check && !r->needed && (count > 0 || !is_slowest(named)))
+        if (!r->check && !r->needed && (count > 0 || !is_apart(named)))
             measure_steps(r);
         free(r->chain);
+        free(r);
+    }
+}
+
+/* The rows that find a chain and those about lists, or those that are named, by lists of places; then the times. */
+static void show_starts(int count, char **number)
+{
+    static double least[ROWS][PROGRAMS];
+    printf("| case | places | with a chain | states reached | find none, us | list of one / find none | the same, medians | "
+           "list of all / list of one | the same, medians | list of all / find for each | list of all / C | C grouped / C |\n"
+           "|---|---|---|---|---|---|---|---|---|---|---|---|\n");
+    for (int i = 0; i < (count > 0 ? count : ROWS); i++) {
+        int named = count > 0 ? atoi(number[i]) : i;
+        struct request *r = row(named);
+        if (!r->check && !r->needed && (count > 0 || (!is_slowest(named) && named != NEAR_BY)))
+            measure_starts(r, is_slowest(named), least[named]);
+        free(r->chain);
+        free(r);
+    }
+    printf("\n| times, us | find none | list of one, none | list of one, found | list of all | list of all four times | find for each | C | "
+           "C grouped |\n|---|---|---|---|---|---|---|---|---|\n");
+    for (int i = 0; i < ROWS; i++) {
+        if (least[i][ALL] == 0)
+            continue;
+        struct request *r = row(i);
+        printf("| %-52s", r->name);
+        for (int p = FIND_NONE; p < PROGRAMS; p++)
+            show_time(least[i][p]);
+        printf(" |\n");
         free(r);
     }
 }
@@ -1034,7 +1304,7 @@ int main(int count, char **argument)
 {
     read_clock_cost();
     before = old_chains_find != NULL;
-    int slowest_too = 0, steps = 0;
+    int slowest_too = 0, steps = 0, starts = 0;
     if (before && count > 1 && strcmp(argument[1], "--differ") == 0) {
         differ = 1;
         count--;
@@ -1042,12 +1312,13 @@ int main(int count, char **argument)
     }
     if (count == 5 && strcmp(argument[1], "--call") == 0 && callable(atoi(argument[3])))
         return profiled(argument + 2);
-    if (!before && count > 1 && strcmp(argument[1], "--steps") == 0) {
-        steps = 1;
+    if (!before && count > 1 && (strcmp(argument[1], "--steps") == 0 || strcmp(argument[1], "--starts") == 0)) {
+        steps = strcmp(argument[1], "--steps") == 0;
+        starts = !steps;
         count--;
         argument++;
     }
-    if (!steps && count == 2 && strcmp(argument[1], "--slowest") == 0) {
+    if (!steps && !starts && count == 2 && strcmp(argument[1], "--slowest") == 0) {
         if (!before) {
             printf("| case | reply | states reached | C, s | C grouped, s | library, s |\n|---|---|---|---|---|---|\n");
             for (int i = 0; i < ROWS; i++)
@@ -1061,11 +1332,15 @@ int main(int count, char **argument)
     for (int i = 1; i < count; i++)
         if (strspn(argument[i], "0123456789") != strlen(argument[i]) || atoi(argument[i]) >= ROWS) {
             fprintf(stderr, "bench %s[ROW... | --slowest | %s--call ROW PROGRAM TIMES], rows 0 to %d\n", before ? "[--differ] " : "",
-                    before ? "" : "--steps [ROW...] | ", ROWS - 1);
+                    before ? "" : "--steps [ROW...] | --starts [ROW...] | ", ROWS - 1);
             return 2;
         }
     if (steps) {
         show_steps(count - 1, argument + 1);
+        return 0;
+    }
+    if (starts) {
+        show_starts(count - 1, argument + 1);
         return 0;
     }
     if (before)
@@ -1076,7 +1351,7 @@ int main(int count, char **argument)
     static double least[ROWS][PROGRAMS];
     for (int i = 0; i < (count > 1 ? count - 1 : ROWS); i++) {
         int number = count > 1 ? atoi(argument[i + 1]) : i;
-        if (count == 1 && is_slowest(number) && !slowest_too)
+        if (count == 1 && is_apart(number) && !(is_slowest(number) && slowest_too))
             continue;
         struct request *r = row(number);
         if (not_known_before(r))

@@ -23,12 +23,13 @@
  *
  * Replies. Every function replies with one number of 64 bits: value + 2^32 * number. The number is 0, and the value is then what
  * the function says below; or a question about what was given was answered no, and the number is that question's (1 to 26,
- * enum chains_refusal). A refusal's value is 0, except with 19, where it is the length of the shortest chain. chains_length,
- * chains_needed, chains_written, chains_yes, chains_no, chains_none, chains_found, chains_too_long, chains_begun and chains_moved take a
- * reply apart so that a refusal is not taken for an answer.
+ * enum chains_refusal). A refusal's value is 0, except with 19, where it is the length of the shortest chain, or with chains_starts how
+ * many lengths there are. chains_length, chains_needed, chains_written, chains_yes, chains_no, chains_none, chains_found, chains_too_long,
+ * chains_lengths, chains_begun and chains_moved take a reply apart so that a refusal is not taken for an answer.
  *
  * Questions. A record is asked 1 to 7. A pattern is asked 8, 9, 10, 11, 24, 12 and 13 at each of its commands, in this order, and when it
- * is complete 14 and then 25.
+ * is complete 14 and then 25. 15 is one question about all places that are given, a list of them too. 19 is asked when the shortest chain
+ * is known, but by chains_starts, whose lengths are as many as the list has places, before the search.
  *
  * Searches in steps. chains_search_begin takes what it needs of a record and a pattern into the work area, and searches nothing;
  * chains_search_move takes up so many states of the search (a state is a place, a spot in the pattern and the boats kept);
@@ -84,11 +85,11 @@ enum chains_refusal {
     CHAINS_UNFOLDED_TOO_LONG = 25,      /* the unfolded count is above 63 */
 
     /* The request. */
-    CHAINS_ASKED_PLACE_NOT_THERE = 15,  /* an asked place is not below the count of places */
+    CHAINS_ASKED_PLACE_NOT_THERE = 15,  /* an asked place, one of a list too, is not below the count of places */
     CHAINS_SEARCH_TOO_LARGE = 16,       /* the search size is above 1,048,576 */
     CHAINS_WORK_AREA_TOO_SMALL = 17,    /* the work area has fewer words than chains_words or chains_search_words says */
     CHAINS_LINE_NOT_THERE = 18,         /* a named line is not in the record */
-    CHAINS_OUTPUT_TOO_SMALL = 19,       /* the output has fewer entries than the shortest chain, whose length is the value */
+    CHAINS_OUTPUT_TOO_SMALL = 19,       /* the output is shorter than the shortest chain or the list of places, whose length is the value */
 
     /* Writing. */
     CHAINS_LENGTH_BEYOND_BUFFER = 20,   /* the record's length is more than the buffer's */
@@ -100,7 +101,8 @@ enum chains_refusal {
     CHAINS_NO_SEARCH = 26               /* the work area holds no search, or not one as a begin and its moves left it */
 };
 
-/* The value of chains_find and chains_search_finish where no chain is accepted. */
+/* The value of chains_find and chains_search_finish where no chain is accepted, and among the lengths of chains_starts that of a place from
+   which none is. */
 #define CHAINS_NO_CHAIN UINT32_C(4294967295)
 
 /* No record is longer, in bytes: a buffer of this size holds every day. */
@@ -202,8 +204,8 @@ static inline bool chains_found(uint64_t reply, size_t *length)
     return !chains_none(reply) && chains_length(reply, length);
 }
 
-/* Of chains_find and chains_search_finish: true, and the chain's length, where the output was too short for it (19); else false, and
-   *length as it was. */
+/* Of chains_find and chains_search_finish: true, and the chain's length, where the output was too short for it (19); of chains_starts:
+   true, and how many lengths there are, where it was too short for them (19). Else false, and *length as it was. */
 static inline bool chains_too_long(uint64_t reply, size_t *length)
 {
     if (chains_number(reply) != CHAINS_OUTPUT_TOO_SMALL) {
@@ -211,6 +213,12 @@ static inline bool chains_too_long(uint64_t reply, size_t *length)
     }
     *length = chains_value(reply);
     return true;
+}
+
+/* Of chains_starts: true, and how many lengths were written; false, and *count as it was, where refused. */
+static inline bool chains_lengths(uint64_t reply, size_t *count)
+{
+    return chains_length(reply, count);
 }
 
 /* Of chains_search_begin: does the work area hold the search? */
@@ -244,11 +252,11 @@ static inline const char *chains_message(uint32_t number)
     case 12: return "the pattern compares a boat with that of a slot, but no keep around it keeps a boat there";
     case 13: return "the pattern has more than three keeps inside each other";
     case 14: return "the pattern goes on after it is complete";
-    case 15: return "one of the two places asked about is not in the day's record";
+    case 15: return "a place that is asked about is not in the day's record";
     case 16: return "the search would be too large: the day has too many places and boats for so long a pattern with so many keeps inside each other";
     case 17: return "the work area is too small for this day and pattern";
     case 18: return "a line is named that the day's record does not have";
-    case 19: return "there is a chain, but the output is too short for it";
+    case 19: return "the output is too short: for the chain that there is, or for the lengths asked for";
     case 20: return "the day's record is said to be longer than its buffer";
     case 21: return "the sail number is not below 16,777,216";
     case 22: return "the day's record is full: it has 4,096 lines";
@@ -321,7 +329,7 @@ uint64_t chains_pattern(const uint8_t *pat, size_t pat_len, uint32_t *counts, si
 uint64_t chains_boats(const uint8_t *rec, size_t rec_len, uint32_t *counts, size_t counts_len);
 
 /*
- * How many words of 32 bits chains_check and chains_find need as their work area, for this record and this pattern.
+ * How many words of 32 bits chains_check, chains_find and chains_starts need as their work area, for this record and this pattern.
  *
  * Value: the words, 8,200 to 4,202,496.
  * Refusals: those of a record and a pattern, then 16.
@@ -352,6 +360,21 @@ uint64_t chains_check(const uint8_t *rec, size_t rec_len, const uint8_t *pat, si
  */
 uint64_t chains_find(const uint8_t *rec, size_t rec_len, const uint8_t *pat, size_t pat_len, uint16_t from, uint16_t to,
                      uint32_t *work, size_t work_len, uint16_t *out, size_t out_len);
+
+/*
+ * The shortest lengths from many places to one, out of one search: for each place of the list what chains_find would say of it, with an
+ * output that is long enough. The list may have any length, and a place may stand in it more than once.
+ *
+ * Value: how many lengths were written, starts_len; where that is above 4,294,967,295, this number.
+ * Refusals: those of a record and a pattern, then 15 to 17, then 19, where lengths_len is below starts_len. 15 asks about every place of
+ * the list and about `to`. 19 comes before the search, and its value is starts_len; where that is above 4,294,967,295, this number.
+ * rec, pat, starts: only read. work: may hold anything before. After a value and after 19 all of it is zeros, also what lies past the
+ * words that are needed; every other refusal leaves it untouched. lengths: at its front is written, for each place in the list's order,
+ * the length of the shortest accepted chain from it, or CHAINS_NO_CHAIN (4,294,967,295) where no chain, of any length, is accepted; the
+ * rest of it, and all of it after a refusal, is untouched. A list of no places is asked about as any other, and no length is written.
+ */
+uint64_t chains_starts(const uint8_t *rec, size_t rec_len, const uint8_t *pat, size_t pat_len, const uint16_t *starts, size_t starts_len,
+                       uint16_t to, uint32_t *work, size_t work_len, uint32_t *lengths, size_t lengths_len);
 
 /*
  * How many words of 32 bits chains_search_begin needs as its work area, for this record and this pattern: three for each line of the

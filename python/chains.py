@@ -6,7 +6,8 @@ not read: all four fail on such a line, and all four fail where the slot holds s
 they count as one boat. From so many to so many rounds of a pattern (2A) may come in a row; the search goes by the unfolded count, in which
 a command counts as often as it may come.
 
-A Search is begun, moved on and finished while lines are added to the record; its answer is that for the record at the beginning.
+`starts` asks about many places in one search. A Search is begun, moved on and finished while lines are added to the record; its answer is
+that for the record at the beginning.
 
 CHAINS_LIB names the library's file; else it is looked for beside this module, in the folder above and in the repository's target. A
 question that was answered no is a Refused, which has its number, its second number (value) and, as its text, a sentence; a number
@@ -32,11 +33,11 @@ SENTENCES = (  # by number, from 1
     "the pattern compares a boat with that of a slot, but no keep around it keeps a boat there",
     "the pattern has more than three keeps inside each other",
     "the pattern goes on after it is complete",
-    "one of the two places asked about is not in the day's record",
+    "a place that is asked about is not in the day's record",
     "the search would be too large: the day has too many places and boats for so long a pattern with so many keeps inside each other",
     "the work area is too small for this day and pattern",
     "a line is named that the day's record does not have",
-    "there is a chain, but the output is too short for it",
+    "the output is too short: for the chain that there is, or for the lengths asked for",
     "the day's record is said to be longer than its buffer",
     "the sail number is not below 16,777,216",
     "the day's record is full: it has 4,096 lines",
@@ -63,7 +64,8 @@ def _load():
     types = {"1": ctypes.c_uint8, "2": ctypes.c_uint16, "4": ctypes.c_uint32, "n": ctypes.c_size_t, "p": ctypes.c_void_p}
     for name, taken in (("version", ""), ("begin", "pn2"), ("add", "pnn21142"), ("read", "pn2pn"), ("pattern", "pnpn"),
                         ("boats", "pnpn"), ("words", "pnpn"), ("check", "pnpn22pnpn"), ("find", "pnpn22pnpn"),
-                        ("search_words", "pnpn"), ("search_begin", "pnpn22pn"), ("search_move", "pnn"), ("search_finish", "pnpn")):
+                        ("starts", "pnpnpn2pnpn"), ("search_words", "pnpn"), ("search_begin", "pnpn22pn"), ("search_move", "pnn"),
+                        ("search_finish", "pnpn")):
         function = getattr(library, "chains_" + name)
         function.argtypes, function.restype = [types[letter] for letter in taken], ctypes.c_uint64
     return library
@@ -152,12 +154,12 @@ def search_words(day, pattern):
     return _value(_library.chains_search_words(*_slice(day), *_slice(pattern)))
 
 
-def _request(day, pattern, from_, to, words=_library.chains_words):
+def _request(day, pattern, *places, words=_library.chains_words):
     """What a request is given, and a work area: of no words where they are refused, since 15 is asked before 16."""
-    asked = *_slice(day), *_slice(pattern), _u(16, from_), _u(16, to)
-    reply = words(*asked[:4])
+    given = *_slice(day), *_slice(pattern)
+    reply = words(*given)
     needed = 0 if reply >> 32 else reply
-    return asked, ((ctypes.c_uint32 * max(1, needed))(), needed)
+    return (*given, *places), ((ctypes.c_uint32 * max(1, needed))(), needed)
 
 
 def _chain(reply, out):
@@ -166,13 +168,13 @@ def _chain(reply, out):
 
 def check(day, pattern, from_, to, chain):
     """Does the chain, line numbers, lead from the first place to the second, and does the pattern accept it?"""
-    asked, area = _request(day, pattern, from_, to)
+    asked, area = _request(day, pattern, _u(16, from_), _u(16, to))
     return _value(_library.chains_check(*asked, *_slice(array("H", chain)), *area)) == 1
 
 
 def find(day, pattern, from_, to):
     """The line numbers of the first shortest accepted chain, or None."""
-    asked, area = _request(day, pattern, from_, to)
+    asked, area = _request(day, pattern, _u(16, from_), _u(16, to))
     room = 16
     while True:
         out = (ctypes.c_uint16 * room)()
@@ -182,13 +184,23 @@ def find(day, pattern, from_, to):
         room = reply & 0xFFFFFFFF
 
 
+def starts(day, pattern, places, to):
+    """For each of the places the length of the first shortest accepted chain from it, or None: what `find` finds for each, out of one search.
+    A place may come more than once."""
+    listed = array("H", iter(places))  # also of bytes each is a place
+    asked, area = _request(day, pattern, *_slice(listed), _u(16, to))
+    lengths = (ctypes.c_uint32 * max(1, len(listed)))()
+    _value(_library.chains_starts(*asked, *area, lengths, len(listed)))
+    return [None if length == 0xFFFFFFFF else length for length in lengths[:len(listed)]]
+
+
 class Search:
     """A search in steps for the chain that `find` finds. It holds what it needs of record and pattern, so lines may be added to the record
     before it is finished."""
 
     def __init__(self, day, pattern, from_, to):
         """Begins the search, and searches nothing yet."""
-        asked, self._area = _request(day, pattern, from_, to, _library.chains_search_words)
+        asked, self._area = _request(day, pattern, _u(16, from_), _u(16, to), words=_library.chains_search_words)
         _value(_library.chains_search_begin(*asked, *self._area))
 
     def move(self, amount):

@@ -102,6 +102,29 @@ class Requests(Asking):
         self.assertEqual(chains.find(day, b"\x26\x21\x01", 0, 16), list(range(16)))
         self.assertEqual(chains.find(day, b"\x26\x21\x01", 0, 17), list(range(17)))
 
+    def test_starts(self):
+        r, two, lines = day_of(4, LINES), day_of(1, [(0, 1, 1, 1, 0), (0, 1, 1, 2, 0)]), bytes.fromhex("26 24 24 2101 2102 24 2103 2104")
+        for day, pattern, places, to, lengths in (
+                (r, P, [0, 1, 2, 3, 0], 3, [3, None, None, None, 3]), (r, P, [], 3, []), (r, P, [0], 3, [3]), (r, P, range(4), 0, [None] * 4),
+                (day_of(4, LINES + [(2, 4, 1, 150, 3)]), P, (3, 0), 3, [None, 3]), (day_of(4, LINES[:5] + LINES[6:]), P, [0, 0], 3, [None, None]),
+                (two, S, [0, 0, 0], 0, [4, 4, 4]), (r, NOTHING, range(4), 1, [None, 0, None, None]), (r, lines, [3, 2, 1, 0, 3], 3, [0, 1, 2, 3, 0]),
+                (r, lines, range(4), 2, [2, 1, 0, None])):
+            self.assertEqual(chains.starts(day, pattern, places, to), lengths)
+            found = [chains.find(day, pattern, place, to) for place in places]
+            self.assertEqual([None if chain is None else len(chain) for chain in found], lengths)
+        many = [n // 7 % 4 for n in range(70000)]
+        self.assertEqual(chains.starts(r, lines, many, 3), [3 - place for place in many])
+        day = day_of(40, [(place, 1, 1, 1, place + 1) for place in range(39)])
+        self.assertEqual(chains.starts(day, b"\x26\x21\x01", range(40), 39), list(range(39, -1, -1)))
+        for places in (iter((0, 3)), (0, 3), bytes((0, 3))): self.assertEqual(chains.starts(bytes(r), bytearray(P), places, 3), [3, None])
+
+    def test_starts_refused(self):
+        day = day_of(4, LINES)
+        for number, given in ((2, (b"", b"", [9], 9)), (7, (day + b"\0", b"", [9], 9)), (8, (day, b"", [9], 9)), (10, (day, P[:-1], [9], 9)),
+                              (24, (day, b"\x2a\1\0\x20", [9], 9)), (15, (day, P, [4], 3)), (15, (day, P, [4, 0], 3)), (15, (day, P, [0, 4], 3)),
+                              (15, (day, P, [0] * 70000 + [4], 3)), (15, (day, P, [0], 4)), (15, (day, P, [], 4))):
+            self.refused(number, chains.starts, *given)
+
     def test_search(self):
         r, two = day_of(4, LINES), day_of(1, [(0, 1, 1, 1, 0), (0, 1, 1, 2, 0)])
         # How many states: those gone through backward, and with a chain all that were found but the goal.
@@ -220,6 +243,10 @@ class Requests(Asking):
             self.refused(16, call, many, large, 0, 0)
             self.refused(15, call, many, large, 0, 1024)
             self.refused(8, call, many, b"", 0, 1024)
+        for places in ([], [0], [0, 1023]): self.refused(16, chains.starts, many, large, places, 0)
+        for places, to in (([], 1024), ([0, 1024], 0)):
+            self.refused(15, chains.starts, many, large, places, to)
+            self.refused(8, chains.starts, many, b"", places, to)
 
     def test_pattern(self):
         self.assertEqual(chains.counts(P), (7, 1))
@@ -247,6 +274,8 @@ class Module(unittest.TestCase):
                             (chains.add, (day, 0, 257, 1, 1, 0)), (chains.add, (day, 0, 1, 256, 1, 0)),
                             (chains.add, (day, 0, 1, 1, 1 << 32, 0)), (chains.find, (day, NOTHING, 65536, 0)),
                             (chains.check, (day, NOTHING, 0, 0, [65536])), (chains.check, (day, NOTHING, 0, 0, [-1])),
+                            (chains.starts, (day, NOTHING, [0, 65536], 0)), (chains.starts, (day, NOTHING, [-1], 0)),
+                            (chains.starts, (day, NOTHING, [0], 65536)), (chains.starts, (day, NOTHING, [], -1)),
                             (chains.Search, (day, NOTHING, 0, 65536)), (search.move, (1 << 64,)), (search.move, (-1,))):
             with self.assertRaises(OverflowError):
                 call(*given)
@@ -259,10 +288,13 @@ class Module(unittest.TestCase):
 
     def test_readme(self):
         """README's programs print what their comments say."""
-        first, second = re.findall(r"```python\n(.*?)```", (HOME / "README.md").read_text(), re.S)
+        first, many, second = re.findall(r"```python\n(.*?)```", (HOME / "README.md").read_text(), re.S)
         said = re.findall(r"# (\[0\]|True|\(1, 0\))", first)
         self.assertEqual(len(said), 3)
         self.printed(first, [chains.Line(0, 1, 2, 150, 1)], *map(eval, said))
+        said = re.findall(r"print.*# (\[.*?\])", many)
+        self.assertEqual(said, ["[3, None, None, None, 3]"])
+        self.printed(many, *said)
         said = re.findall(r"print.*# (\[.*?\])", second)
         self.assertEqual(said, ["[1, 2, 5]", "[0, 3, 7]"])
         self.printed(second, *map(eval, said))

@@ -1,15 +1,15 @@
 //! Requests with replies written down by hand: document 01's rows, the places where it can
 //! be misread, request One's unread numbers, request Two's classes, request Three's rounds, request
-//! Four's counts of boats, request Five's searches, and the vectors that tell wrong programs apart.
-//! Each is compared with this program and with the reply that stands here, so that it tests this
-//! program too.
+//! Four's counts of boats, request Five's searches, request Six's lists of starts, and the vectors
+//! that tell wrong programs apart. Each is compared with this program and with the reply that stands
+//! here, so that it tests this program too.
 
 use crate::compare::{self, shown, Searching};
 use crate::generator::{counting_to, dirt, dirty_bytes, dirty_entries};
-use crate::library::{boats_values, pattern_values, Ask, Library};
+use crate::library::{boats_values, pattern_values, Ask, Library, Listed};
 use crate::random::Random;
 use crate::record::{read_record, written, Line, LONGEST, MOST_LINES};
-use crate::request::{self, refused, search_size, FindReply, NO_CHAIN};
+use crate::request::{self, refused, search_size, FindReply, StartsReply, NO_CHAIN};
 use crate::search::{self, NO_SEARCH};
 use std::time::Instant;
 
@@ -75,12 +75,25 @@ pub const ALL: &[Case] = &[
     case("Five: amounts", search_amounts),
     case("Five: lines added meanwhile", search_meanwhile),
     case("Five: altered areas", search_altered),
+    case("Six: the worked day", start_rows),
+    case("Six: lists", start_lists),
+    case("Six: a list of 70,000 places", start_long_lists),
+    case("Six: the questions", start_questions),
+    case("Six: 15 of every place", start_places),
+    case("Six: the order of 15, 16, 17 and 19", start_order),
+    case("Six: areas and lengths", start_areas),
+    case("Six: no lines, and none", start_empty),
+    case("Six: first positions", start_positions),
+    case("Six: boats kept", start_boats),
+    case("Six: V1-V7, V12", start_vectors),
     case("A 26: a chain of a million entries", million),
     case("V11: a chain of 92,400 lines", vector_11),
     case("Five: V11, and 4,096 boats", search_long),
+    case("Six: V11", start_vector_11),
     case("the largest size, found and none", largest),
     case("Two: the largest size, found and none", largest_by_class),
     case("Three: the largest size, found and none", largest_of_rounds),
+    case("Six: the largest size, from every place", start_largest),
     case("001, Proposition 3", proposition_3),
     case("a pattern's counts", pattern_counts),
 ];
@@ -297,6 +310,49 @@ impl Bench<'_> {
         expect("a move after it", search.moved(room)?, gone)
     }
 
+    /// A list of starts, with lent lists of these lengths.
+    fn starts_in(&self, listed: Listed, work_len: usize, room: usize, expected: u64) -> Done {
+        let mut random = Random::new((work_len + room) as u64);
+        let work = dirt(&mut random, work_len);
+        let lengths = dirt(&mut random, room);
+        let got = compare::starts(self.library, listed, &work, &lengths)?;
+        expect(&format!("starts with {:02x?}", listed.pat), got, expected)
+    }
+
+    /// The lengths from listed places are these: in a list that fits exactly and in longer ones. One
+    /// entry fewer, and none at all, is refused with how many there are. The finder says the same of
+    /// places alone, of so many at most.
+    fn told(&self, listed: Listed, lengths: &[u32], alone: usize) -> Done {
+        let (work_len, count) = (exact(listed.alone(0)), lengths.len());
+        let length = |&word: &u32| (word != NONE).then_some(word as usize);
+        let told: Vec<Option<usize>> = lengths.iter().map(length).collect();
+        let expected = listed.reply(work_len, count);
+        if expected != StartsReply::Lengths(told.clone()) {
+            return Err(format!(
+                "this program says of {} starts {expected:?}, but the case says {told:?}",
+                listed.starts.len()
+            ));
+        }
+        let mut random = Random::new(count as u64);
+        let work = dirt(&mut random, work_len);
+        for room in [count, count + 1, count + 7] {
+            let lent = dirt(&mut random, room);
+            let got = compare::starts_against(self.library, listed, &work, &lent, &expected)?;
+            expect("starts", got, count as u64)?;
+        }
+        if count > 0 {
+            self.starts_in(listed, work_len, count - 1, refused(19, count as u64))?;
+            self.starts_in(listed, work_len, 0, refused(19, count as u64))?;
+        }
+        compare::starts_alone(self.library, listed, &work, &told, alone)?;
+        Ok(())
+    }
+
+    /// The same, every place being put to the finder.
+    fn starts(&self, listed: Listed, lengths: &[u32]) -> Done {
+        self.told(listed, lengths, usize::MAX)
+    }
+
     fn none(&self, ask: Ask) -> Done {
         self.find_in(ask, exact(ask), 0, NO_CHAIN)?;
         self.find_in(ask, exact(ask), 5, NO_CHAIN)
@@ -311,6 +367,18 @@ fn exact(ask: Ask) -> usize {
 fn ask<'a>(rec: &'a [u8], pat: &'a [u8], from: u16, to: u16) -> Ask<'a> {
     Ask { rec, pat, from, to }
 }
+
+fn list<'a>(rec: &'a [u8], pat: &'a [u8], starts: &'a [u16], to: u16) -> Listed<'a> {
+    Listed {
+        rec,
+        pat,
+        starts,
+        to,
+    }
+}
+
+/// The mark for none among lengths.
+const NONE: u32 = 4_294_967_295;
 
 pub fn line(from: u16, kind: u8, class: u8, sail: u32, to: u16) -> Line {
     Line {
@@ -2075,10 +2143,9 @@ fn outputs(b: &Bench) -> Result<String, String> {
     ok()
 }
 
-/// Requests of the largest search size that really search.
-fn largest(b: &Bench) -> Result<String, String> {
-    let clock = Instant::now();
-    // Two rings that don't meet; each line comes twice, with different boats.
+/// Two rings of 512 places that don't meet, with 63 boats: each line of kind 1 comes twice, with
+/// different boats, and one of kind 2 leads from place 300 to 301.
+fn two_rings() -> Vec<u8> {
     let mut lines = Vec::new();
     for i in 0..1_024 {
         let half = i / 512 * 512;
@@ -2088,7 +2155,13 @@ fn largest(b: &Bench) -> Result<String, String> {
         }
     }
     lines.push(line(300, 2, 1, 0, 301));
-    let rec = written(1_024, &lines);
+    written(1_024, &lines)
+}
+
+/// Requests of the largest search size that really search.
+fn largest(b: &Bench) -> Result<String, String> {
+    let clock = Instant::now();
+    let rec = two_rings();
     // A boat kept, others after it, and that boat once more.
     let core = [0x27, 1, 0, 0x25, 0x26, 0x23, 1, 0, 0x22, 2, 0];
     let pat = repeats(10, &core);
@@ -2161,17 +2234,7 @@ fn largest_by_class(b: &Bench) -> Result<String, String> {
 /// Requests of the largest search size with rounds: 16 positions, 63 boats, one keep.
 fn largest_of_rounds(b: &Bench) -> Result<String, String> {
     let clock = Instant::now();
-    // Two rings that don't meet; each line comes twice, with different boats.
-    let mut lines = Vec::new();
-    for i in 0..1_024 {
-        let half = i / 512 * 512;
-        for shift in [0, 7] {
-            let to = half + (i + 1) % 512;
-            lines.push(line(i, 1, 1, (i as u32 + shift) % 63, to));
-        }
-    }
-    lines.push(line(300, 2, 1, 0, 301));
-    let rec = written(1_024, &lines);
+    let rec = two_rings();
     // A boat kept; so many rounds of any number of others; and that boat once more.
     for (lowest, highest, rest) in [(0, 4, 3), (4, 4, 3), (2, 2, 7), (1, 5, 1)] {
         let round = rounds(lowest, highest, &[0x26, 0x23, 1, 0]);
@@ -2720,5 +2783,519 @@ fn search_long(b: &Bench) -> Result<String, String> {
         return Err(format!("this program finishes with {said:?}"));
     }
     b.finished(&mut search, 2, Some(2))?;
+    Ok(format!("{:?} with the comparison", clock.elapsed()))
+}
+
+// ---- Six: lists of starts
+
+/// Any number of lines of the worked day's kinds.
+const ANY: [u8; 12] = [0x26, 0x24, 0x21, 1, 0x24, 0x21, 2, 0x24, 0x21, 3, 0x21, 4];
+
+fn start_rows(b: &Bench) -> Result<String, String> {
+    let (r, t) = (r(), t());
+    b.starts(list(&r, &P, &[0, 1, 2, 3, 0], 3), &[3, NONE, NONE, NONE, 3])?;
+    b.starts(list(&r, &P, &[0, 1, 2, 3], 2), &[NONE; 4])?;
+    let mut fewer = lines_of_r();
+    fewer.remove(5);
+    b.starts(
+        list(&written(4, &fewer), &P, &[0, 1, 2, 3, 0], 3),
+        &[NONE; 5],
+    )?;
+    b.starts(list(&t, &S, &[0, 0], 0), &[4, 4])?;
+    // To each place from every place, by whatever lines.
+    let all = [0, 1, 2, 3];
+    b.starts(list(&r, &ANY, &all, 3), &[3, 2, 1, 0])?;
+    b.starts(list(&r, &ANY, &all, 2), &[2, 1, 0, NONE])?;
+    b.starts(list(&r, &ANY, &all, 1), &[1, 0, NONE, NONE])?;
+    b.starts(list(&r, &ANY, &all, 0), &[0, NONE, NONE, NONE])?;
+    ok()
+}
+
+/// Four lines of kind 1 from place 0 on to place 4, each to the next; none at place 5.
+fn straight() -> Vec<u8> {
+    let lines: Vec<Line> = (0..4).map(|n| line(n, 1, 1, 1, n + 1)).collect();
+    written(6, &lines)
+}
+
+const ONES: [u8; 3] = [0x26, 0x21, 1];
+
+fn start_lists(b: &Bench) -> Result<String, String> {
+    let rec = straight();
+    let lengths = [4, 3, 2, 1, 0, NONE];
+    for starts in [
+        // No place.
+        &[][..],
+        // One.
+        &[0],
+        &[3],
+        &[4],
+        &[5],
+        // All, upward, downward and in another order.
+        &[0, 1, 2, 3, 4, 5],
+        &[5, 4, 3, 2, 1, 0],
+        &[2, 5, 0, 4, 1, 3],
+        // The nearest one first, last and between; one with no chain before and after others.
+        &[3, 0],
+        &[0, 3],
+        &[2, 3, 1],
+        &[4, 0],
+        &[0, 4],
+        &[5, 0],
+        &[0, 5],
+        // The same places again.
+        &[2, 2],
+        &[4, 4, 4],
+        &[5, 5],
+        &[3, 1, 3],
+        &[0, 5, 0, 5, 0],
+        &[1, 1, 0, 0, 5, 5, 4, 4, 1],
+        &[0, 0, 0, 0, 0, 0, 0, 0, 0],
+    ] {
+        let told: Vec<u32> = starts.iter().map(|&n| lengths[n as usize]).collect();
+        b.starts(list(&rec, &ONES, starts, 4), &told)?;
+    }
+    // The same with each length written out, and to another place.
+    b.starts(list(&rec, &ONES, &[3, 5, 0, 3, 4], 4), &[1, NONE, 4, 1, 0])?;
+    b.starts(list(&rec, &ONES, &[2, 1, 0], 2), &[0, 1, 2])?;
+    ok()
+}
+
+/// As many places as 16 bits count, and more; each comes again and again.
+fn start_long_lists(b: &Bench) -> Result<String, String> {
+    let rec = straight();
+    let lengths = [4, 3, 2, 1, 0, NONE];
+    let work_len = exact(ask(&rec, &ONES, 0, 4));
+    for count in [65_535, 65_536, 65_537, 70_000] {
+        let starts: Vec<u16> = (0..count).map(|n| (5 * n / 3 % 6) as u16).collect();
+        let told: Vec<u32> = starts.iter().map(|&n| lengths[n as usize]).collect();
+        let listed = list(&rec, &ONES, &starts, 4);
+        b.starts(listed, &told)?;
+        for room in [1, 4_464, 65_534] {
+            b.starts_in(listed, work_len, room, refused(19, count as u64))?;
+        }
+        b.starts_in(listed, work_len - 1, 70_000, refused(17, 0))?;
+        // 15 of the last place alone.
+        let mut late = starts.clone();
+        late.push(6);
+        b.starts_in(
+            list(&rec, &ONES, &late, 4),
+            work_len,
+            70_001,
+            refused(15, 0),
+        )?;
+    }
+    ok()
+}
+
+/// Questions 1 to 14, 24 and 25, before the places and what is lent.
+fn start_questions(b: &Bench) -> Result<String, String> {
+    let day = straight();
+    for (rec, number) in [
+        (vec![0; LONGEST + 1], 1),
+        (vec![], 2),
+        (vec![1, 0, 0, 0], 2),
+        (vec![1, 0, 1], 3),
+        (day[..day.len() - 2].to_vec(), 4),
+        (written(6, &[line(6, 1, 1, 1, 0)]), 5),
+        (written(6, &[line(0, 16, 1, 1, 0)]), 6),
+        ([&day[..], &[0]].concat(), 7),
+    ] {
+        for starts in [&[][..], &[0], &[9, 0]] {
+            let listed = list(&rec, &[0xFF], starts, 9);
+            b.starts_in(listed, 0, 0, refused(number, 0))?;
+            let listed = list(&rec, &ONES, starts, 0);
+            b.starts_in(listed, 9_000, 3, refused(number, 0))?;
+        }
+    }
+    for (pat, number) in [
+        (vec![0xFF], 8),
+        (repeats(63, &[0x20]), 9),
+        (vec![0x21], 10),
+        (vec![0x21, 0], 11),
+        (vec![0x2A, 2, 1, 0x20], 24),
+        (vec![0x22, 1, 0], 12),
+        ([0x27, 1, 0].repeat(4), 13),
+        (vec![0x20, 0x20], 14),
+        (twenties(1, &[0x26, 0x26, 0x26, 0x20]), 25),
+    ] {
+        for starts in [&[][..], &[0], &[9, 0]] {
+            let listed = list(&day, &pat, starts, 9);
+            b.starts_in(listed, 0, 0, refused(number, 0))?;
+            let listed = list(&day, &pat, starts, 0);
+            b.starts_in(listed, 9_000, 3, refused(number, 0))?;
+        }
+    }
+    ok()
+}
+
+fn start_places(b: &Bench) -> Result<String, String> {
+    let rec = straight();
+    let needed = exact(ask(&rec, &ONES, 0, 0));
+    let asked = |starts: &[u16], to: u16, expected: u64| {
+        b.starts_in(list(&rec, &ONES, starts, to), needed, 5, expected)
+    };
+    // Any of the listed places, wherever it stands, and whatever comes again.
+    for missing in [6, 7, 1_024, 65_535] {
+        asked(&[missing], 4, refused(15, 0))?;
+        asked(&[missing, 0, 1], 4, refused(15, 0))?;
+        asked(&[0, missing, 1], 4, refused(15, 0))?;
+        asked(&[0, 1, missing], 4, refused(15, 0))?;
+        asked(&[0, 0, missing, missing], 4, refused(15, 0))?;
+        asked(&[missing, missing], missing, refused(15, 0))?;
+        // The finishing place alone: with one place, with several, with none.
+        asked(&[0], missing, refused(15, 0))?;
+        asked(&[0, 1, 5], missing, refused(15, 0))?;
+        asked(&[], missing, refused(15, 0))?;
+    }
+    asked(&[5], 5, 1)?;
+    asked(&[5, 0, 5], 4, 3)?;
+    asked(&[], 5, 0)?;
+    asked(&[], 0, 0)?;
+    // The lowest and the highest place of the longest list of places.
+    let rec = [1, 4, 0, 0];
+    b.starts(
+        list(&rec, &[0x20], &[1_023, 0, 1_023], 1_023),
+        &[0, NONE, 0],
+    )?;
+    b.starts_in(
+        list(&rec, &[0x20], &[1_023, 1_024], 0),
+        exact(ask(&rec, &[0x20], 0, 0)),
+        2,
+        refused(15, 0),
+    )?;
+    ok()
+}
+
+fn start_order(b: &Bench) -> Result<String, String> {
+    // Record, pattern, 15, 16, 17, 19.
+    let r = r();
+    b.starts_in(list(&[1, 0, 1], &[0xFF], &[9], 9), 0, 0, refused(3, 0))?;
+    b.starts_in(list(&r, &[0xFF], &[9], 9), 0, 0, refused(8, 0))?;
+    let over = boats(1_024, 64);
+    let mut pat = vec![0x27, 1, 0];
+    pat.extend(repeats(13, &[0x21, 1]));
+    for (work_len, room) in [(0, 0), (9_000, 0), (9_000, 4)] {
+        for starts in [&[1_024, 0][..], &[0, 1_024], &[0, 0, 1_024]] {
+            b.starts_in(list(&over, &pat, starts, 0), work_len, room, refused(15, 0))?;
+        }
+        for starts in [&[][..], &[0], &[1_023, 0]] {
+            b.starts_in(
+                list(&over, &pat, starts, 1_024),
+                work_len,
+                room,
+                refused(15, 0),
+            )?;
+            b.starts_in(
+                list(&over, &pat, starts, 1_023),
+                work_len,
+                room,
+                refused(16, 0),
+            )?;
+        }
+    }
+    let listed = list(&over, &pat, &[0, 0], 0);
+    b.starts_in(listed, 4_300_000, 1, refused(16, 0))?;
+    for room in [0, 1, 2, 3] {
+        let listed = list(&r, &P, &[0, 3], 3);
+        for short in [0, 1, 8_192, 8_703] {
+            b.starts_in(listed, short, room, refused(17, 0))?;
+            b.starts_in(list(&r, &P, &[], 3), short, room, refused(17, 0))?;
+            b.starts_in(list(&r, &P, &[0, 4], 3), short, room, refused(15, 0))?;
+        }
+        let expected = if room < 2 { refused(19, 2) } else { 2 };
+        b.starts_in(listed, 8_704, room, expected)?;
+        b.starts_in(list(&r, &P, &[], 3), 8_704, room, 0)?;
+    }
+    // A place with no chain wants an entry like the others, and so does one whose chain has no lines.
+    b.starts_in(list(&r, &P, &[1, 1, 1], 3), 8_704, 2, refused(19, 3))?;
+    b.starts_in(list(&r, &P, &[3, 3], 3), 8_704, 1, refused(19, 2))?;
+    b.starts_in(
+        list(&r, &ANY, &[3], 3),
+        exact(ask(&r, &ANY, 0, 0)),
+        0,
+        refused(19, 1),
+    )?;
+    ok()
+}
+
+fn start_areas(b: &Bench) -> Result<String, String> {
+    let (r, t) = (r(), t());
+    let starts = [0, 1, 0, 3];
+    for more in [0, 1, 2, 63, 8_192, 100_000] {
+        for (room, expected) in [
+            (4, 4),
+            (5, 4),
+            (9, 4),
+            (70_000, 4),
+            (3, refused(19, 4)),
+            (2, refused(19, 4)),
+            (0, refused(19, 4)),
+        ] {
+            b.starts_in(list(&r, &P, &starts, 3), 8_704 + more, room, expected)?;
+        }
+        for room in [0, 1, 5] {
+            b.starts_in(list(&r, &P, &[], 3), 8_704 + more, room, 0)?;
+        }
+        b.starts_in(list(&t, &S, &[0, 0], 0), 8_192 + 4 * 54 + more, 2, 2)?;
+    }
+    for fewer in [1, 2, 512, 8_704] {
+        b.starts_in(list(&r, &P, &starts, 3), 8_704 - fewer, 4, refused(17, 0))?;
+        b.starts_in(list(&r, &P, &starts, 3), 8_704 - fewer, 3, refused(17, 0))?;
+    }
+    // What was there before is not seen: words of one value, small and large.
+    for word in [0, 1, 2, 7, 1_024, u32::MAX, 0x8000_0000] {
+        let listed = list(&r, &P, &starts, 3);
+        let work = vec![word; 8_704 + 5];
+        for room in [4, 6] {
+            let got = compare::starts(b.library, listed, &work, &vec![word; room])?;
+            expect("lengths", got, 4)?;
+        }
+        let got = compare::starts(b.library, listed, &work, &[word; 3])?;
+        expect("too few entries", got, refused(19, 4))?;
+    }
+    ok()
+}
+
+fn start_empty(b: &Bench) -> Result<String, String> {
+    let r = r();
+    b.starts(list(&E, &[0x20], &[0, 0], 0), &[0, 0])?;
+    b.starts(list(&E, &[0x21, 3], &[0, 0], 0), &[NONE, NONE])?;
+    // The chain with no lines is there at the finishing place and nowhere else.
+    let all = [0, 1, 2, 3];
+    b.starts(list(&r, &[0x20], &all, 1), &[NONE, 0, NONE, NONE])?;
+    b.starts(list(&r, &[0x26, 0x20], &all, 3), &[NONE, NONE, NONE, 0])?;
+    b.starts(list(&r, &ONES, &all, 1), &[1, 0, NONE, NONE])?;
+    b.starts(
+        list(&r, &[0x24, 0x21, 1, 0x20], &all, 1),
+        &[1, 0, NONE, NONE],
+    )?;
+    b.starts(list(&r, &[0x21, 1], &all, 1), &[1, NONE, NONE, NONE])?;
+    // The finishing place by a line to itself, by two, by none, and by way of another place.
+    let rec = written(
+        3,
+        &[
+            line(0, 1, 1, 1, 0),
+            line(1, 2, 1, 1, 2),
+            line(2, 3, 1, 1, 1),
+        ],
+    );
+    let all = [0, 1, 2];
+    b.starts(list(&rec, &[0x21, 1], &all, 0), &[1, NONE, NONE])?;
+    b.starts(
+        list(&rec, &[0x2A, 2, 2, 0x21, 1], &all, 0),
+        &[2, NONE, NONE],
+    )?;
+    b.starts(
+        list(&rec, &[0x2A, 0, 0, 0x21, 1], &all, 0),
+        &[0, NONE, NONE],
+    )?;
+    b.starts(
+        list(&rec, &[0x25, 0x21, 2, 0x21, 3], &all, 1),
+        &[NONE, 2, NONE],
+    )?;
+    b.starts(list(&rec, &[0x25, 0x21, 3, 0x21, 2], &all, 1), &[NONE; 3])?;
+    b.starts(
+        list(&rec, &[0x25, 0x26, 0x21, 2, 0x21, 3], &all, 1),
+        &[NONE, 2, 1],
+    )?;
+    // More lines than places.
+    let three = [0x2A, 3, 3, 0x25, 0x21, 2, 0x21, 3];
+    b.starts(list(&rec, &three, &all, 1), &[NONE, 6, NONE])?;
+    ok()
+}
+
+/// The pattern can start at several positions, and the nearest of those that a place has counts.
+fn start_positions(b: &Bench) -> Result<String, String> {
+    // By kind 1 from place 0 in three lines, from 1 in one; by kind 2 from 0 in two, from 1 in three.
+    let lines = [
+        (0, 1, 4),
+        (4, 1, 5),
+        (5, 1, 9),
+        (1, 1, 9),
+        (0, 2, 6),
+        (6, 2, 9),
+        (1, 2, 7),
+        (7, 2, 8),
+        (8, 2, 9),
+        (2, 2, 1),
+        (3, 1, 0),
+    ];
+    let lines = lines.map(|(from, kind, to)| line(from, kind, 1, 1, to));
+    let rec = written(10, &lines);
+    let starts = [0, 1, 2, 3, 4, 5, 6, 7, 8, 9];
+    let either = |one: u8, two: u8| {
+        let part = |kind: u8| [0x25, 0x21, kind, 0x26, 0x21, kind];
+        [&[0x24][..], &part(one), &part(two)].concat()
+    };
+    for pat in [either(1, 2), either(2, 1)] {
+        let lengths = [2, 1, 4, 4, 2, 1, 1, 2, 1, NONE];
+        b.starts(list(&rec, &pat, &starts, 9), &lengths)?;
+    }
+    // The same without the rounds after the first line: the first line leads there, or nothing does.
+    for pat in [[0x24, 0x21, 1, 0x21, 2], [0x24, 0x21, 2, 0x21, 1]] {
+        let mut lengths = [NONE; 10];
+        for place in [1, 5, 6, 8] {
+            lengths[place] = 1;
+        }
+        b.starts(list(&rec, &pat, &starts, 9), &lengths)?;
+    }
+    // A first position that is reached on the way too: any lines of kind 1, then some of kind 2.
+    let pat = [0x25, 0x26, 0x21, 1, 0x26, 0x21, 2];
+    b.starts(
+        list(&rec, &pat, &starts, 9),
+        &[2, 1, 4, 3, 2, 1, 1, 2, 1, 0],
+    )?;
+    // A part that may take nothing, before and after one that may not.
+    let some = written(
+        4,
+        &[(0, 1, 1), (1, 2, 2), (0, 2, 3), (3, 1, 2)]
+            .map(|(from, kind, to)| line(from, kind, 1, 1, to)),
+    );
+    let pat = [0x25, 0x24, 0x20, 0x21, 1, 0x21, 2];
+    b.starts(list(&some, &pat, &[0, 1, 2, 3], 2), &[2, 1, NONE, NONE])?;
+    b.starts(list(&some, &pat, &[0, 1, 2, 3], 3), &[1, NONE, NONE, NONE])?;
+    let pat = [0x25, 0x21, 2, 0x24, 0x21, 1, 0x20];
+    b.starts(list(&some, &pat, &[0, 1, 2, 3], 2), &[2, 1, NONE, NONE])?;
+    // Rounds have a position each; up to two may be left out before a line of kind 2.
+    let lines = [(0, 1, 1), (1, 1, 2), (2, 2, 3), (4, 1, 0)];
+    let rec = written(5, &lines.map(|(from, kind, to)| line(from, kind, 1, 1, to)));
+    let up_to_two = [0x25, 0x2A, 0, 2, 0x21, 1, 0x21, 2];
+    let starts = [0, 1, 2, 3, 4];
+    b.starts(list(&rec, &up_to_two, &starts, 3), &[3, 2, 1, NONE, NONE])?;
+    let two = [0x25, 0x2A, 2, 2, 0x21, 1, 0x21, 2];
+    b.starts(list(&rec, &two, &starts, 3), &[3, NONE, NONE, NONE, NONE])?;
+    let or_nothing = [&[0x24, 0x20][..], &two].concat();
+    b.starts(
+        list(&rec, &or_nothing, &starts, 3),
+        &[3, NONE, NONE, 0, NONE],
+    )?;
+    ok()
+}
+
+/// No boat is kept at a start: what is kept comes from the first line on.
+fn start_boats(b: &Bench) -> Result<String, String> {
+    // Two starts, each with a boat of its own, and one of the two boats after them.
+    let rec = written(
+        4,
+        &[
+            line(0, 1, 1, 7, 2),
+            line(1, 1, 1, 8, 2),
+            line(2, 2, 1, 7, 3),
+        ],
+    );
+    let all = [0, 1, 2, 3];
+    b.starts(list(&rec, &THEN_ANY, &all, 3), &[2, 2, NONE, NONE])?;
+    b.starts(list(&rec, &THEN_SAME, &all, 3), &[2, NONE, NONE, NONE])?;
+    b.starts(list(&rec, &THEN_OTHER, &all, 3), &[NONE, 2, NONE, NONE])?;
+    b.starts(list(&rec, &then(0x28), &all, 3), &[NONE, 2, NONE, NONE])?;
+    b.starts(list(&rec, &then(0x29), &all, 3), &[NONE; 4])?;
+    // Laps: in the middle of one no chain starts, though one that goes on passes there.
+    let laps = [0x26, 0x27, 1, 0, 0x22, 2, 0];
+    let lines = [
+        line(0, 1, 1, 7, 1),
+        line(1, 2, 1, 7, 2),
+        line(2, 1, 1, 8, 3),
+        line(3, 2, 1, 8, 4),
+    ];
+    b.starts(
+        list(&written(5, &lines), &laps, &[0, 1, 2, 3, 4], 4),
+        &[4, NONE, 2, NONE, 0],
+    )?;
+    // One boat in two lines or three, another in three, and both by the same places.
+    let rec = written(
+        9,
+        &[
+            line(0, 1, 1, 7, 1),
+            line(1, 3, 1, 7, 2),
+            line(2, 2, 1, 7, 3),
+            line(4, 1, 1, 7, 2),
+            line(5, 1, 1, 8, 2),
+            line(6, 1, 1, 8, 1),
+            line(2, 3, 1, 8, 7),
+            line(7, 2, 1, 8, 3),
+            line(8, 1, 0, 0, 2),
+        ],
+    );
+    let own = [0x27, 1, 0, 0x25, 0x26, 0x22, 3, 0, 0x22, 2, 0];
+    b.starts(
+        list(&rec, &own, &[0, 4, 5, 6, 8, 1, 2, 3, 7, 4], 3),
+        &[3, 2, 3, NONE, NONE, NONE, NONE, NONE, NONE, 2],
+    )?;
+    // Two keeps, one in the other: the first line's boat comes last, the second line's before it.
+    let nested = [0x27, 1, 0, 0x25, 0x27, 1, 1, 0x22, 2, 1, 0x22, 3, 0];
+    let rec = written(
+        5,
+        &[
+            line(0, 1, 1, 1, 1),
+            line(1, 1, 1, 2, 2),
+            line(2, 2, 1, 2, 3),
+            line(3, 3, 1, 1, 4),
+            line(4, 1, 1, 2, 1),
+        ],
+    );
+    b.starts(
+        list(&rec, &nested, &[4, 3, 2, 1, 0], 4),
+        &[NONE, NONE, NONE, NONE, 4],
+    )?;
+    ok()
+}
+
+fn start_vectors(b: &Bench) -> Result<String, String> {
+    for v in vector_list() {
+        let length = v.found.map_or(NONE, |chain| chain.len() as u32);
+        b.starts(list(&v.rec, &v.pat, &[0], v.to), &[length])?;
+        b.starts(list(&v.rec, &v.pat, &[0, 0, 0], v.to), &[length; 3])?;
+    }
+    ok()
+}
+
+/// Lengths that 16 bits do not hold: from each boat's place the rest of the boats, 924 lines each.
+fn start_vector_11(b: &Bench) -> Result<String, String> {
+    let (rec, pat) = vector_11_day();
+    let starts = [0, 99, 100, 50, 0, 1_023, 101, 29];
+    let lengths = [92_400, 924, 0, 46_200, 92_400, NONE, NONE, 65_604];
+    b.told(list(&rec, &pat, &starts, 100), &lengths, 4)?;
+    ok()
+}
+
+/// The largest search size, with some places listed and with all of them.
+fn start_largest(b: &Bench) -> Result<String, String> {
+    let clock = Instant::now();
+    let rings = two_rings();
+    // A boat kept, others after it, and that boat once more, which has its line from place 300.
+    let core = [0x27, 1, 0, 0x25, 0x26, 0x23, 1, 0, 0x22, 2, 0];
+    let pat = repeats(10, &core);
+    b.words(&rings, &pat, 4_202_496)?;
+    b.starts(
+        list(&rings, &pat, &[0, 252, 301, 315, 1, 512, 1_023, 0], 301),
+        &[301, 49, 0, 498, NONE, NONE, NONE, 301],
+    )?;
+    b.starts(list(&rings, &pat, &[], 301), &[])?;
+
+    // Every place has two lines to the one with half its number, of boats p and p + 7 by 63; from
+    // place 1 every third boat goes on by a line of kind 2 to place 0.
+    let mut lines = Vec::new();
+    for p in 1..1_024 {
+        for shift in [0, 7] {
+            lines.push(line(p, 1, 1, (p as u32 + shift) % 63, p / 2));
+        }
+    }
+    lines.extend((0..21).map(|n| line(1, 2, 1, 3 * n, 0)));
+    let halves = written(1_024, &lines);
+    b.words(&halves, &pat, 4_202_496)?;
+    // p or p + 7 has to be such a boat, and there must be a line before that of kind 2.
+    let length = |&p: &u16| match p {
+        0 => 0,
+        _ if p % 3 == 1 => NONE,
+        _ => p.ilog2() + 1,
+    };
+    let mut starts: Vec<u16> = (0..1_024).collect();
+    for alone in [2, 0] {
+        let lengths: Vec<u32> = starts.iter().map(length).collect();
+        let listed = list(&halves, &pat, &starts, 0);
+        b.told(listed, &lengths, alone)?;
+        b.starts_in(listed, 4_202_495, 1_024, refused(17, 0))?;
+        starts.reverse();
+    }
     Ok(format!("{:?} with the comparison", clock.elapsed()))
 }

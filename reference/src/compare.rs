@@ -1,10 +1,11 @@
 //! One call of a library compared with this program: the reply, every entry of every
 //! lent buffer, the entries around it, and the bytes that were only to be read.
 
-use crate::library::{boats_values, pattern_values, read_values, Ask, Library};
+use crate::library::{boats_values, pattern_values, read_values, Ask, Library, Listed};
 use crate::record::{self, Line};
-use crate::request::{self, fitted, refused, CheckReply, FindReply, NO_CHAIN};
+use crate::request::{self, fitted, refused, CheckReply, FindReply, StartsReply, NO_CHAIN};
 use crate::search::{self, NO_SEARCH};
+use std::collections::BTreeSet;
 use std::fmt::Debug;
 
 /// What a comparison comes to: the reply, or a text that says where the two differ.
@@ -300,6 +301,93 @@ pub fn find_against(
             )
         })?;
     Ok(got)
+}
+
+// ---- lists of starts
+
+pub fn starts(library: &dyn Library, listed: Listed, work: &[u32], lengths: &[u32]) -> Compared {
+    let expected = listed.reply(work.len(), lengths.len());
+    starts_against(library, listed, work, lengths, &expected)
+}
+
+/// The same, the reply that is expected being known.
+pub fn starts_against(
+    library: &dyn Library,
+    listed: Listed,
+    work: &[u32],
+    lengths: &[u32],
+    expected: &StartsReply,
+) -> Compared {
+    let given = (listed.rec.to_vec(), listed.pat.to_vec());
+    let given_starts = listed.starts.to_vec();
+    let mut lent = Lent::new(work, 0xA5A5_A5A5);
+    let mut lent_lengths = Lent::new(lengths, 0xA5A5_A5A5);
+    let call = Listed {
+        rec: &given.0,
+        pat: &given.1,
+        starts: &given_starts,
+        ..listed
+    };
+    let got = library.starts(call, lent.inside(), lent_lengths.inside());
+    compare_reply(got, expected.number())
+        .and_then(|()| lent_lengths.compare("lengths", &expected.lengths_after(lengths)))
+        .and_then(|()| lent.compare("work area", &expected.work_after(work)))
+        .and_then(|()| unchanged(&given, listed.rec, listed.pat))
+        .and_then(|()| {
+            if given_starts == listed.starts {
+                Ok(())
+            } else {
+                Err("the list of starts was written".to_string())
+            }
+        })
+        .map_err(|what| {
+            let (work, lengths) = (work.len(), lengths.len());
+            format!(
+                "{}, work {work}, lengths {lengths}: {what}",
+                starts_text(listed)
+            )
+        })?;
+    Ok(got)
+}
+
+/// The finder of the same library says of each listed place alone what stands in its entry, with an
+/// output that just holds the chain. Each place is asked about once, in the list's order, and so
+/// many of them at most. Gives the finder's replies.
+pub fn starts_alone(
+    library: &dyn Library,
+    listed: Listed,
+    work: &[u32],
+    told: &[Option<usize>],
+    most: usize,
+) -> Result<Vec<u64>, String> {
+    let mut asked = BTreeSet::new();
+    let entries = listed.starts.iter().zip(told);
+    entries
+        .filter(|(start, _)| asked.insert(**start))
+        .take(most)
+        .map(|(&start, told)| {
+            let mut work = work.to_vec();
+            let mut out = vec![0xA5A5; told.unwrap_or(0)];
+            let got = library.find(listed.alone(start), &mut work, &mut out);
+            let expected = told.map_or(NO_CHAIN, |length| length as u64);
+            compare_reply(got, expected).map_err(|what| {
+                let (list, entries) = (starts_text(listed), out.len());
+                format!("{list}; find from {start} alone with {entries} entries, {what}")
+            })?;
+            Ok(got)
+        })
+        .collect()
+}
+
+/// A question about a list of starts, as text.
+fn starts_text(listed: Listed) -> String {
+    format!(
+        "starts, record {}, pattern {}, to {}, list{}",
+        hex(listed.rec),
+        hex(listed.pat),
+        listed.to,
+        numbers(listed.starts)
+    )
 }
 
 // ---- searches under way

@@ -1,15 +1,16 @@
 //! Planted faults: copies of this program, each wrong in one way that a reader of document 01
-//! or of requests One to Five could fall into. The comparison must tell every one of them from
+//! or of requests One to Six could fall into. The comparison must tell every one of them from
 //! this program, so that its silence about the library says something.
 
 mod counting;
 mod faulty;
+mod listing;
 mod reading;
 mod searching;
 mod stepping;
 
 use crate::cases::{Bench, ALL};
-use crate::library::{Ask, Library};
+use crate::library::{Ask, Library, Listed};
 use crate::random::Random;
 use crate::record::Line;
 use crate::rounds::{Round, SORTS};
@@ -213,6 +214,47 @@ pub enum Fault {
     ClearsAltered,
     PastCutArea,
     CountsAltered,
+    // A list of starts: its questions.
+    FinishNotAsked,
+    FirstStartAsked,
+    LastStartNotAsked,
+    EmptyAsksNoFinish,
+    List16Before15,
+    List17Before16,
+    List19Before15,
+    List19Before17,
+    List19OfDifferent,
+    List19RefusesExact,
+    List19WithNothing,
+    List19Invents,
+    List19WritesWhatFits,
+    List19LeavesArea,
+    ListIn16Bits,
+    // Its lengths.
+    ZeroForNone,
+    LengthAndOne,
+    LengthsIn16Bits,
+    LengthsCutAtPlaces,
+    NearestStartOnly,
+    OneFirstPosition,
+    AnyPositionAndBoats,
+    FromTheFinish,
+    NoneForEmpty,
+    ZeroAtTheFinish,
+    LengthsByPlace,
+    AnsweredOnce,
+    NoneWhenListedAgain,
+    ClearsLengths,
+    PastLengths,
+    LastLengthLost,
+    SaysHowManyChains,
+    // Its area.
+    ListLeavesArea,
+    EmptyLeavesArea,
+    ListClearsNeeded,
+    ListClearsAt17,
+    ListTrustsArea,
+    ListPastArea,
 }
 
 /// A fault, in words, and the sorts of rounds that meet it.
@@ -237,6 +279,7 @@ const C: &[&str] = &["checks"];
 const F: &[&str] = &["finds"];
 const N: &[&str] = &["boats"];
 const S: &[&str] = &["searches"];
+const L: &[&str] = &["starts"];
 const BW: &[&str] = &["bytes", "writes"];
 const BN: &[&str] = &["bytes", "boats"];
 const BWN: &[&str] = &["bytes", "writes", "boats"];
@@ -413,6 +456,44 @@ pub const PLANTED: &[Planted] = &[
     planted(ClearsAltered, S, "clears an altered area and says 26"),
     planted(PastCutArea, S, "writes past an area that was cut short"),
     planted(CountsAltered, S, "says of an altered area how many states it has expanded"),
+    planted(FinishNotAsked, L, "does not ask 15 of the finishing place of a list"),
+    planted(FirstStartAsked, L, "asks 15 of the first listed place only"),
+    planted(LastStartNotAsked, L, "asks 15 of every listed place but the last"),
+    planted(EmptyAsksNoFinish, L, "does not ask 15 of the finishing place where the list is empty"),
+    planted(List16Before15, L, "asks 16 before 15 of the listed places"),
+    planted(List17Before16, L, "asks 17 before 16 where places are listed"),
+    planted(List19Before15, L, "asks 19 before 15 of the listed places"),
+    planted(List19Before17, L, "asks 19 before 17 where places are listed"),
+    planted(List19OfDifferent, L, "asks 19 of the different places of a list"),
+    planted(List19RefusesExact, L, "refuses lengths that fit exactly"),
+    planted(List19WithNothing, L, "19 with 0 where the lengths do not fit"),
+    planted(List19Invents, L, "19 with the lent entries and one where the lengths do not fit"),
+    planted(List19WritesWhatFits, L, "writes the lengths that fit and then refuses with 19"),
+    planted(List19LeavesArea, L, "leaves the area after 19 where the lengths do not fit"),
+    planted(ListIn16Bits, L, "counts the places of a list in 16 bits"),
+    planted(ZeroForNone, L, "gives 0 for none among the lengths"),
+    planted(LengthAndOne, L, "gives every length and one"),
+    planted(LengthsIn16Bits, &[], "gives lengths in 16 bits"),
+    planted(LengthsCutAtPlaces, L, "gives none for a length above the count of places"),
+    planted(NearestStartOnly, L, "stops at the nearest start: farther ones get none"),
+    planted(OneFirstPosition, L, "looks at one only of the positions that the pattern can start with"),
+    planted(AnyPositionAndBoats, L, "gives the nearest state's length at a place, whatever its position and boats"),
+    planted(FromTheFinish, L, "gives the lengths from the finishing place to the listed ones"),
+    planted(NoneForEmpty, L, "gives none for a chain with no lines"),
+    planted(ZeroAtTheFinish, L, "gives 0 for the finishing place, whatever the pattern"),
+    planted(LengthsByPlace, L, "gives the lengths in the order of the places"),
+    planted(AnsweredOnce, L, "answers a place once that is listed twice"),
+    planted(NoneWhenListedAgain, L, "gives none for a place that is listed again"),
+    planted(ClearsLengths, L, "clears the rest of the lengths"),
+    planted(PastLengths, L, "writes one length more than places are listed"),
+    planted(LastLengthLost, L, "writes no length for the last listed place"),
+    planted(SaysHowManyChains, L, "says how many of the listed places have a chain"),
+    planted(ListLeavesArea, L, "leaves the area after the lengths"),
+    planted(EmptyLeavesArea, L, "leaves the area where the list is empty"),
+    planted(ListClearsNeeded, L, "clears only the words that the lengths need"),
+    planted(ListClearsAt17, L, "clears the area at 17 where places are listed"),
+    planted(ListTrustsArea, L, "takes what the area held before for marks of the lengths' search"),
+    planted(ListPastArea, L, "writes one word past the area with the lengths"),
 ];
 
 /// What found a fault, and after how many requests.
@@ -529,5 +610,8 @@ impl Library for Counted {
     }
     fn search_finish(&self, work: &mut [u32], out: &mut [u16]) -> u64 {
         self.asked().search_finish(work, out)
+    }
+    fn starts(&self, listed: Listed, work: &mut [u32], lengths: &mut [u32]) -> u64 {
+        self.asked().starts(listed, work, lengths)
     }
 }

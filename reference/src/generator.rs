@@ -2,8 +2,9 @@
 //! chains get longer than the list of places; nested keeps that use a slot again; one
 //! sail number in two classes, and several numbers in one; days with many unread numbers;
 //! patterns that accept the empty word under repeat; rounds that are counted, in each other,
-//! with keeps in them, empty, and a round more or less than allowed; every question at its
-//! edge; damaged bytes; areas and outputs that fit exactly or just don't.
+//! with keeps in them, empty, and a round more or less than allowed; several starts, near and
+//! far, listed in any order and again; every question at its edge; damaged bytes; areas and
+//! outputs that fit exactly or just don't.
 
 use crate::membership::{compared, takes, Letter, Valuation};
 use crate::pattern::{read_pattern, Node, Rule};
@@ -545,12 +546,26 @@ fn laid_out(random: &mut Random, pool: &Pool, word: &[Letter]) -> Day {
             });
             lines.len() - 1
         };
-        chain.push(number);
+        chain.push(number as u16);
         place = lines[number].to;
     }
+    let day = Day {
+        places,
+        lines,
+        from,
+        to: place,
+        chain,
+    };
+    disguised(random, pool, day)
+}
+
+/// The day with further lines among the planned ones, most of them like one of those, and all in
+/// another order.
+fn disguised(random: &mut Random, pool: &Pool, day: Day) -> Day {
+    let mut lines = day.lines;
     let planted = lines.len();
     for _ in 0..random.pick(&[0, 2, 4, 8, 12]) {
-        let mut line = any_line(random, pool, places);
+        let mut line = any_line(random, pool, day.places);
         if planted > 0 && !random.once_in(3) {
             let like = lines[random.below(planted)];
             line = match random.below(9) {
@@ -590,12 +605,53 @@ fn laid_out(random: &mut Random, pool: &Pool, word: &[Letter]) -> Day {
         place_of[old] = new as u16;
     }
     Day {
-        places,
         lines: order.iter().map(|&old| lines[old]).collect(),
-        from,
-        to: place,
-        chain: chain.iter().map(|&old| place_of[old]).collect(),
+        chain: day
+            .chain
+            .iter()
+            .map(|&old| place_of[old as usize])
+            .collect(),
+        ..day
     }
+}
+
+/// A day in which a chain of each of these words leads to one place, each from a place of its own,
+/// the first ones of the day; by way of any places, or of such that are on no other's way.
+fn led_to_one(random: &mut Random, pool: &Pool, words: &[Vec<Letter>]) -> Day {
+    let between: usize = words.iter().map(|word| word.len().saturating_sub(1)).sum();
+    let apart = between < 60 && random.once_in(2);
+    let few = words.len() + random.pick(&[1, 1, 2, 4]);
+    let places = if apart { few + between } else { few };
+    let to = random.below(few) as u16;
+    let mut lines = Vec::new();
+    let mut unused = few as u16;
+    for (start, word) in words.iter().enumerate() {
+        let mut place = start as u16;
+        for (left, letter) in (0..word.len()).rev().zip(word) {
+            let next = match left {
+                0 => to,
+                _ if apart => unused,
+                _ => random.below(few) as u16,
+            };
+            unused += (next == unused) as u16;
+            lines.push(Line {
+                from: place,
+                kind: letter.kind,
+                class: letter.boat.class,
+                sail: letter.boat.sail,
+                to: next,
+            });
+            place = next;
+        }
+    }
+    let day = Day {
+        places: places as u16,
+        from: 0,
+        to,
+        chain: (0..words[0].len() as u16).collect(),
+        lines,
+    };
+    disguised(random, pool, day)
 }
 
 /// A day of lines that nobody planned, and a walk along them.
@@ -883,25 +939,30 @@ pub fn any_bytes(random: &mut Random) -> (Vec<u8>, Vec<u8>) {
 
 // ---- requests
 
-/// A whole request.
-pub fn request(random: &mut Random) -> Request {
-    let pool = pool(random);
-    let mut pat = match random.below(20) {
+/// A pattern, most often one that passes its questions.
+fn any_pattern(random: &mut Random, pool: &Pool) -> Vec<u8> {
+    match random.below(20) {
         0..=3 => known_pattern(random),
         4 => edge_pattern(random),
         5..=13 => {
             let most = random.between(1, 9);
-            grown(random, &pool, most)
+            grown(random, pool, most)
         }
         14..=18 => {
             let most = random.between(6, 20);
-            grown(random, &pool, most)
+            grown(random, pool, most)
         }
         _ => {
             let most = random.between(20, 63);
-            grown(random, &pool, most)
+            grown(random, pool, most)
         }
-    };
+    }
+}
+
+/// A whole request.
+pub fn request(random: &mut Random) -> Request {
+    let pool = pool(random);
+    let mut pat = any_pattern(random, &pool);
     let tree = read_pattern(&pat);
     let mut day = match (&tree, random.below(10)) {
         (_, 0..=2) => unplanned(random, &pool),
@@ -920,6 +981,34 @@ pub fn request(random: &mut Random) -> Request {
     } else if random.once_in(400) {
         day = full_day(random, &pool);
     }
+    asked_about(random, day, pat)
+}
+
+/// The same, but of a day in which several places have a chain to the finishing one.
+pub fn request_of_several(random: &mut Random) -> Request {
+    let pool = pool(random);
+    let pat = any_pattern(random, &pool);
+    let Ok(tree) = read_pattern(&pat) else {
+        let day = unplanned(random, &pool);
+        return asked_about(random, day, pat);
+    };
+    let count = random.between(2, 5);
+    let words: Vec<Vec<Letter>> = (0..count)
+        .map(|_| {
+            let rounds = random.pick(&[0, 1, 1, 2, 3]);
+            let word = sampled(random, &pool, &tree.root, [None; 4], rounds);
+            match word.len() {
+                ..=40 => word,
+                _ => sampled(random, &pool, &tree.root, [None; 4], 0),
+            }
+        })
+        .collect();
+    let day = led_to_one(random, &pool, &words);
+    asked_about(random, day, pat)
+}
+
+/// A request about a day and a pattern; some are damaged, or ask about places that are not there.
+fn asked_about(random: &mut Random, mut day: Day, mut pat: Vec<u8>) -> Request {
     let chain = checked_chain(random, &mut day);
     let (mut from, mut to) = (day.from, day.to);
     if random.once_in(12) {
@@ -999,6 +1088,53 @@ fn checked_chain(random: &mut Random, day: &mut Day) -> Vec<u16> {
         chain.clear();
     }
     chain
+}
+
+/// A list of starts in a day with so many places: none; one, most often the planned one; some; all,
+/// upward, downward or in any order; a few again and again; and now and then more than 16 bits
+/// count. The day's first places come more often. In one of ten a place stands somewhere that the
+/// day does not have.
+pub fn list_of_starts(random: &mut Random, places: u16, planned: u16) -> Vec<u16> {
+    let any = |random: &mut Random| {
+        let front = places.min(random.pick(&[5, places]));
+        random.below(front as usize) as u16
+    };
+    let some = |random: &mut Random, count: usize| (0..count).map(|_| any(random)).collect();
+    let mut list: Vec<u16> = match random.below(20) {
+        0 | 1 => vec![],
+        2..=4 => vec![planned],
+        5 => vec![any(random)],
+        6..=9 => {
+            let count = random.between(2, 6);
+            let mut list: Vec<u16> = some(random, count);
+            list[random.below(count)] = planned;
+            list
+        }
+        10 => (0..places).collect(),
+        11 | 12 => (0..places).rev().collect(),
+        13..=15 => {
+            let mut list: Vec<u16> = (0..places).collect();
+            random.shuffle(&mut list);
+            list
+        }
+        16..=18 => {
+            let few = [planned, any(random), any(random)];
+            let count = random.between(2, 20);
+            (0..count).map(|_| random.pick(&few)).collect()
+        }
+        _ => {
+            let long = random.once_in(20);
+            let count = if long { 65_536 } else { 20 } + random.below(100);
+            some(random, count)
+        }
+    };
+    if !list.is_empty() && random.once_in(10) {
+        let last = list.len() - 1;
+        let anywhere = random.below(list.len());
+        let at = random.pick(&[0, last, last, anywhere]);
+        list[at] = random.pick(&[places, places, places + 1, 65_535]);
+    }
+    list
 }
 
 /// Exactly enough, one too few, more than enough, or far too few. Areas of millions of

@@ -1,7 +1,7 @@
 //! The chain finder a second time: a plain program that shares no code with the library.
 //!
 //! It is written from document 01's sentences, from the clauses of sources 000 and 001 and from
-//! requests One to Five, to be compared with the library on many requests. It is meant to be read
+//! requests One to Six, to be compared with the library on many requests. It is meant to be read
 //! and believed, so it allocates as it likes and prefers the plain way to the fast one.
 //!
 //! - `record`, `pattern`: bytes to values, or the number of the refused question.
@@ -11,7 +11,7 @@
 //! - `request`: every question in order, the replies, and what becomes of lent words.
 //! - `positions`, `search`: a search begun, moved on and finished, in the words of its area.
 //! - `program`: the line that the small program prints.
-//! - `library`: the twelve functions that scoring software calls, as a trait.
+//! - `library`: the thirteen functions that scoring software calls, as a trait.
 //! - `compare`, `cases`, `rounds`, `generator`, `random`: a library compared with this one.
 //! - `rows`: the rows made at random of the test program `rows`.
 //! - `faults`: copies of this program with one fault each, which the comparison must find.

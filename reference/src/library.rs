@@ -1,9 +1,9 @@
-//! The twelve functions that scoring software calls, as a trait: the linked library is one
+//! The thirteen functions that scoring software calls, as a trait: the linked library is one
 //! of these, and this program is another.
 
 use crate::pattern::read_pattern;
 use crate::record::{self, Line};
-use crate::request::{self, refused};
+use crate::request::{self, refused, StartsReply};
 use crate::search;
 
 /// Each reply is n · 2^32 + value: n is 0 or the number of the refused question, value
@@ -21,6 +21,7 @@ pub trait Library {
     fn search_begin(&self, ask: Ask, work: &mut [u32]) -> u64;
     fn search_move(&self, work: &mut [u32], amount: usize) -> u64;
     fn search_finish(&self, work: &mut [u32], out: &mut [u16]) -> u64;
+    fn starts(&self, listed: Listed, work: &mut [u32], lengths: &mut [u32]) -> u64;
 }
 
 /// What checker, finder and the begin of a search are given.
@@ -32,7 +33,39 @@ pub struct Ask<'a> {
     pub to: u16,
 }
 
-/// This program behind the same twelve functions.
+/// What the lengths from a list of places are asked with.
+#[derive(Clone, Copy)]
+pub struct Listed<'a> {
+    pub rec: &'a [u8],
+    pub pat: &'a [u8],
+    pub starts: &'a [u16],
+    pub to: u16,
+}
+
+impl<'a> Listed<'a> {
+    /// The finder's question about one place alone.
+    pub fn alone(&self, from: u16) -> Ask<'a> {
+        Ask {
+            rec: self.rec,
+            pat: self.pat,
+            from,
+            to: self.to,
+        }
+    }
+
+    /// This program's reply, the lent lists having these lengths.
+    pub fn reply(&self, work_len: usize, lengths_len: usize) -> StartsReply {
+        let Listed {
+            rec,
+            pat,
+            starts,
+            to,
+        } = *self;
+        request::starts(rec, pat, starts, to, work_len, lengths_len)
+    }
+}
+
+/// This program behind the same thirteen functions.
 pub struct Own;
 
 impl Library for Own {
@@ -99,6 +132,13 @@ impl Library for Own {
         let reply = search::finish(work, out.len());
         work.copy_from_slice(&reply.work_after(work));
         out.copy_from_slice(&reply.out_after(out));
+        reply.number()
+    }
+
+    fn starts(&self, listed: Listed, work: &mut [u32], lengths: &mut [u32]) -> u64 {
+        let reply = listed.reply(work.len(), lengths.len());
+        work.copy_from_slice(&reply.work_after(work));
+        lengths.copy_from_slice(&reply.lengths_after(lengths));
         reply.number()
     }
 }

@@ -1,7 +1,7 @@
-//! The static library behind the twelve functions. Nothing checks these declarations
+//! The static library behind the thirteen functions. Nothing checks these declarations
 //! against its source: the comparison does.
 
-use crate::library::{Ask, Library};
+use crate::library::{Ask, Library, Listed};
 use crate::record::Line;
 
 #[link(name = "exports", kind = "static")]
@@ -64,6 +64,19 @@ extern "C" {
     ) -> u64;
     fn chains_search_move(work: *mut u32, work_len: usize, amount: usize) -> u64;
     fn chains_search_finish(work: *mut u32, work_len: usize, out: *mut u16, out_len: usize) -> u64;
+    fn chains_starts(
+        rec: *const u8,
+        rec_len: usize,
+        pat: *const u8,
+        pat_len: usize,
+        starts: *const u16,
+        starts_len: usize,
+        to: u16,
+        work: *mut u32,
+        work_len: usize,
+        lengths: *mut u32,
+        lengths_len: usize,
+    ) -> u64;
 }
 
 /// The linked library.
@@ -174,5 +187,23 @@ impl Library for Linked {
 
     fn search_finish(&self, work: &mut [u32], out: &mut [u16]) -> u64 {
         unsafe { chains_search_finish(work.as_mut_ptr(), work.len(), out.as_mut_ptr(), out.len()) }
+    }
+
+    fn starts(&self, listed: Listed, work: &mut [u32], lengths: &mut [u32]) -> u64 {
+        unsafe {
+            chains_starts(
+                listed.rec.as_ptr(),
+                listed.rec.len(),
+                listed.pat.as_ptr(),
+                listed.pat.len(),
+                listed.starts.as_ptr(),
+                listed.starts.len(),
+                listed.to,
+                work.as_mut_ptr(),
+                work.len(),
+                lengths.as_mut_ptr(),
+                lengths.len(),
+            )
+        }
     }
 }

@@ -1,11 +1,12 @@
 //! Requests: questions 15 to 19, the replies, and what becomes of the lent words.
 //!
-//! A reply depends on the lengths of the work area and the output and never on what is in
-//! them; what they hold afterwards is a function of the reply and of what they held.
+//! A reply depends on the lengths of the work area, the output and the list of lengths and never
+//! on what is in them; what they hold afterwards is a function of the reply and of what they held.
 
 use crate::chains::{search, try_all, Asked, Tried};
 use crate::pattern::{read_pattern, Pattern};
 use crate::record::{count_boats, read_record, Record};
+use std::collections::BTreeMap;
 
 /// No search size is above this.
 pub const LARGEST: u128 = 1_048_576;
@@ -25,6 +26,14 @@ pub enum CheckReply {
 pub enum FindReply {
     Found(Vec<u16>),
     NoChain,
+    /// The number and the second number.
+    Refused(u8, usize),
+}
+
+#[derive(Clone, PartialEq, Eq, Debug)]
+pub enum StartsReply {
+    /// For each listed place, in the list's order, the shortest length, if there is a chain.
+    Lengths(Vec<Option<usize>>),
     /// The number and the second number.
     Refused(u8, usize),
 }
@@ -55,17 +64,16 @@ pub fn words(record: &[u8], pattern: &[u8]) -> Result<u64, u8> {
     Ok(words_for(size) as u64)
 }
 
-/// Questions 1 to 17, 24 and 25.
-pub fn ask(
+/// Questions 1 to 17, 24 and 25, 15 being asked of each of these places.
+fn ask_about(
     record: &[u8],
     pattern: &[u8],
-    from: u16,
-    to: u16,
+    places: &[u16],
     work_len: usize,
-) -> Result<Asked, u8> {
+) -> Result<(Record, Pattern), u8> {
     let record = read_record(record)?;
     let pattern = read_pattern(pattern)?;
-    if from >= record.places || to >= record.places {
+    if places.iter().any(|&place| place >= record.places) {
         return Err(15);
     }
     let size = search_size(&record, &pattern);
@@ -75,6 +83,18 @@ pub fn ask(
     if (work_len as u128) < words_for(size) {
         return Err(17);
     }
+    Ok((record, pattern))
+}
+
+/// The questions of checker and finder up to 17.
+pub fn ask(
+    record: &[u8],
+    pattern: &[u8],
+    from: u16,
+    to: u16,
+    work_len: usize,
+) -> Result<Asked, u8> {
+    let (record, pattern) = ask_about(record, pattern, &[from, to], work_len)?;
     Ok(Asked {
         record,
         pattern,
@@ -160,6 +180,42 @@ pub fn find(
     fitted(shortest(record, pattern, from, to, work_len), out_len)
 }
 
+/// The lengths from all listed places to one: each is that of the chain that the finder would find
+/// from the place alone, with an output long enough. Here 19 asks whether the list of lengths holds
+/// one for each listed place, and is asked before anything is searched.
+pub fn starts(
+    record: &[u8],
+    pattern: &[u8],
+    starts: &[u16],
+    to: u16,
+    work_len: usize,
+    lengths_len: usize,
+) -> StartsReply {
+    let all = [starts, &[to]].concat();
+    let (record, pattern) = match ask_about(record, pattern, &all, work_len) {
+        Ok(both) => both,
+        Err(number) => return StartsReply::Refused(number, 0),
+    };
+    if starts.len() > lengths_len {
+        return StartsReply::Refused(19, starts.len());
+    }
+    let mut asked = Asked {
+        record,
+        pattern,
+        from: to,
+        to,
+    };
+    // A place that is listed again has its answer, so the search is not done again.
+    let mut answers: BTreeMap<u16, Option<usize>> = BTreeMap::new();
+    let answer = |&place: &u16| {
+        *answers.entry(place).or_insert_with(|| {
+            asked.from = place;
+            first_chain(&asked).map(|chain| chain.len())
+        })
+    };
+    StartsReply::Lengths(starts.iter().map(answer).collect())
+}
+
 /// The work area afterwards: untouched by a refusal at 17 or at any question asked before
 /// it, and else all zeros. Only 18 and 19 are asked after 17.
 fn work_after(refused: Option<u8>, work: &[u32]) -> Vec<u32> {
@@ -214,7 +270,38 @@ impl FindReply {
     }
 }
 
-/// The value that stands for none.
+impl StartsReply {
+    pub fn work_after(&self, work: &[u32]) -> Vec<u32> {
+        match self {
+            StartsReply::Refused(number, _) => work_after(Some(*number), work),
+            _ => work_after(None, work),
+        }
+    }
+
+    /// The list of lengths afterwards: an entry for each listed place in front, the mark where
+    /// there is no chain, and the rest untouched. After a refusal all of it is.
+    pub fn lengths_after(&self, lengths: &[u32]) -> Vec<u32> {
+        let mut after = lengths.to_vec();
+        if let StartsReply::Lengths(told) = self {
+            for (word, length) in after.iter_mut().zip(told) {
+                *word = length.map_or(NO_CHAIN as u32, |length| length as u32);
+            }
+        }
+        after
+    }
+
+    /// As the library gives it: n · 2^32 + value. A list can be longer than 32 bits tell, and
+    /// then the highest number that they tell stands for its length.
+    pub fn number(&self) -> u64 {
+        let told = |count: usize| (count as u64).min(u32::MAX as u64);
+        match self {
+            StartsReply::Lengths(lengths) => told(lengths.len()),
+            StartsReply::Refused(number, second) => refused(*number, told(*second)),
+        }
+    }
+}
+
+/// The value that stands for none, and the mark among lengths.
 pub const NO_CHAIN: u64 = 4_294_967_295;
 
 /// A refusal as one number.

@@ -4,24 +4,25 @@
 use crate::compare::{self, Searching};
 use crate::generator::{
     altered, amount, any_bytes, counted_day, damage_record, dirt, dirty_bytes, dirty_entries,
-    new_line, request, search_len,
+    list_of_starts, new_line, request, request_of_several, search_len,
 };
-use crate::library::{Ask, Library};
+use crate::library::{Ask, Library, Listed};
 use crate::random::Random;
-use crate::record::{written, Line, MOST_LINES};
-use crate::request::{fitted, shortest, words};
+use crate::record::{read_record, written, Line, MOST_LINES};
+use crate::request::{fitted, shortest, words, StartsReply};
 
 pub type Replies = Result<Vec<u64>, String>;
 pub type Round = fn(&dyn Library, &mut Random) -> Replies;
 
 /// The sorts of rounds, by name.
-pub const SORTS: [(&str, Round); 6] = [
+pub const SORTS: [(&str, Round); 7] = [
     ("bytes", bytes),
     ("writes", writes),
     ("checks", check),
     ("finds", find),
     ("boats", boats),
     ("searches", search),
+    ("starts", starts),
 ];
 
 /// Records and patterns of any bytes: words, one line read back, and the pattern's counts.
@@ -244,4 +245,35 @@ fn meanwhile(
         search.altered_move(&altered, amount)?,
         search.altered_finish(&altered, &out)?,
     ])
+}
+
+/// After a list the finder is asked about each place alone, but about one at least, as long as the
+/// areas that it is lent have no more words than this in all.
+const MOST_LENT: usize = 8_000_000;
+
+/// The lengths from a list of places, asked in one go; and each place alone, put to the finder.
+pub fn starts(library: &dyn Library, random: &mut Random) -> Replies {
+    let asked = match random.below(2) {
+        0 => request(random),
+        _ => request_of_several(random),
+    };
+    let places = read_record(&asked.rec).map_or(4, |record| record.places);
+    let starts = list_of_starts(random, places, asked.from);
+    let listed = Listed {
+        rec: &asked.rec,
+        pat: &asked.pat,
+        starts: &starts,
+        to: asked.to,
+    };
+    let work = dirt(random, asked.work_len);
+    let lengths = dirt(random, asked.room.entries(starts.len()));
+    let expected = listed.reply(work.len(), lengths.len());
+    let mut replies = vec![compare::starts_against(
+        library, listed, &work, &lengths, &expected,
+    )?];
+    if let StartsReply::Lengths(told) = &expected {
+        let most = (MOST_LENT / work.len()).max(1);
+        replies.extend(compare::starts_alone(library, listed, &work, told, most)?);
+    }
+    Ok(replies)
 }

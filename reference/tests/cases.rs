@@ -5,12 +5,14 @@ use reference::cases::{Bench, ALL};
 use reference::library::Own;
 
 /// Long searches are left to the release build.
-const LONG: [&str; 5] = [
+const LONG: [&str; 7] = [
     "V11: a chain of 92,400 lines",
     "Five: V11, and 4,096 boats",
+    "Six: V11",
     "the largest size, found and none",
     "Two: the largest size, found and none",
     "Three: the largest size, found and none",
+    "Six: the largest size, from every place",
 ];
 
 fn run(wanted: impl Fn(&str) -> bool) {

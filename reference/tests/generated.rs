@@ -2,7 +2,7 @@
 
 use reference::chains::search;
 use reference::generator::{counted_day, request, Room};
-use reference::library::{Ask, Library, Own};
+use reference::library::{Ask, Library, Listed, Own};
 use reference::membership::compared;
 use reference::pattern::{Node, Rule};
 use reference::random::Random;
@@ -44,6 +44,8 @@ fn every_question_is_met() {
     all_met(&tally(rounds::boats, 5, 4_000), 0..=7);
     let of_search = (2..=17).chain([0, 19, 24, 25, 26]);
     all_met(&tally(rounds::search, 6, 10_000), of_search);
+    let of_starts = (2..=17).chain([0, 19, 24, 25]);
+    all_met(&tally(rounds::starts, 7, 15_000), of_starts);
 }
 
 #[test]
@@ -154,7 +156,7 @@ fn boats_to_count_are_met() {
     assert!(unread > 1_000 && classes > 800 && refused > 400 && far > 20);
 }
 
-/// This program, and how often it was asked what about searches.
+/// This program, and how often it was asked what about searches and lists of starts.
 #[derive(Default)]
 struct Watched(RefCell<BTreeMap<String, usize>>);
 
@@ -219,6 +221,86 @@ impl Library for Watched {
         }
         reply
     }
+    fn starts(&self, listed: Listed, work: &mut [u32], lengths: &mut [u32]) -> u64 {
+        let reply = Own.starts(listed, work, lengths);
+        let count = listed.starts.len();
+        match reply >> 32 {
+            0 => self.told(listed, lengths),
+            15 => self.missing(listed),
+            17 if lengths.len() < count => self.met("17 and too few entries".to_string()),
+            19 if lengths.len() + 1 == count => self.met("one entry short".to_string()),
+            _ => {}
+        }
+        reply
+    }
+}
+
+impl Watched {
+    /// What the answered lists were, and their lengths.
+    fn told(&self, listed: Listed, lengths: &[u32]) {
+        let (starts, count) = (listed.starts, listed.starts.len());
+        let places = read_record(listed.rec).expect("it passed").places;
+        let different: BTreeSet<u16> = starts.iter().copied().collect();
+        let told: BTreeSet<u32> = lengths[..count].iter().copied().collect();
+        let found: BTreeSet<u32> = told.iter().copied().filter(|&n| n != u32::MAX).collect();
+        for (what, met) in [
+            ("no place", count == 0),
+            ("one place", count == 1),
+            (
+                "all of several places",
+                different.len() > 1 && different.len() == places as usize,
+            ),
+            ("a place again", different.len() < count),
+            (
+                "downward",
+                count > 1 && starts.windows(2).all(|two| two[0] > two[1]),
+            ),
+            (
+                "neither upward nor downward",
+                !starts.is_sorted() && !starts.iter().rev().is_sorted(),
+            ),
+            ("more than 16 bits count", count > 65_535),
+            ("entries that fit", lengths.len() == count),
+            ("more entries", lengths.len() > count),
+            ("several lengths", found.len() > 1),
+            (
+                "a length and none",
+                !found.is_empty() && told.contains(&u32::MAX),
+            ),
+            ("no lines", found.contains(&0)),
+            (
+                "more lines than places",
+                found.iter().any(|&n| n > places as u32),
+            ),
+            (
+                "a line at the finish",
+                starts
+                    .iter()
+                    .zip(lengths)
+                    .any(|(&start, &n)| start == listed.to && n != 0 && n != u32::MAX),
+            ),
+        ] {
+            if met {
+                self.met(what.to_string());
+            }
+        }
+    }
+
+    /// Which places of a list were not there.
+    fn missing(&self, listed: Listed) {
+        let places = read_record(listed.rec).expect("it passed").places;
+        let finish = listed.to >= places;
+        let at = listed.starts.iter().position(|&start| start >= places);
+        let what = match at {
+            None if listed.starts.is_empty() => "the finish of no place is missing",
+            None => "the finish alone is missing",
+            Some(_) if finish => return,
+            Some(0) => "the first is missing",
+            Some(at) if at + 1 == listed.starts.len() => "the last alone is missing",
+            Some(_) => "one between is missing",
+        };
+        self.met(what.to_string());
+    }
 }
 
 /// Searches begin in areas that fit and that are longer, are moved on and finished in every phase,
@@ -252,6 +334,47 @@ fn searches_are_met() {
         ("phase 1, exact", 1_000),
         ("phase 1, longer", 500),
         ("phase 2, none", 300),
+    ] {
+        assert!(
+            watched.count(what) > least,
+            "{what}: {}",
+            watched.count(what)
+        );
+    }
+}
+
+/// Lists are empty, of one place, of all and with repeats, in every order; places are missing at
+/// either end and at the finish; and lengths differ, are none, and are 0.
+#[test]
+fn lists_are_met() {
+    let watched = Watched::default();
+    let mut random = Random::new(12);
+    for _ in 0..8_000 {
+        rounds::starts(&watched, &mut random).expect("same");
+    }
+    println!("{:?}", watched.0.borrow());
+    for (what, least) in [
+        ("no place", 300),
+        ("one place", 400),
+        ("all of several places", 600),
+        ("a place again", 600),
+        ("downward", 200),
+        ("neither upward nor downward", 600),
+        ("more than 16 bits count", 5),
+        ("the first is missing", 150),
+        ("the last alone is missing", 120),
+        ("one between is missing", 40),
+        ("the finish alone is missing", 40),
+        ("the finish of no place is missing", 5),
+        ("17 and too few entries", 120),
+        ("one entry short", 600),
+        ("entries that fit", 1_000),
+        ("more entries", 700),
+        ("several lengths", 250),
+        ("a length and none", 600),
+        ("no lines", 400),
+        ("more lines than places", 90),
+        ("a line at the finish", 400),
     ] {
         assert!(
             watched.count(what) > least,

@@ -1,6 +1,6 @@
 //! Finding and checking, with buffers that are kept from one request to the next.
 
-use crate::lent::{self, CheckReply, FindReply, WordsReply};
+use crate::lent::{self, CheckReply, FindReply, StartsReply, WordsReply};
 use crate::Refusal;
 
 /// What is asked: a record and a pattern, as bytes, and two places.
@@ -43,9 +43,47 @@ impl<'a> Question<'a> {
     }
 }
 
+/// What is asked about many starts: a record and a pattern, as bytes, and the one place that all
+/// chains must lead to.
+#[derive(Clone, Copy, PartialEq, Eq, Debug)]
+pub struct StartsQuestion<'a> {
+    /// The day's record.
+    pub record: &'a [u8],
+    /// The pattern.
+    pub pattern: &'a [u8],
+    /// The place that a chain must lead to.
+    pub to: u16,
+}
+
+impl<'a> StartsQuestion<'a> {
+    /// A question about a [`Record`](crate::Record), a [`RecordIn`](crate::RecordIn) or a
+    /// record's bytes.
+    ///
+    /// ```
+    /// use chains::{Finder, Record, StartsQuestion};
+    ///
+    /// let day = Record::begin(2)?;
+    /// // Any number of lines of kind 1: there are none, but none are enough at the end.
+    /// let question = StartsQuestion::about(&day, &[0x26, 0x21, 1], 1);
+    /// assert_eq!(Finder::new().starts(&question, &[0, 1])?, [None, Some(0)]);
+    /// # Ok::<(), chains::Refusal>(())
+    /// ```
+    pub fn about<R: AsRef<[u8]> + ?Sized>(
+        record: &'a R,
+        pattern: &'a [u8],
+        to: u16,
+    ) -> StartsQuestion<'a> {
+        StartsQuestion {
+            record: record.as_ref(),
+            pattern,
+            to,
+        }
+    }
+}
+
 /// Finds and checks chains.
 ///
-/// It has the work area and the output that the library wants to be lent. Both grow when a
+/// It has the work area and the outputs that the library wants to be lent. All grow when a
 /// request needs more and are kept for the next one, so one `Finder` for many requests
 /// allocates seldom. Its replies never depend on the requests before.
 ///
@@ -65,6 +103,7 @@ impl<'a> Question<'a> {
 pub struct Finder {
     work: Vec<u32>,
     out: Vec<u16>,
+    lengths: Vec<u32>,
 }
 
 impl Finder {
@@ -122,7 +161,7 @@ impl Finder {
             from,
             to,
         } = *question;
-        let work = area(&mut self.work, question);
+        let work = area(&mut self.work, record, pattern);
         lent::find(record, pattern, from, to, work, &mut self.out)
     }
 
@@ -136,11 +175,52 @@ impl Finder {
             from,
             to,
         } = *question;
-        let work = area(&mut self.work, question);
+        let work = area(&mut self.work, record, pattern);
         match lent::check(record, pattern, from, to, chain, work) {
             CheckReply::Yes => Ok(true),
             CheckReply::No => Ok(false),
             CheckReply::Refused(refusal) => Err(refusal),
+        }
+    }
+
+    /// For each of the places the length of the shortest accepted chain from it, or `None` where no
+    /// chain, of any length, is accepted: what [`Finder::find`] finds for each, out of one search. The
+    /// lengths are in the order of the places; a place may come more than once.
+    ///
+    /// Refusals: 1 to 16, 24 and 25; 15 asks about every one of the places, and about the one that
+    /// chains lead to. Questions 17 and 19 never fail here, since the work area and the words for
+    /// lengths are as many as are needed.
+    ///
+    /// ```
+    /// use chains::{Finder, Line, Record, StartsQuestion};
+    ///
+    /// let mut day = Record::begin(3)?;
+    /// let rounded = Line { from: 0, kind: 3, class: 2, sail: 150, to: 1 };
+    /// day.add(rounded)?;
+    /// day.add(Line { from: 1, to: 2, ..rounded })?;
+    /// // One line of kind 3 or more, to place 2.
+    /// let question = StartsQuestion::about(&day, &[0x25, 0x21, 3, 0x26, 0x21, 3], 2);
+    /// let lengths = Finder::new().starts(&question, &[0, 1, 2])?;
+    /// assert_eq!(lengths, [Some(2), Some(1), None]);
+    /// # Ok::<(), chains::Refusal>(())
+    /// ```
+    pub fn starts(
+        &mut self,
+        question: &StartsQuestion,
+        places: &[u16],
+    ) -> Result<Vec<Option<u32>>, Refusal> {
+        let StartsQuestion {
+            record,
+            pattern,
+            to,
+        } = *question;
+        let work = area(&mut self.work, record, pattern);
+        if self.lengths.len() < places.len() {
+            self.lengths.resize(places.len(), 0);
+        }
+        match lent::starts(record, pattern, places, to, work, &mut self.lengths) {
+            StartsReply::Lengths(count) => Ok(self.lengths[..count].iter().map(known).collect()),
+            StartsReply::Refused(refusal) => Err(refusal),
         }
     }
 }
@@ -148,8 +228,8 @@ impl Finder {
 /// As many words as the question needs and no more: the library clears all that it is lent.
 /// Where it is not told how many, none: it then asks the same questions again and refuses,
 /// and a place that is not there (15) comes before a search that is too large (16).
-fn area<'a>(work: &'a mut Vec<u32>, question: &Question) -> &'a mut [u32] {
-    let words = match lent::words(question.record, question.pattern) {
+fn area<'a>(work: &'a mut Vec<u32>, record: &[u8], pattern: &[u8]) -> &'a mut [u32] {
+    let words = match lent::words(record, pattern) {
         WordsReply::Words(words) => words,
         WordsReply::Refused(_) => 0,
     };
@@ -157,4 +237,9 @@ fn area<'a>(work: &'a mut Vec<u32>, question: &Question) -> &'a mut [u32] {
         work.resize(words, 0);
     }
     &mut work[..words]
+}
+
+/// A length that the library wrote; its mark says none.
+fn known(length: &u32) -> Option<u32> {
+    (*length != lent::NO_CHAIN).then_some(*length)
 }

@@ -105,6 +105,17 @@ pub enum FindReply {
     Refused(Refusal),
 }
 
+/// The reply of [`starts`].
+#[derive(Clone, Copy, PartialEq, Eq, Debug)]
+#[must_use]
+#[non_exhaustive]
+pub enum StartsReply {
+    /// So many lengths, one for each place of the list; they stand at the front of the lent words.
+    Lengths(usize),
+    /// A question was answered no.
+    Refused(Refusal),
+}
+
 /// The reply of [`search_begin`].
 #[derive(Clone, Copy, PartialEq, Eq, Debug)]
 #[must_use]
@@ -127,8 +138,9 @@ pub enum MoveReply {
     Refused(Refusal),
 }
 
-/// The value that stands for none.
-const NO_CHAIN: u32 = u32::MAX;
+/// The mark for none: what [`starts`] writes for a place from which no chain, of any length, is
+/// accepted.
+pub const NO_CHAIN: u32 = u32::MAX;
 
 /// A reply's value, or its refusal: the reply is value + 2^32 × number.
 fn taken_apart(reply: u64) -> Result<u32, Refusal> {
@@ -222,7 +234,7 @@ fn words_reply(reply: u64) -> WordsReply {
     }
 }
 
-/// How many words of work area [`check`] and [`find`] need, for this record and pattern.
+/// How many words of work area [`check`], [`find`] and [`starts`] need, for this record and pattern.
 ///
 /// Refusals: 1 to 14, 24 and 25, then 16.
 pub fn words(record: &[u8], pattern: &[u8]) -> WordsReply {
@@ -271,6 +283,52 @@ pub fn find(
     out: &mut [u16],
 ) -> FindReply {
     find_reply(linked::find(record, pattern, from, to, work, out))
+}
+
+/// The shortest lengths from many places to one, out of one search: for each place of the list
+/// what [`find`] would say of it, with an output that is long enough.
+///
+/// Refusals: 1 to 14, 24 and 25, then 15 to 17, then 19 where there are fewer words for lengths
+/// than places in the list, with the length of the list. 15 asks about every place of the list and
+/// about `to`. The work area may hold anything before; 19 and every reply that is no refusal leave
+/// all of it zeros, and every other refusal leaves it untouched. At the front of `lengths` stands
+/// afterwards for each place, in the list's order and each time that it is listed, its length, or
+/// [`NO_CHAIN`] where no chain is accepted; the rest, and all of it after a refusal, is untouched.
+///
+/// ```
+/// use chains::lent::{self, StartsReply, WordsReply, NO_CHAIN};
+///
+/// let day = [1, 0, 2, 2, 0, 0, 1, 2, 0, 0, 150, 0, 1, 0]; // two places, one line
+/// let pattern = [0x21, 1];
+/// let WordsReply::Words(words) = lent::words(&day, &pattern) else { panic!("refused") };
+/// let (mut work, mut lengths) = (vec![0; words], [0; 3]);
+/// let reply = lent::starts(&day, &pattern, &[1, 0], 1, &mut work, &mut lengths);
+/// assert_eq!(reply, StartsReply::Lengths(2));
+/// assert_eq!(lengths, [NO_CHAIN, 1, 0]);
+/// ```
+pub fn starts(
+    record: &[u8],
+    pattern: &[u8],
+    starts: &[u16],
+    to: u16,
+    work: &mut [u32],
+    lengths: &mut [u32],
+) -> StartsReply {
+    let reply = linked::starts(record, pattern, starts, to, work, lengths);
+    starts_reply(reply, starts.len())
+}
+
+/// The reply about a list of so many places. A number that is the highest of 32 bits stands for all
+/// longer lists too, so it is the list that tells.
+fn starts_reply(reply: u64, listed: usize) -> StartsReply {
+    match taken_apart(reply) {
+        Ok(u32::MAX) => StartsReply::Lengths(listed),
+        Ok(count) => StartsReply::Lengths(count as usize),
+        Err(Refusal::OutputTooSmall { length }) if length == u32::MAX as usize => {
+            StartsReply::Refused(Refusal::OutputTooSmall { length: listed })
+        }
+        Err(refusal) => StartsReply::Refused(refusal),
+    }
 }
 
 /// How many words of work area [`search_begin`] needs, for this record and pattern: three for
@@ -337,4 +395,33 @@ pub fn search_move(work: &mut [u32], amount: usize) -> MoveReply {
 /// after every other reply, is untouched.
 pub fn search_finish(work: &mut [u32], out: &mut [u16]) -> FindReply {
     find_reply(linked::search_finish(work, out))
+}
+
+#[cfg(test)]
+mod tests {
+    use super::*;
+
+    /// What a list's length is told by: the reply, but where that can say no more.
+    #[test]
+    fn lists_longer_than_a_reply_can_say() {
+        let refused = |length| StartsReply::Refused(Refusal::OutputTooSmall { length });
+        for count in [0, 1, 70_000, u32::MAX - 1] {
+            let listed = count as usize;
+            assert_eq!(
+                starts_reply(u64::from(count), 9),
+                StartsReply::Lengths(listed)
+            );
+            assert_eq!(
+                starts_reply(19 << 32 | u64::from(count), 9),
+                refused(listed)
+            );
+        }
+        let most = u64::from(u32::MAX);
+        for listed in [u32::MAX as usize, usize::MAX] {
+            assert_eq!(starts_reply(most, listed), StartsReply::Lengths(listed));
+            assert_eq!(starts_reply(19 << 32 | most, listed), refused(listed));
+        }
+        let small = StartsReply::Refused(Refusal::WorkAreaTooSmall);
+        assert_eq!(starts_reply(17 << 32, usize::MAX), small);
+    }
 }

@@ -20,7 +20,8 @@
 //!   that is given.
 //! - [`read_pattern`] tests a pattern before there is a record.
 //! - [`count_boats`] counts the different boats of a record.
-//! - [`Finder`] finds and checks chains, and keeps its buffers between requests.
+//! - [`Finder`] finds and checks chains, and keeps its buffers between requests. Of many places at
+//!   once it tells the lengths of their shortest chains to one place, out of one search.
 //! - [`Search`] finds a chain in steps, while lines are added to the record.
 //! - [`Refusal`] says why a request was refused, in words.
 //! - [`lent`] has the library's functions as they are, on buffers that you lend.
@@ -59,7 +60,7 @@ mod record;
 mod refusal;
 mod search;
 
-pub use finder::{Finder, Question};
+pub use finder::{Finder, Question, StartsQuestion};
 pub use pattern::{read_pattern, Counts};
 pub use record::{count_boats, BoatCount, Line, Lines, Record, RecordIn};
 pub use refusal::Refusal;

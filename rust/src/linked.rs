@@ -55,6 +55,19 @@ extern "C" {
         out: *mut u16,
         out_len: usize,
     ) -> u64;
+    fn chains_starts(
+        rec: *const u8,
+        rec_len: usize,
+        pat: *const u8,
+        pat_len: usize,
+        starts: *const u16,
+        starts_len: usize,
+        to: u16,
+        work: *mut u32,
+        work_len: usize,
+        lengths: *mut u32,
+        lengths_len: usize,
+    ) -> u64;
     fn chains_search_words(rec: *const u8, rec_len: usize, pat: *const u8, pat_len: usize) -> u64;
     fn chains_search_begin(
         rec: *const u8,
@@ -199,6 +212,32 @@ pub fn find(
             work.len(),
             out.as_mut_ptr(),
             out.len(),
+        )
+    }
+}
+
+pub fn starts(
+    record: &[u8],
+    pattern: &[u8],
+    starts: &[u16],
+    to: u16,
+    work: &mut [u32],
+    lengths: &mut [u32],
+) -> u64 {
+    // SAFETY: pointers and lengths of slices, the last two borrowed for writing and so apart.
+    unsafe {
+        chains_starts(
+            record.as_ptr(),
+            record.len(),
+            pattern.as_ptr(),
+            pattern.len(),
+            starts.as_ptr(),
+            starts.len(),
+            to,
+            work.as_mut_ptr(),
+            work.len(),
+            lengths.as_mut_ptr(),
+            lengths.len(),
         )
     }
 }

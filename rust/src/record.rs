@@ -1,7 +1,7 @@
 //! Records: one that grows, and one in a buffer that is given; and counting a record's boats.
 
 use crate::lent::{self, BoatsReply, LineReply, WriteReply};
-use crate::{Finder, Question, Refusal, Search};
+use crate::{Finder, Question, Refusal, Search, StartsQuestion};
 use std::fmt;
 use std::iter::FusedIterator;
 use std::slice::ChunksExact;
@@ -272,6 +272,28 @@ impl Record {
         Finder::new().check(&Question::about(self, pattern, from, to), chain)
     }
 
+    /// For each of the places the length of the shortest chain of lines from it that the pattern
+    /// accepts, or `None`, as [`Finder::starts`] does: out of one search, however many they are.
+    /// Refusals: 8 to 16, 24, 25.
+    ///
+    /// ```
+    /// use chains::{Line, Record};
+    ///
+    /// let mut day = Record::begin(3)?;
+    /// day.add(Line { from: 0, kind: 1, class: 2, sail: 150, to: 2 })?;
+    /// // From the places 0, 1 and 0 once more, to place 2.
+    /// assert_eq!(day.starts(&[0x21, 1], &[0, 1, 0], 2)?, [Some(1), None, Some(1)]);
+    /// # Ok::<(), chains::Refusal>(())
+    /// ```
+    pub fn starts(
+        &self,
+        pattern: &[u8],
+        places: &[u16],
+        to: u16,
+    ) -> Result<Vec<Option<u32>>, Refusal> {
+        Finder::new().starts(&StartsQuestion::about(self, pattern, to), places)
+    }
+
     /// Begins a search in steps for the chain that [`Record::find`] finds. Lines may be added before
     /// it is finished; its reply is that for the record as it is now. Refusals: 8 to 16, 24, 25.
     ///
@@ -398,6 +420,17 @@ impl<'a> RecordIn<'a> {
         chain: &[u16],
     ) -> Result<bool, Refusal> {
         Finder::new().check(&Question::about(self, pattern, from, to), chain)
+    }
+
+    /// For each of the places the length of the shortest chain of lines from it that the pattern
+    /// accepts, or `None`, as [`Finder::starts`] does. Refusals: 8 to 16, 24, 25.
+    pub fn starts(
+        &self,
+        pattern: &[u8],
+        places: &[u16],
+        to: u16,
+    ) -> Result<Vec<Option<u32>>, Refusal> {
+        Finder::new().starts(&StartsQuestion::about(self, pattern, to), places)
     }
 
     /// Begins a search in steps for the chain that [`RecordIn::find`] finds, as [`Record::search`]

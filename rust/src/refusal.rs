@@ -48,7 +48,7 @@ pub enum Refusal {
     KeepsTooDeep,
     /// 14: there are bytes after the complete pattern.
     BytesAfterPattern,
-    /// 15: an asked place is not below the count of places.
+    /// 15: an asked place, one of a list too, is not below the count of places.
     AskedPlaceNotThere,
     /// 16: the search size is above 1,048,576.
     SearchTooLarge,
@@ -58,7 +58,8 @@ pub enum Refusal {
     LineNotThere,
     /// 19: the output has too few entries.
     OutputTooSmall {
-        /// The length of the shortest chain: so many entries are enough.
+        /// The length of the shortest chain, or how many lengths there are: so many entries are
+        /// enough.
         length: usize,
     },
     /// 20: the record's length is more than the buffer's.
@@ -188,9 +189,7 @@ impl fmt::Display for Refusal {
             }
             Refusal::KeepsTooDeep => "the pattern has more than three keeps inside each other",
             Refusal::BytesAfterPattern => "the pattern goes on after it is complete",
-            Refusal::AskedPlaceNotThere => {
-                "one of the two places asked about is not in the day's record"
-            }
+            Refusal::AskedPlaceNotThere => "a place that is asked about is not in the day's record",
             Refusal::SearchTooLarge => {
                 "the search would be too large: the day has too many places and boats for so \
                  long a pattern with so many keeps inside each other"
@@ -200,7 +199,8 @@ impl fmt::Display for Refusal {
             Refusal::OutputTooSmall { length } => {
                 return write!(
                     f,
-                    "there is a chain, of {length} lines, but the output is too short for it"
+                    "the output is too short: for the chain that there is, or for the lengths \
+                     asked for (entries needed: {length})"
                 );
             }
             Refusal::LengthBeyondBuffer => "the day's record is said to be longer than its buffer",
@@ -244,12 +244,14 @@ mod tests {
             let refusal = Refusal::of(number, 92_400);
             assert_eq!(refusal.number(), number);
             // The list has no length to name.
-            let said = refusal.to_string().replace(", of 92400 lines,", ",");
+            let said = refusal.to_string();
+            let said = said.replace(" (entries needed: 92400)", "");
             assert_eq!(format!("{number}\t{said}"), row);
         }
         assert_eq!(
             Refusal::of(19, 92_400).to_string(),
-            "there is a chain, of 92400 lines, but the output is too short for it"
+            "the output is too short: for the chain that there is, or for the lengths asked for \
+             (entries needed: 92400)"
         );
     }
 

@@ -4,7 +4,7 @@
 #![deny(unreachable_patterns)]
 
 use chains::lent::{self, BeginReply, BoatsReply, CheckReply, FindReply, LineReply};
-use chains::lent::{MoveReply, PatternReply, WordsReply, WriteReply};
+use chains::lent::{MoveReply, PatternReply, StartsReply, WordsReply, WriteReply};
 use chains::Refusal;
 
 fn known(refusal: Refusal) -> bool {
@@ -67,6 +67,13 @@ fn matches_have_an_arm_for_the_rest() {
             FindReply::Found(_) => false,
             FindReply::NoChain => true,
             FindReply::Refused(_) => false,
+            _ => false,
+        }
+    );
+    assert!(
+        match lent::starts(&day, &pattern, &[0], 0, &mut work, &mut []) {
+            StartsReply::Lengths(_) => false,
+            StartsReply::Refused(refusal) => known(refusal),
             _ => false,
         }
     );

@@ -3,7 +3,8 @@
 mod common;
 
 use chains::lent::{self, BeginReply, BoatsReply, CheckReply, FindReply, LineReply};
-use chains::lent::{MoveReply, PatternReply, WordsReply, WriteReply};
+use chains::lent::{MoveReply, PatternReply, StartsReply, WordsReply, WriteReply, NO_CHAIN};
+use chains::StartsQuestion;
 use chains::{count_boats, read_pattern, Finder, Question, Record, RecordIn, Refusal, Search};
 use common::*;
 
@@ -284,6 +285,79 @@ fn of_areas_and_outputs() {
         let mut work = dirty();
         assert_eq!(lent::check(rec, &P, 0, 3, &chain, &mut work), expected);
         assert_eq!(work, vec![0; 8_800]);
+    }
+}
+
+/// Every one of the list and the last place are asked about; every buffer is left as it was.
+#[test]
+fn of_starts() {
+    let mut finder = Finder::new();
+    for (number, rec, pat, to) in refused_requests() {
+        for places in [&[][..], &[0], &[0, 0, 9_999]] {
+            // A place that is not there is told before the size, and after everything else.
+            let not_there = number == 16 && places.len() == 3;
+            let number = if not_there { 15 } else { number };
+            for (words, entries) in [(0, 0), (9_000, 0), (0, 5), (9_000, 5)] {
+                let (mut work, mut lengths) = (vec![DIRT; words], vec![DIRT; entries]);
+                let reply = lent::starts(&rec, &pat, places, to, &mut work, &mut lengths);
+                let StartsReply::Refused(refusal) = reply else {
+                    panic!("{number} passes");
+                };
+                assert_eq!(refusal.number(), number);
+                assert_eq!(work, vec![DIRT; words]);
+                assert_eq!(lengths, vec![DIRT; entries]);
+                let question = StartsQuestion::about(&rec, &pat, to);
+                assert_eq!(finder.starts(&question, places), Err(refusal));
+                // A record that passes can be asked directly.
+                if let Ok(day) = Record::from_bytes(&rec[..]) {
+                    assert_eq!(day.starts(&pat, places, to), Err(refusal));
+                }
+            }
+        }
+    }
+    let day = r();
+    for (places, to) in [
+        (&[4][..], 3),
+        (&[4, 0], 3),
+        (&[0, 4], 3),
+        (&[0], 4),
+        (&[], 4),
+    ] {
+        let refused = Err(Refusal::AskedPlaceNotThere);
+        assert_eq!(finder.starts(&ask_starts(&day, &P, to), places), refused);
+    }
+}
+
+/// 17 leaves the area, 19 clears it, and neither writes to the lengths; 17 comes first.
+#[test]
+fn of_areas_and_lengths() {
+    let day = r();
+    let places = [0, 1, 2, 3, 0];
+    for (words, entries, listed) in [(0, 0, 0), (8_703, 5, 5), (8_703, 4, 5), (8_703, 0, 0)] {
+        let (mut work, mut lengths) = (vec![DIRT; words], vec![DIRT; entries]);
+        let places = &places[..listed];
+        let reply = lent::starts(day.bytes(), &P, places, 3, &mut work, &mut lengths);
+        assert_eq!(reply, StartsReply::Refused(Refusal::WorkAreaTooSmall));
+        assert_eq!(work, vec![DIRT; words]);
+        assert_eq!(lengths, vec![DIRT; entries]);
+    }
+    for (words, entries) in [(8_704, 4), (8_800, 0)] {
+        let (mut work, mut lengths) = (vec![DIRT; words], vec![DIRT; entries]);
+        let reply = lent::starts(day.bytes(), &P, &places, 3, &mut work, &mut lengths);
+        let short = Refusal::OutputTooSmall { length: 5 };
+        assert_eq!(reply, StartsReply::Refused(short));
+        assert_eq!(work, vec![0; words]);
+        assert_eq!(lengths, vec![DIRT; entries]);
+    }
+    let expected = [3, NO_CHAIN, NO_CHAIN, NO_CHAIN, 3];
+    for (words, entries, listed) in [(8_704, 5, 5), (8_800, 9, 5), (8_704, 3, 2), (8_800, 4, 0)] {
+        let (mut work, mut lengths) = (vec![DIRT; words], vec![DIRT; entries]);
+        let places = &places[..listed];
+        let reply = lent::starts(day.bytes(), &P, places, 3, &mut work, &mut lengths);
+        assert_eq!(reply, StartsReply::Lengths(listed));
+        assert_eq!(work, vec![0; words]);
+        assert_eq!(lengths[..listed], expected[..listed]);
+        assert_eq!(lengths[listed..], vec![DIRT; entries - listed]);
     }
 }
 

@@ -3,7 +3,7 @@
 mod common;
 
 use chains::{count_boats, read_pattern, version, Finder, Line, Question};
-use chains::{Record, RecordIn, Refusal, Search};
+use chains::{Record, RecordIn, Refusal, Search, StartsQuestion};
 use common::*;
 
 /// One finder for all rows, so that its buffers come dirty and of other sizes to each.
@@ -40,6 +40,91 @@ fn rows_of_the_checker() -> Result<(), Refusal> {
         assert!(finder.check(&ask(&e, &NOTHING, 0, 0), &[])?);
         assert!(!finder.check(&ask(&r, &NOTHING, 0, 1), &[])?);
     }
+    Ok(())
+}
+
+/// The finder's lengths from every place at once, in whatever order and however often they are
+/// listed; no other place of the list changes any of them.
+#[test]
+fn rows_of_starts() -> Result<(), Refusal> {
+    let mut finder = Finder::new();
+    let (r, t, e) = (r(), t(), e());
+    let mut more = r.clone();
+    assert_eq!(more.add(line(2, 4, 1, 150, 3)), Ok(7));
+    let mut fewer = lines_of_r();
+    fewer.remove(5);
+    let fewer = record(4, &fewer);
+    // Any number of lines.
+    let lines = [0x26, 0x24, 0x24, 0x21, 1, 0x21, 2, 0x24, 0x21, 3, 0x21, 4];
+    let (none, three) = (None, Some(3));
+    for _ in 0..2 {
+        for (question, places, lengths) in [
+            (
+                ask_starts(&r, &P, 3),
+                &[0, 1, 2, 3, 0][..],
+                &[three, none, none, none, three][..],
+            ),
+            (ask_starts(&r, &P, 3), &[], &[]),
+            (ask_starts(&r, &P, 3), &[0], &[three]),
+            (ask_starts(&r, &P, 3), &[3, 0], &[none, three]),
+            (ask_starts(&more, &P, 3), &[0, 1], &[three, none]),
+            (ask_starts(&fewer, &P, 3), &[0, 3], &[none, none]),
+            (ask_starts(&t, &S, 0), &[0, 0], &[Some(4), Some(4)]),
+            (ask_starts(&e, &NOTHING, 0), &[0], &[Some(0)]),
+            (ask_starts(&e, &[0x21, 3], 0), &[0], &[none]),
+            (
+                ask_starts(&r, &[0x26, 0x20], 1),
+                &[0, 1, 2, 3],
+                &[none, Some(0), none, none],
+            ),
+            (
+                ask_starts(&r, &lines, 3),
+                &[3, 2, 1, 0, 3],
+                &[Some(0), Some(1), Some(2), three, Some(0)],
+            ),
+            (
+                ask_starts(&r, &lines, 2),
+                &[0, 1, 2, 3],
+                &[Some(2), Some(1), Some(0), none],
+            ),
+        ] {
+            assert_eq!(finder.starts(&question, places)?, lengths);
+            let StartsQuestion {
+                record,
+                pattern,
+                to,
+            } = question;
+            for (&from, &length) in places.iter().zip(lengths) {
+                let found = finder.find(&Question::about(record, pattern, from, to))?;
+                assert_eq!(found.map(|chain| chain.len() as u32), length);
+            }
+        }
+    }
+
+    // More places than 16 bits can count, and few after many.
+    let many: Vec<u16> = (0..70_000u32).map(|i| (i / 7 % 4) as u16).collect();
+    let expected: Vec<Option<u32>> = many.iter().map(|&at| Some(3 - u32::from(at))).collect();
+    let question = ask_starts(&r, &lines, 3);
+    assert_eq!(finder.starts(&question, &many)?, expected);
+    assert_eq!(finder.starts(&question, &many[..9])?, expected[..9]);
+    Ok(())
+}
+
+/// A hundred boats, each with the same way of 922 lines between its own two: 924 lines for each.
+#[test]
+fn starts_are_far_away() -> Result<(), Refusal> {
+    let mut lines: Vec<Line> = (101..1_023).map(|at| line(at, 2, 9, 9, at + 1)).collect();
+    for boat in 0..100 {
+        lines.push(line(boat, 1, 1, u32::from(boat) + 1, 101));
+        lines.push(line(1_023, 3, 1, u32::from(boat) + 1, boat + 1));
+    }
+    let relay = [0x26, 0x27, 1, 0, 0x25, 0x26, 0x21, 2, 0x22, 3, 0];
+    let starts = record(1_024, &lines).starts(&relay, &[0, 99, 29, 101, 100, 1_023], 100)?;
+    let far = Some(92_400);
+    assert_eq!(
+        starts,
+        [far, Some(924), Some(71 * 924), None, Some(0), None]
+    );
     Ok(())
 }
 
@@ -277,10 +362,19 @@ fn rows_of_the_largest_size() -> Result<(), Refusal> {
     assert_eq!(finder.find(&ask(&fits, &pattern, 0, 1))?, None);
     assert_eq!(fits.search(&pattern, 0, 0)?.finish(), Some(vec![0]));
     assert_eq!(fits.search(&pattern, 0, 1)?.finish(), None);
+    let starts = finder.starts(&ask_starts(&fits, &pattern, 0), &[1_023, 0])?;
+    assert_eq!(starts, [None, Some(1)]);
     let question = ask(&over, &pattern, 0, 0);
     assert_eq!(finder.find(&question), Err(Refusal::SearchTooLarge));
     assert_eq!(finder.check(&question, &[0]), Err(Refusal::SearchTooLarge));
+    let question = ask_starts(&over, &pattern, 0);
+    for places in [&[][..], &[0, 1_023]] {
+        let starts = finder.starts(&question, places);
+        assert_eq!(starts, Err(Refusal::SearchTooLarge));
+    }
     // A place that is not there is asked about before the size.
+    let starts = finder.starts(&question, &[0, 1_024]);
+    assert_eq!(starts, Err(Refusal::AskedPlaceNotThere));
     let question = ask(&over, &pattern, 0, 1_024);
     assert_eq!(finder.find(&question), Err(Refusal::AskedPlaceNotThere));
     Ok(())
@@ -336,12 +430,22 @@ fn records_are_asked() -> Result<(), Refusal> {
     let missing = Err(Refusal::LineNotThere);
     assert_eq!(day.check(&P, 0, 3, &[7]), missing);
     assert_eq!(given.check(&P, 0, 3, &[7]), missing);
+    assert_eq!(day.starts(&P, &[3, 0], 3)?, [None, Some(3)]);
+    assert_eq!(given.starts(&P, &[3, 0], 3)?, [None, Some(3)]);
+    let nowhere = Err(Refusal::AskedPlaceNotThere);
+    assert_eq!(day.starts(&P, &[0, 4], 3), nowhere);
+    assert_eq!(given.starts(&P, &[], 4), nowhere);
 
     let question = ask(&day, &P, 0, 3);
     assert_eq!(Question::about(&day, &P, 0, 3), question);
     assert_eq!(Question::about(&given, &P, 0, 3), question);
     assert_eq!(Question::about(&bytes, &P, 0, 3), question);
     assert_eq!(Question::about(&bytes[..], &P, 0, 3), question);
+    let question = ask_starts(&day, &P, 3);
+    assert_eq!(StartsQuestion::about(&day, &P, 3), question);
+    assert_eq!(StartsQuestion::about(&given, &P, 3), question);
+    assert_eq!(StartsQuestion::about(&bytes, &P, 3), question);
+    assert_eq!(StartsQuestion::about(&bytes[..], &P, 3), question);
     Ok(())
 }
 

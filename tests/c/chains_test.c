@@ -1,7 +1,7 @@
 /*
- * Every function of chains.h, called from C: document 01's worked rows, unread numbers, classes, counted rounds, boats counted, searches in
- * steps, every refusal number, and each lent buffer afterwards; the helpers that take a reply apart; and chains_message, held to the list of
- * sentences. Prints what fails; the status is 1 if something did.
+ * Every function of chains.h, called from C: document 01's worked rows, unread numbers, classes, counted rounds, boats counted, many
+ * starts, searches in steps, every refusal number, and each lent buffer afterwards; the helpers that take a reply apart; and chains_message,
+ * held to the list of sentences. Prints what fails; the status is 1 if something did.
  *
  *     gcc -std=c11 -Wall -Wextra -Werror -pedantic -Iinclude tests/c/chains_test.c target/libchains.a -o target/chains_test
  *     target/chains_test include/refusals.txt
@@ -756,6 +756,386 @@ static void test_rounds(void)
     find_in("find, 25", too_long, 8704, 3, CHAINS_UNFOLDED_TOO_LONG, 0, c0);
 }
 
+/* ---- many starts in one search */
+
+enum { LISTED = 70001 };
+
+/* Places that are listed. Of a request about them its first place is not asked. */
+struct list {
+    const uint16_t *places;
+    size_t count;
+};
+
+static uint16_t lent_list[LISTED];
+static uint32_t lengths[EDGE + LISTED + EDGE];
+
+static const uint32_t NONE = CHAINS_NO_CHAIN;
+
+static uint64_t starts(struct ask a, size_t count, size_t words, size_t entries)
+{
+    return chains_starts(a.rec->at, a.rec->len, a.pat, a.pat_len, lent_list, count, a.to, area + EDGE, words, lengths + EDGE, entries);
+}
+
+/* Area and lengths are dirty, and the list is lent. */
+static void lend(struct list l)
+{
+    make_dirty();
+    memset(lengths, 0xA5, sizeof lengths);
+    memcpy(lent_list, l.places, l.count * sizeof *lent_list);
+}
+
+/* Do so many lengths stand at the front of the lent words, and is all else as it was, the list too? */
+static void expect_lengths(const char *what, struct list l, const uint32_t *expected, size_t count)
+{
+    static uint32_t image[EDGE + LISTED + EDGE];
+    memset(image, 0xA5, sizeof image);
+    if (count > 0) {
+        memcpy(image + EDGE, expected, count * sizeof *image);
+    }
+    expect(what, memcmp(lengths, image, sizeof image) == 0);
+    expect(what, memcmp(lent_list, l.places, l.count * sizeof *lent_list) == 0);
+}
+
+/* The starts of a list in so many words and entries; the reply, the area, and the lengths, which are as they were where refused. */
+static void starts_in(const char *what, struct ask a, struct list l, size_t words, size_t entries, uint32_t number, uint32_t value,
+                      const uint32_t *expected)
+{
+    lend(l);
+    expect_reply(what, starts(a, l.count, words, entries), number, value);
+    expect_area(what, words, clears(number));
+    expect_lengths(what, l, expected, number == 0 ? l.count : 0);
+}
+
+/* The lengths of a list, in just as many words as there are lengths and in more; where there are fewer, 19 tells how many there are. A work
+   area with a word too few is told before that. */
+static void started(const char *what, struct ask a, struct list l, const uint32_t *expected)
+{
+    const uint32_t count = (uint32_t)l.count;
+    starts_in(what, a, l, needed(a), count, 0, count, expected);
+    starts_in(what, a, l, needed(a) + 100, count + 1, 0, count, expected);
+    starts_in(what, a, l, needed(a), LISTED, 0, count, expected);
+    if (count > 0) {
+        starts_in(what, a, l, needed(a), count - 1, CHAINS_OUTPUT_TOO_SMALL, count, NULL);
+        starts_in(what, a, l, needed(a) + 100, 0, CHAINS_OUTPUT_TOO_SMALL, count, NULL);
+    }
+    starts_in(what, a, l, needed(a) - 1, count, CHAINS_WORK_AREA_TOO_SMALL, 0, NULL);
+    starts_in(what, a, l, needed(a) - 1, 0, CHAINS_WORK_AREA_TOO_SMALL, 0, NULL);
+}
+
+/* Refused, whatever is lent. */
+static void starts_refused(const char *what, struct ask a, struct list l, uint32_t number)
+{
+    const size_t words[2] = {0, WORDS}, entries[3] = {0, l.count, LISTED};
+    for (size_t i = 0; i < 2; i++) {
+        for (size_t j = 0; j < 3; j++) {
+            starts_in(what, a, l, words[i], entries[j], number, 0, NULL);
+        }
+    }
+}
+
+/* Any number of lines of kinds 1 to 4: all that the lines of R have. */
+static const uint8_t ANY_LINES[12] = {0x26, 0x24, 0x24, 0x21, 1, 0x21, 2, 0x24, 0x21, 3, 0x21, 4};
+
+static const uint16_t PLACES[6] = {0, 1, 2, 3, 0, 4};
+static const struct list ALL = {PLACES, 4}, ALL_AND_0 = {PLACES, 5}, ONE = {PLACES, 1}, EMPTY = {PLACES, 0};
+
+static void test_starts(void)
+{
+    const uint8_t line_3[2] = {0x21, 3}, repeat_nothing[2] = {0x26, 0x20};
+    const uint16_t zeros[3] = {0, 0, 0}, back[7] = {3, 3, 2, 1, 1, 0, 3};
+    const struct list three = {zeros, 3}, backward = {back, 7};
+    started("starts, R and P, to 3", R_P, ALL_AND_0, (const uint32_t[]){3, NONE, NONE, NONE, 3});
+    started("starts, R and P, one to 3", R_P, ONE, (const uint32_t[]){3});
+    started("starts, R and P, none to 3", R_P, EMPTY, NULL);
+    started("starts, R and P, to 0", (struct ask){&r, P, 15, 0, 0}, ALL_AND_0, (const uint32_t[]){NONE, NONE, NONE, NONE, NONE});
+    started("starts, R with line 7 and P", (struct ask){&r_with_7, P, 15, 0, 3}, ALL, (const uint32_t[]){3, NONE, NONE, NONE});
+    started("starts, R without line 5 and P", (struct ask){&r_without_5, P, 15, 0, 3}, ALL, (const uint32_t[]){NONE, NONE, NONE, NONE});
+    started("starts, T and S, one", T_S, ONE, (const uint32_t[]){4});
+    started("starts, T and S, three times the same", T_S, three, (const uint32_t[]){4, 4, 4});
+    started("starts, E and 20", (struct ask){&e, NOTHING, 1, 0, 0}, three, (const uint32_t[]){0, 0, 0});
+    started("starts, E and 20, none", (struct ask){&e, NOTHING, 1, 0, 0}, EMPTY, NULL);
+    started("starts, E and 21 03", (struct ask){&e, line_3, 2, 0, 0}, ONE, (const uint32_t[]){NONE});
+    started("starts, R and 26 20", (struct ask){&r, repeat_nothing, 2, 0, 1}, ALL, (const uint32_t[]){NONE, 0, NONE, NONE});
+    started("starts, R and its lines, to 3", (struct ask){&r, ANY_LINES, 12, 0, 3}, ALL, (const uint32_t[]){3, 2, 1, 0});
+    started("starts, R and its lines, to 2", (struct ask){&r, ANY_LINES, 12, 0, 2}, ALL_AND_0, (const uint32_t[]){2, 1, 0, NONE, 2});
+    started("starts, R and its lines, to 0", (struct ask){&r, ANY_LINES, 12, 0, 0}, ALL, (const uint32_t[]){0, NONE, NONE, NONE});
+    started("starts, in another order", (struct ask){&r, ANY_LINES, 12, 0, 3}, backward, (const uint32_t[]){0, 0, 1, 2, 2, 3, 0});
+    starts_in("starts, no words for no places", R_P, EMPTY, 0, 0, CHAINS_WORK_AREA_TOO_SMALL, 0, NULL);
+}
+
+/* The questions in their order: of the record, of the pattern, 15, 16, 17, 19. Each request fails the later ones as well. */
+static void test_starts_refused(void)
+{
+    static struct record day;
+    static const uint16_t far[5] = {0, 4, 65535, 1024, 9};
+    const struct list nowhere = {far, 5};
+    const struct ask damaged = {&day, P, 0, 0, 9};
+
+    memset(day.at, 0, sizeof day.at);
+    day.len = CHAINS_LONGEST_RECORD + 1;
+    starts_refused("starts, 40,965 bytes", damaged, nowhere, CHAINS_RECORD_TOO_LONG);
+    day = r;
+    day.len = 0;
+    starts_refused("starts, no record", damaged, nowhere, CHAINS_PLACES_OUT_OF_RANGE);
+    day.len = r.len - 1;
+    starts_refused("starts, a record without its end", damaged, nowhere, CHAINS_ENTRY_NOT_KNOWN);
+    starts_refused("starts, a record without its end, none", damaged, EMPTY, CHAINS_ENTRY_NOT_KNOWN);
+    day.len = r.len - 2;
+    starts_refused("starts, a line cut short", damaged, nowhere, CHAINS_LINE_CUT_SHORT);
+    day.len = r.len + 1;
+    day.at[r.len] = 0;
+    starts_refused("starts, a record that goes on", damaged, nowhere, CHAINS_BYTES_AFTER_END);
+    day.at[6] = 0;
+    starts_refused("starts, a line of kind 0", damaged, nowhere, CHAINS_LINE_KIND_OUT_OF_RANGE);
+    day.at[5] = 4;
+    starts_refused("starts, a line from place 4 of 4", damaged, nowhere, CHAINS_LINE_PLACE_NOT_THERE);
+
+    const uint8_t line_0[2] = {0x21, 0}, unkept[3] = {0x22, 1, 0}, two[2] = {0x20, 0x20}, turned[4] = {0x2A, 1, 0, 0x20};
+    const uint8_t four_keeps[13] = {0x27, 1, 0, 0x27, 1, 1, 0x27, 1, 2, 0x27, 1, 3, 0x20};
+    const uint8_t too_long[9] = {0x26, 0x26, 0x26, 0x2A, 0, 20, 0x24, 0x20, 0x20};
+    uint8_t repeats[64];
+    memset(repeats, 0x26, 64);
+    repeats[63] = 0x20;
+    const struct {
+        uint32_t number;
+        const uint8_t *pat;
+        size_t pat_len;
+    } patterns[9] = {{8, P, 0}, {9, repeats, 64}, {10, line_0, 1}, {11, line_0, 2}, {12, unkept, 3}, {13, four_keeps, 13},
+                     {14, two, 2}, {24, turned, 4}, {25, too_long, 9}};
+    for (size_t i = 0; i < 9; i++) {
+        const struct ask asked = {&r, patterns[i].pat, patterns[i].pat_len, 0, 9};
+        starts_refused("starts, a pattern that is refused", asked, nowhere, patterns[i].number);
+        starts_refused("starts, a pattern that is refused, none", asked, EMPTY, patterns[i].number);
+    }
+
+    const struct ask to_4 = {&r, P, 15, 0, 4};
+    const uint16_t first[4] = {4, 0, 1, 2};
+    const uint32_t missing = CHAINS_ASKED_PLACE_NOT_THERE;
+    starts_refused("starts, a list of place 4 of 4", R_P, (struct list){first, 1}, missing);
+    starts_refused("starts, the first of the list alone", R_P, (struct list){first, 4}, missing);
+    starts_refused("starts, the last of the list alone", R_P, (struct list){PLACES, 6}, missing);
+    starts_refused("starts, a list of place 65,535", R_P, (struct list){far + 2, 1}, missing);
+    starts_refused("starts, all of the list but one", R_P, nowhere, missing);
+    starts_refused("starts, the finishing place alone", to_4, ALL, missing);
+    starts_refused("starts, the finishing place of no starts", to_4, EMPTY, missing);
+    starts_refused("starts, every place", to_4, (struct list){far + 1, 4}, missing);
+}
+
+/* 1,024 places, 15 commands, one keep: 63 boats are the most. 15 is told before the size, and the size before the area. */
+static void test_starts_large(void)
+{
+    static struct record day;
+    static const uint16_t ends[4] = {0, 1023, 0, 1024};
+    const struct list three = {ends, 3}, four = {ends, 4};
+    uint8_t pattern[18] = {0x27, 1, 0};
+    memset(pattern + 3, 0x26, 13);
+    pattern[16] = 0x21;
+    pattern[17] = 1;
+    const struct ask large = {&day, pattern, 18, 0, 0}, nowhere = {&day, pattern, 18, 0, 1024};
+    begin(&day, 1024);
+    for (uint32_t boat = 0; boat < 63; boat++) {
+        add(&day, (struct line){0, 1, 1, boat, 0});
+    }
+    starts_in("starts, 63 boats, 1,024 of 1,024", large, four, 0, 0, CHAINS_ASKED_PLACE_NOT_THERE, 0, NULL);
+    starts_in("starts, 63 boats, too few words", large, three, WORDS, 0, CHAINS_WORK_AREA_TOO_SMALL, 0, NULL);
+    uint32_t *words = malloc(4202496 * sizeof *words);
+    if (words == NULL) {
+        expect("memory for the largest area", 0);
+        return;
+    }
+    memset(words, 0xA5, 4202496 * sizeof *words);
+    uint32_t found[4] = {DIRT, DIRT, DIRT, DIRT};
+    const uint32_t lent[4] = {1, NONE, 1, DIRT};
+    expect_reply("starts, 63 boats", chains_starts(day.at, day.len, pattern, 18, ends, 3, 0, words, 4202496, found, 4), 0, 3);
+    expect("starts, 63 boats", memcmp(found, lent, sizeof found) == 0);
+    int zeros = 1;
+    for (size_t i = 0; i < 4202496; i++) {
+        zeros = zeros && words[i] == 0;
+    }
+    expect("starts, 63 boats: the work area afterwards", zeros);
+    free(words);
+
+    add(&day, (struct line){0, 1, 1, 63, 0});
+    starts_refused("starts, 64 boats", large, three, CHAINS_SEARCH_TOO_LARGE);
+    starts_refused("starts, 64 boats, none", large, EMPTY, CHAINS_SEARCH_TOO_LARGE);
+    starts_refused("starts, 64 boats and no such place", large, four, CHAINS_ASKED_PLACE_NOT_THERE);
+    starts_refused("starts, 64 boats and nowhere to go", nowhere, three, CHAINS_ASKED_PLACE_NOT_THERE);
+    starts_refused("starts, 64 boats and nowhere to go, none", nowhere, EMPTY, CHAINS_ASKED_PLACE_NOT_THERE);
+}
+
+/* A hundred boats, each with the same way of 922 lines between its own two, 924 lines for each of them: up to 92,400 in all. */
+static void test_starts_far(void)
+{
+    static struct record day;
+    static const uint8_t relay[11] = {0x26, 0x27, 1, 0, 0x25, 0x26, 0x21, 2, 0x22, 3, 0};
+    enum { BOATS = 100, FIRST = BOATS + 1, LAST = 1023, NEEDED = 4 * 1024 * 7 * 102 + 8192 };
+    begin(&day, 1024);
+    for (uint16_t place = FIRST; place < LAST; place++) {
+        add(&day, (struct line){place, 2, 9, 9, (uint16_t)(place + 1)});
+    }
+    for (uint16_t boat = 0; boat < BOATS; boat++) {
+        add(&day, (struct line){boat, 1, 1, boat + 1u, FIRST});
+        add(&day, (struct line){LAST, 3, 1, boat + 1u, (uint16_t)(boat + 1)});
+    }
+    expect_words("starts, a hundred boats", day.at, day.len, relay, 11, 0, NEEDED);
+    uint32_t *words = malloc(NEEDED * sizeof *words);
+    if (words == NULL) {
+        expect("memory for a hundred boats", 0);
+        return;
+    }
+    uint16_t places[1024];
+    uint32_t far[1024];
+    for (uint16_t place = 0; place < 1024; place++) {
+        places[place] = (uint16_t)(1023 - place);
+        far[1023 - place] = place <= BOATS ? 924u * (BOATS - place) : NONE;
+    }
+    const struct list all = {places, 1024};
+    lend(all);
+    memset(words, 0xA5, NEEDED * sizeof *words);
+    expect_reply("starts, a hundred boats",
+                 chains_starts(day.at, day.len, relay, 11, lent_list, 1024, BOATS, words, NEEDED, lengths + EDGE, 1024), 0, 1024);
+    expect_lengths("starts, a hundred boats", all, far, 1024);
+    expect("starts, a hundred boats: from the first", lengths[EDGE + 1023] == 92400);
+    free(words);
+}
+
+/* A list with more places than 16 bits can count, and than a record has; each of them is asked about. */
+static void test_starts_many(void)
+{
+    static uint16_t places[LISTED];
+    static uint32_t expected[LISTED];
+    const struct ask asked = {&r, ANY_LINES, 12, 0, 3};
+    const struct list many = {places, 70000};
+    for (uint32_t i = 0; i < 70000; i++) {
+        places[i] = (uint16_t)(i / 7 % 4);
+        expected[i] = 3 - places[i];
+    }
+    started("70,000 starts", asked, many, expected);
+    started("65,536 starts", asked, (struct list){places, 65536}, expected);
+    started("65,537 starts", asked, (struct list){places, 65537}, expected);
+    const size_t at[4] = {0, 65535, 65536, 69999};
+    for (size_t i = 0; i < 4; i++) {
+        const uint16_t place = places[at[i]];
+        places[at[i]] = 4;
+        starts_refused("70,000 starts, one of them not there", asked, many, CHAINS_ASKED_PLACE_NOT_THERE);
+        places[at[i]] = place;
+    }
+}
+
+/* A list with more places than a value can say: 19 says as many as it can. The places are all 0, in memory that nothing is written to. */
+static void test_starts_beyond(void)
+{
+#if SIZE_MAX > UINT32_MAX
+    const size_t count = (size_t)UINT32_MAX + 3;
+    uint16_t *places = calloc(count, sizeof *places);
+    if (places == NULL) {
+        puts("no memory for 4,294,967,298 starts: they are not tested");
+        return;
+    }
+    lend(EMPTY);
+    const uint64_t reply = chains_starts(r.at, r.len, P, 15, places, count, 3, area + EDGE, 8704, lengths + EDGE, LISTED);
+    expect_reply("4,294,967,298 starts", reply, CHAINS_OUTPUT_TOO_SMALL, UINT32_MAX);
+    expect_area("4,294,967,298 starts", 8704, 1);
+    expect_lengths("4,294,967,298 starts", EMPTY, NULL, 0);
+    free(places);
+#endif
+}
+
+/* What area and lengths hold before does not matter: zeros, ones, a search that is under way. */
+static void test_starts_before(void)
+{
+    const uint32_t expected[5] = {3, NONE, NONE, NONE, 3};
+    const int before[4] = {0, 1, 0x80, 0xFF};
+    for (size_t i = 0; i < 5; i++) {
+        lend(ALL_AND_0);
+        if (i < 4) {
+            memset(area + EDGE, before[i], 9000 * sizeof *area);
+            memset(lengths + EDGE, before[i], 5 * sizeof *lengths);
+        } else {
+            expect_reply("starts, a search before", chains_search_begin(r.at, r.len, P, 15, 0, 3, area + EDGE, 9000), 0, 0);
+            expect_reply("starts, a search before", chains_search_move(area + EDGE, 9000, 5), 0, 5);
+        }
+        expect_reply("starts, whatever was there", starts(R_P, 5, 9000, 5), 0, 5);
+        expect_area("starts, whatever was there", 9000, 1);
+        expect_lengths("starts, whatever was there", ALL_AND_0, expected, 5);
+    }
+}
+
+/* ---- many starts, beside a find for each */
+
+/* Numbers below a limit, in an order that looks like none and is the same each time. */
+static uint32_t drawn(uint32_t below)
+{
+    static uint32_t state = 1;
+    state = state * 1664525u + 1013904223u;
+    return (state >> 8) % below;
+}
+
+/* A day of up to five places, with up to fifteen lines of three kinds; some numbers are not read. */
+static void draw_day(struct record *day, uint16_t places)
+{
+    begin(day, places);
+    for (uint32_t lines = drawn(16); lines > 0; lines--) {
+        const uint16_t from = (uint16_t)drawn(places), to = (uint16_t)drawn(places);
+        const uint8_t kind = (uint8_t)(1 + drawn(3)), class_ = (uint8_t)drawn(3);
+        add(day, (struct line){from, kind, class_, drawn(2), to});
+    }
+}
+
+/* What a find says of one place, with an output that is long enough: its length, or the mark. */
+static uint32_t length_from(struct ask a)
+{
+    static uint32_t work[WORDS];
+    const uint64_t reply = chains_find(a.rec->at, a.rec->len, a.pat, a.pat_len, a.from, a.to, work, needed(a), output, 0);
+    expect("a find without an output", !chains_refused(reply) || chains_number(reply) == CHAINS_OUTPUT_TOO_SMALL);
+    return chains_value(reply);
+}
+
+/* Days and lists that are drawn, with every place as the last: the lengths are those of a find for each. */
+static void test_starts_and_finds(void)
+{
+    static const struct {
+        uint8_t at[16];
+        size_t len;
+    } patterns[12] = {
+        {{0x20}, 1},
+        {{0x21, 1}, 2},
+        {{0x26, 0x24, 0x21, 1, 0x24, 0x21, 2, 0x21, 3}, 9},                       /* any number of lines */
+        {{0x25, 0x26, 0x21, 1, 0x25, 0x21, 2, 0x26, 0x21, 3}, 10},                /* a 2 between 1s and 3s */
+        {{0x27, 1, 0, 0x26, 0x24, 0x22, 2, 0, 0x22, 3, 0}, 11},                   /* one boat's lines */
+        {{0x27, 1, 0, 0x25, 0x26, 0x23, 2, 0, 0x22, 3, 0}, 11},                   /* others between its two */
+        {{0x27, 1, 0, 0x25, 0x26, 0x28, 2, 0, 0x28, 3, 0}, 11},                   /* its sisters */
+        {{0x27, 2, 0, 0x24, 0x29, 1, 0, 0x25, 0x29, 3, 0, 0x29, 1, 0}, 14},       /* boats of another class */
+        {{0x26, 0x27, 1, 0, 0x25, 0x26, 0x21, 2, 0x22, 3, 0}, 11},                /* boat after boat */
+        {{0x27, 1, 0, 0x27, 2, 1, 0x25, 0x22, 3, 0, 0x24, 0x23, 1, 1, 0x20}, 15}, /* two boats */
+        {{0x2A, 2, 4, 0x24, 0x21, 1, 0x21, 2}, 8},                                /* two to four lines */
+        {{0x2A, 0, 3, 0x27, 3, 0, 0x24, 0x20, 0x22, 1, 0}, 11},                   /* rounds with a boat of their own */
+    };
+    static struct record day;
+    size_t found = 0, none = 0, longer = 0;
+    for (size_t i = 0; i < 60; i++) {
+        const uint16_t places = (uint16_t)(1 + drawn(5));
+        draw_day(&day, places);
+        for (size_t j = 0; j < 12; j++) {
+            for (uint16_t to = 0; to < places; to++) {
+                uint16_t list[9];
+                uint32_t expected[9];
+                const struct list l = {list, drawn(10)};
+                for (size_t k = 0; k < l.count; k++) {
+                    list[k] = (uint16_t)drawn(places);
+                    expected[k] = length_from((struct ask){&day, patterns[j].at, patterns[j].len, list[k], to});
+                    found += expected[k] != NONE;
+                    none += expected[k] == NONE;
+                    longer += expected[k] != NONE && expected[k] > 2;
+                }
+                const struct ask asked = {&day, patterns[j].at, patterns[j].len, 0, to};
+                starts_in("starts as the finds", asked, l, needed(asked), l.count, 0, (uint32_t)l.count, expected);
+            }
+        }
+    }
+    expect("of the starts some are found, some far away, some not at all", found > 1000 && longer > 100 && none > 1000);
+}
+
 /* ---- searches in steps */
 
 /* How many states the searches of R and P, and of T and S, take up: those expanded backward, and then all that were found but the goal. */
@@ -1166,6 +1546,7 @@ static void test_refused_replies(void)
             expect("a refusal is refused", chains_refused(reply));
             expect("a refusal has no length", !chains_length(reply, &length));
             expect("a refusal has no words", !chains_needed(reply, &length));
+            expect("a refusal has no lengths", !chains_lengths(reply, &length));
             expect("a refusal is not begun and not moved", !chains_begun(reply) && !chains_moved(reply, &length));
             expect("a refusal is not found", !chains_found(reply, &length));
             expect("a refusal leaves the length", length == 77);
@@ -1190,6 +1571,9 @@ static void test_replies(void)
     expect("no is no", chains_no(0) && !chains_yes(0));
     expect("written", chains_written(5) && chains_written(2) && !chains_written(0));
     expect("words", chains_needed(8704, &length) && length == 8704);
+    expect("lengths", chains_lengths(5, &length) && length == 5);
+    expect("lengths of no places", chains_lengths(0, &length) && length == 0);
+    expect("as many lengths as can be said", chains_lengths(UINT32_MAX, &length) && length == UINT32_MAX);
     expect("begun", chains_begun(0));
     expect("moved", chains_moved(7, &length) && length == 7);
     expect("moved by none", chains_moved(0, &length) && length == 0);
@@ -1204,6 +1588,13 @@ static void test_replies(void)
     const uint64_t reply = chains_find(r.at, r.len, P, 15, 0, 3, area, WORDS, output, 2);
     expect("an output of 2 is not found", !chains_found(reply, &length) && !chains_none(reply) && length == 4);
     expect("an output of 2 is too short for 3", chains_too_long(reply, &length) && length == 3);
+    uint32_t two[2];
+    const uint64_t short_of = chains_starts(r.at, r.len, P, 15, PLACES, 5, 3, area, WORDS, two, 2);
+    expect("two words are no lengths of five", !chains_lengths(short_of, &length) && length == 3);
+    expect("two words are too few for five", chains_too_long(short_of, &length) && length == 5);
+    const uint64_t started = chains_starts(r.at, r.len, P, 15, PLACES, 2, 3, area, WORDS, two, 2);
+    expect("two lengths", chains_lengths(started, &length) && length == 2 && two[0] == 3 && two[1] == CHAINS_NO_CHAIN);
+    expect("two lengths are not too many", !chains_too_long(started, &length) && length == 2);
 
     expect("the version is the header's", chains_version() == CHAINS_VERSION);
     char text[32];
@@ -1256,6 +1647,14 @@ int main(int argc, char **argv)
     test_unread();
     test_classes();
     test_rounds();
+    test_starts();
+    test_starts_refused();
+    test_starts_large();
+    test_starts_far();
+    test_starts_many();
+    test_starts_beyond();
+    test_starts_before();
+    test_starts_and_finds();
     test_search_begin();
     test_search();
     test_search_moves();

@@ -16,6 +16,8 @@ int main()
     uint32_t boats[CHAINS_BOATS_COUNTS] = {9, 9};
     static uint32_t work[8200];
     uint16_t chain[1] = {9};
+    uint16_t starts[2] = {0, 0};
+    uint32_t lengths[2] = {9, 9};
     size_t length = 0, words = 0, count = 9;
     bool holds = chains_version() == CHAINS_VERSION;
     holds = holds && chains_length(chains_begin(record, sizeof record, 1), &length) && length == 4;
@@ -23,6 +25,10 @@ int main()
             boats[CHAINS_BOATS_READS] == 0;
     holds = holds && chains_needed(chains_words(record, length, pattern, 1), &words) && words == 8200;
     holds = holds && chains_needed(chains_search_words(record, length, pattern, 1), &words) && words == 8200;
+    holds = holds && chains_too_long(chains_starts(record, length, pattern, 1, starts, 2, 0, work, words, lengths, 1), &count) &&
+            count == 2 && lengths[0] == 9;
+    holds = holds && chains_lengths(chains_starts(record, length, pattern, 1, starts, 1, 0, work, words, lengths, 2), &count) &&
+            count == 1 && lengths[0] == 0 && lengths[1] == 9;
     holds = holds && chains_begun(chains_search_begin(record, length, pattern, 1, 0, 0, work, words));
     holds = holds && chains_moved(chains_search_move(work, words, 1), &count) && count == 0;
     holds = holds && chains_found(chains_search_finish(work, words, chain, 1), &length) && length == 0 && chain[0] == 9;

@@ -16,7 +16,8 @@
 #include <sys/mman.h>
 #include <unistd.h>
 
-enum { PATTERNS = 21, REFUSED = 2, DAYS = 5, LONGEST_PATTERN = 200, MOST_WORDS = 4214784, MOST_ENTRIES = 100000, LINES = 4096 };
+enum { PATTERNS = 21, REFUSED = 2, DAYS = 5, LONGEST_PATTERN = 200, MOST_WORDS = 4214784, MOST_ENTRIES = 100000, LINES = 4096,
+       PLACES = 1024 };
 
 static const unsigned char PAINT = 0xC5;
 
@@ -36,6 +37,8 @@ static struct day days[DAYS];
 static uint32_t *work;
 static uint16_t *entries;
 static uint16_t *chain;
+static uint16_t places[PLACES];
+static uint32_t lengths[PLACES];
 
 static void fail(const char *what)
 {
@@ -130,6 +133,7 @@ struct counted {
     size_t found;
     size_t yes; /* of the checker, to the chains that were found */
     size_t stepped; /* searches in steps that replied as the finder did */
+    size_t started; /* lists of all places, of which the first was answered, or all refused, as by the finder */
     size_t days; /* whose boats were counted */
 };
 
@@ -157,6 +161,9 @@ static void ask(const struct day *d, const struct bytes *p, struct counted *coun
     uint64_t reply = chains_find(d->at, d->len, p->at, p->len, 0, d->last, work, words, entries, MOST_ENTRIES);
     counted->answers += !chains_refused(reply);
     counted->stepped += reply == stepped;
+    const uint64_t started =
+        chains_starts(d->at, d->len, p->at, p->len, places, d->last + 1u, d->last, work, words, lengths, d->last + 1u);
+    counted->started += chains_refused(reply) ? started == reply : started == d->last + 1u && lengths[0] == chains_value(reply);
     if (chains_found(reply, &length)) {
         counted->found++;
         reply = chains_check(d->at, d->len, p->at, p->len, 0, d->last, entries, length, work, words);
@@ -232,16 +239,19 @@ int main(void)
     for (uint16_t i = 0; i < LINES; i++) {
         chain[i] = i;
     }
+    for (uint16_t i = 0; i < PLACES; i++) {
+        places[i] = i;
+    }
     write_patterns();
     write_days();
-    struct counted counted = {0, 0, 0, 0, 0, 0};
+    struct counted counted = {0, 0, 0, 0, 0, 0, 0};
     const size_t own = taken_by(call_none, &counted);
     const size_t taken = taken_by(call_all, &counted);
     printf("%zu answers on a stack of %d bytes; the hungriest call took %zu, beside %zu of the thread's own\n", counted.answers,
            CHAINS_STACK, taken - own, own);
     /* The last patterns alone are refused; of the requests about the others, some are too large. */
     if (counted.patterns != PATTERNS - REFUSED || counted.answers < 3 * PATTERNS || counted.found < PATTERNS ||
-        counted.yes != counted.found || counted.stepped != PATTERNS * DAYS || counted.days != DAYS) {
+        counted.yes != counted.found || counted.stepped != PATTERNS * DAYS || counted.started != PATTERNS * DAYS || counted.days != DAYS) {
         fail("the requests are answered");
     }
     free(work);

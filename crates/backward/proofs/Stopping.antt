@@ -1,4 +1,4 @@
--- Phase one by the count of expanded states: where it begins, one state expanded, and both ends (`going-end`, `going-met`).
+-- Phase one by the count of expanded states: where it begins (`seeded-stopped`), one state expanded, and both ends (`going-end`, `going-met`).
 use mathlib.Core.Path.{_≡_, refl, sym, ap, _∙_, subst}
 use mathlib.Core.Bool.{true, false, false≢true}
 use mathlib.Core.List.{List, [], _∷_}
@@ -7,7 +7,7 @@ use Prim.Native.Nat.{ℕ, suc, _+_, _<_, _≤_}
 use native.Mathlib.Omega.{arith}
 use native.Mathlib.Decide.{ℕ-discrete}
 use lib.Dec.{leb}
-use lib.ListN.{getD, drop, drop-of-length-le}
+use lib.ListN.{length, getD, drop, drop-of-length-le}
 use lib.Seq.{drop-cons}
 use borrow.Author.Tests.{eq-eqb, ne-eqb, leb-true}
 use Rattle.search.specs.Along.{goal}
@@ -18,8 +18,14 @@ use Rattle.graph.specs.PhaseTwo.{nearestWord}
 use Rattle.search.specs.Product.{Setting}
 use Rattle.graph.specs.Table.{Search, blank, push}
 use Rattle.area.specs.Area.{stretch, found, Ready, Step}
-use Rattle.area.proofs.Changes.{step-as, step-none, step-then, ready-long}
-use Rattle.backward.specs.Stopped.{opened, tableAfter, Stopped}
+use Rattle.request.specs.Layout.{Laid}
+use Rattle.request.specs.declared.Plan.{Plan}
+use Rattle.search.specs.Front.{goal-in}
+use Rattle.search.specs.Loaded.{settingIn, settingAt}
+use Rattle.states.specs.Pairs.{StepBack}
+use Rattle.states.specs.Spots.{front}
+use Rattle.area.proofs.Changes.{step-as, step-none, step-then, ready-long, step-under, under-front}
+use Rattle.backward.specs.Stopped.{opened, fromGoals, seeded, tableAfter, Stopped, StoppedAt, StoppedFrom}
 
 -- ---- the test
 
@@ -118,6 +124,17 @@ module _ {base size : ℕ} {E : ℕ → ℕ → Search → Search} where
       }
 
 -- the goal s pushed into nothing found
-pub goal-begun : (S : Setting) (N b s : ℕ) → s ≡ goal S b → begun N (goal S b ∷ []) ≡ opened (push 1 s (blank N))
+pub goal-begun : (S : Setting) (N b s : ℕ) → s ≡ goal S b → (st : Search) → fromGoals S N (b ∷ []) st ≡ opened (push 1 s (blank N))
 unfolding begun loop
-goal-begun S N b s e = rw e
+goal-begun S N b s e st = rw e
+
+-- the search from the goal at the place b, after nothing but it is found: the loaded tables are as they were
+pub seeded-stopped : (program : List ℕ) {plan : Plan} {w : List ℕ} → Laid plan (length w)
+    → (b : ℕ) {u : ℕ} {v : List ℕ} → StepBack plan (seeded plan b) 0 w u v
+    → {firsts : List ℕ} {r : ℕ} {z : List ℕ} → StoppedAt opened (settingAt program plan v) plan firsts u v r z
+    → StoppedFrom (b ∷ []) (settingAt program plan w) plan firsts 0 w r z
+seeded-stopped program {plan} {w} laid b {u} {v} step {firsts} {r} {z} x =
+    let S = settingAt program plan w in
+    let same = under-front (step-under step) (plan .base) (omega arith) in
+    let rest = subst (λ g. StoppedAt opened (settingIn program plan g) plan firsts u v r z) same x in
+    stopped-after (fromGoals S (plan .size) (b ∷ [])) (goal-begun S (plan .size) b _ (goal-in program plan (length w) laid (front plan w) b)) step rest

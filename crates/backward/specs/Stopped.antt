@@ -1,15 +1,15 @@
 -- Phase one stopped: some states are expanded, and it has ended, because nothing waits or because a first state is met.
-use mathlib.Core.List.{List, [], _∷_}
+use mathlib.Core.List.{List, map}
 use Prim.Native.Nat.{ℕ}
 use Rattle.search.specs.Along.{goal}
+use Rattle.search.specs.Front.{stateIn}
 use Rattle.request.specs.declared.Plan.{Plan}
 use Rattle.graph.specs.Early.{Ended}
 use Rattle.search.specs.Moves.{expand}
 use Rattle.graph.specs.PhaseOne.{Progress, begun, advanceBy}
 use Rattle.search.specs.Product.{Setting}
-use Rattle.graph.specs.Table.{Search}
+use Rattle.graph.specs.Table.{Search, blank, push}
 use Rattle.area.specs.Area.{found, Step}
-use Rattle.forward.specs.Firsts.{firstStates}
 
 -- ---- where phase one begins
 
@@ -17,9 +17,17 @@ use Rattle.forward.specs.Firsts.{firstStates}
 abbrev pub opened : Search → Progress
 opened st = record { expanded = 0; table = st }
 
--- with the goal at the place b, of N states; whatever the pair held before
-abbrev pub fromGoal : Setting → ℕ → ℕ → Search → Progress
-fromGoal S N b st = begun N (goal S b ∷ [])
+-- with the goals at the places bs, of N states; whatever the pair held before
+abbrev pub fromGoals : Setting → ℕ → List ℕ → Search → Progress
+fromGoals S N bs st = begun N (map (goal S) bs)
+
+-- nothing found, of N states; whatever the pair held before
+abbrev pub forgotten : ℕ → Search → Search
+forgotten N st = blank N
+
+-- nothing but the goal at the place b
+abbrev pub seeded : Plan → ℕ → Search → Search
+seeded plan b st = push 1 (stateIn plan b (plan .done) 0) (blank (plan .size))
 
 -- ---- where it stops
 
@@ -33,10 +41,9 @@ pub record Stopped (base size : ℕ) (E : ℕ → ℕ → Search → Search) (S 
   pub step : Step base size (tableAfter E count start) t w u v
   pub ended : Ended S (advanceBy E count (start (found base size t w)))
 
--- by the plan's pair of stretches, the setting S and the first states at the place `from`: with the table as it stands, or from the goal
--- at the place `to`
-abbrev pub StoppedAt : (Search → Progress) → Setting → Plan → ℕ → ℕ → ℕ → List ℕ → ℕ → List ℕ → Type 0
-StoppedAt start S plan begin from = Stopped (plan .base) (plan .size) (expand S) (firstStates plan begin from) start
+-- by the plan's pair of stretches, the setting S and these first states: with the table as it stands, or from the goals at the places bs
+abbrev pub StoppedAt : (Search → Progress) → Setting → Plan → List ℕ → ℕ → List ℕ → ℕ → List ℕ → Type 0
+StoppedAt start S plan firsts = Stopped (plan .base) (plan .size) (expand S) firsts start
 
-abbrev pub StoppedFrom : ℕ → Setting → Plan → ℕ → ℕ → ℕ → List ℕ → ℕ → List ℕ → Type 0
-StoppedFrom to S plan = StoppedAt (fromGoal S (plan .size) to) S plan
+abbrev pub StoppedFrom : List ℕ → Setting → Plan → List ℕ → ℕ → List ℕ → ℕ → List ℕ → Type 0
+StoppedFrom bs S plan = StoppedAt (fromGoals S (plan .size) bs) S plan

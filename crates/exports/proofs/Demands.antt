@@ -1,11 +1,11 @@
--- Demands 2 and 3 of the numbers for C, Rust and Python: `check-number` and `find-number` read them off the demands of the replies.
+-- Demands 2 and 3 of the numbers for C, Rust and Python: `check-number`, `find-number` and `starts-number` read them off the demands of the replies.
 -- A refusal of a record and a pattern that are read has a number from 15 on, so it is none of the numbers that speak of chains. Assumes nothing.
-use mathlib.Core.Path.{_≡_, sym, subst}
+use mathlib.Core.Path.{_≡_, sym, ap, subst}
 use mathlib.Core.Bool.{Bool, true, false}
 use mathlib.Core.List.{List}
 use Prim.Native.Nat.{ℕ, _<_}
 use native.Mathlib.Omega.{arith}
-use lib.ListN.{getD}
+use lib.ListN.{length, getD}
 use Rattle.meaning.specs.Outcome.{Outcome, refused, passed, Reply, told}
 use Rattle.meaning.specs.Record.{Line, Day, readRecord}
 use Rattle.meaning.specs.Pattern.{Pattern, readPattern, noneGiven}
@@ -14,8 +14,12 @@ use Rattle.checker.specs.Promise.{checkOf, Says, Demand2}
 use Rattle.checker.specs.Demand.{check-late}
 use Rattle.finder.specs.Promise.{findOf, Said, found, none-found, refusal, said, Answers, Demand3}
 use Rattle.finder.specs.Demand.{Bounds, find-bounds, LateSaid, find-late}
+use Rattle.starts.specs.Promise as All
+use Rattle.starts.specs.Promise.{LengthSays, Shortest}
+use Rattle.starts.specs.Demand.{LateTold, starts-late}
+use Rattle.meaning.specs.Outcome as Told
 use Rattle.exports.specs.Fits.{SaidFits}
-use Rattle.exports.specs.Promise.{checkNumber, YesNo, Membership, findNumber, LengthOrNone, FirstShortest}
+use Rattle.exports.specs.Promise.{checkNumber, YesNo, Membership, findNumber, LengthOrNone, FirstShortest, counted, startsNumber, EachShortest}
 
 -- ---- demand 2
 
@@ -80,3 +84,22 @@ module _ (rec pat : List ℕ) (a b words room : ℕ) (out : List ℕ) (low : (i 
   -- the number of a reply that meets demand 3
   pub find-number : (s : Said) → s ≡ answered → Demand3 rec pat a b room s out → (r : ℕ) → r ≡ findNumber answered → FirstShortest rec pat a b room r out
   find-number s e demand r n = subst (λ k. FirstShortest rec pat a b room k out) (sym n) (said-first (subst (λ x. Demand3 rec pat a b room x out) e demand))
+
+-- ---- demand 3 of all starts
+
+module _ (rec pat starts : List ℕ) (to words room : ℕ) (after : List ℕ) where
+  abbrev all-told : Reply ℕ
+  all-told = All.told (All.startsOf rec pat starts to words room)
+
+  told-each : Shortest rec pat starts to all-told after → EachShortest rec pat starts to (startsNumber all-told) after
+  unfolding EachShortest
+  told-each shortest day p r s = go all-told (starts-late rec pat starts to words room day p r s) shortest
+    where
+      go : (t : Reply ℕ) → LateTold t → Shortest rec pat starts to t after → startsNumber t < 4294967296
+          → (startsNumber t ≡ counted (length starts)) × ((i : ℕ) → i < length starts → LengthSays (day .lines) p (getD starts i 0) to (getD after i 0))
+      go (Told.value n) late says less = (ap counted (says .0), says .1 day p r s)
+      go (Told.refusal number second) late says less = absurd (omega (arith, late, less))
+
+  -- the number of a reply that meets it
+  pub starts-number : (t : Reply ℕ) → t ≡ all-told → Shortest rec pat starts to t after → (n : ℕ) → n ≡ startsNumber all-told → EachShortest rec pat starts to n after
+  starts-number t e shortest n is = subst (λ k. EachShortest rec pat starts to k after) (sym is) (told-each (subst (λ x. Shortest rec pat starts to x after) e shortest))

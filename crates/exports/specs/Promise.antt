@@ -1,11 +1,11 @@
 -- What the functions for C, Rust and Python promise: a reply as one number of 64 bits, n · 2^32 + value, and the lent words afterwards.
--- `Membership` and `FirstShortest` are demands 2 and 3 of that number; `MovingNumber` and `FinishingNumber` are what a move and a finish promise. The contracts of the functions `chains_…` cite these definitions.
+-- `Membership` and `FirstShortest` are demands 2 and 3 of that number, `EachShortest` demand 3 of all starts; `MovingNumber` and `FinishingNumber` are what a move and a finish promise. The contracts of the functions `chains_…` cite these definitions.
 use mathlib.Core.Path.{_≡_}
 use mathlib.Core.Bool.{Bool, true, false, cond}
 use mathlib.Core.List.{List, [], _∷_, _++_}
-use Prim.Native.Nat.{ℕ, _+_, _*_, _/_, _%_, _<_, _≤_}
+use Prim.Native.Nat.{ℕ, _+_, _*_, _/_, _%_, _<_, _≤_, min}
 use lib.Dec.{leb}
-use lib.ListN.{length, take, drop}
+use lib.ListN.{length, getD, take, drop}
 use Rattle.meaning.specs.Outcome.{Outcome, refused, passed, Reply, value, refusal}
 use Rattle.meaning.specs.Record.{Line, Day, readRecord}
 use Rattle.meaning.specs.Count.{Count}
@@ -15,6 +15,7 @@ use Rattle.pattern.specs.Promise.{Counts}
 use Rattle.meaning.specs.Request.{Asked}
 use Rattle.finder.specs.Promise as Find
 use Rattle.searching.specs.Promise.{Left, Moving, Finishing}
+use Rattle.starts.specs.Promise.{LengthSays}
 
 -- ---- a value, or a refusal's number and second number
 
@@ -106,6 +107,24 @@ LengthOrNone lines p a b room r out =
 unfoldable pub FirstShortest : List ℕ → List ℕ → ℕ → ℕ → ℕ → ℕ → List ℕ → Type 0
 FirstShortest rec pat a b room r out =
     (day : Day) (p : Pattern) → readRecord rec ≡ passed day → readPattern noneGiven pat ≡ passed p → LengthOrNone (day .lines) p a b room r out
+
+-- ---- all starts: how many lengths there are
+
+-- a count has 32 bits; a list may be longer, and its count is then told as the highest of them
+abbrev pub counted : ℕ → ℕ
+counted n = min n 4294967295
+
+-- of the lengths written, or of those that do not fit (19)
+abbrev pub startsNumber : Reply ℕ → ℕ
+startsNumber (value n) = counted n
+startsNumber (refusal number second) = number * 4294967296 + counted second
+
+-- no refusal: as many lengths as places are listed, and each is that of the accepted chain that comes before every other, or says that none is
+-- accepted; for every record and pattern that the bytes read as
+unfoldable pub EachShortest : List ℕ → List ℕ → List ℕ → ℕ → ℕ → List ℕ → Type 0
+EachShortest rec pat starts to r after =
+    (day : Day) (p : Pattern) → readRecord rec ≡ passed day → readPattern noneGiven pat ≡ passed p → r < 4294967296
+    → (r ≡ counted (length starts)) × ((i : ℕ) → i < length starts → LengthSays (day .lines) p (getD starts i 0) to (getD after i 0))
 
 -- ---- a search under way: the number is that of what `searching` says
 

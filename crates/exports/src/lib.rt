@@ -8,14 +8,15 @@ ghost use Rattle.meaning.specs.Count.{countOf};
 ghost use Rattle.meaning.specs.Outcome.{told};
 ghost use Rattle.meaning.specs.Writing.{beginOf, beginAfter, addOf, addAfter, readOf};
 ghost use Rattle.meaning.specs.Pattern.{readPattern, noneGiven};
-ghost use Rattle.meaning.specs.Request.{wordsOf, askRequest, workAfter, askSearch, searchWordsOf};
+ghost use Rattle.meaning.specs.Request.{wordsOf, askRequest, askStarts, workAfter, askSearch, searchWordsOf};
 ghost use Rattle.checker.specs.Promise.{checkOf};
 ghost use Rattle.finder.specs.Promise.{findReply, findOf, said, outAfter};
 ghost use Rattle.pattern.specs.Promise.{countsOf};
 ghost use Rattle.record.specs.Promise.{lineShown};
 ghost use Rattle.searching.specs.Promise.{begunTold, begunAfter};
+ghost use Rattle.starts.specs.Promise as All;
 ghost use Rattle.writing.specs.Promise.{writeReply};
-ghost use Rattle.exports.specs.Promise.{numberOf, fieldsOf, readNumber, readAfter, countNumber, countAfter, patternNumber, patternAfter, checkNumber, Membership, findNumber, FirstShortest, MovingNumber, FinishingNumber, versionNumber};
+ghost use Rattle.exports.specs.Promise.{numberOf, fieldsOf, readNumber, readAfter, countNumber, countAfter, patternNumber, patternAfter, checkNumber, Membership, findNumber, FirstShortest, counted, startsNumber, EachShortest, MovingNumber, FinishingNumber, versionNumber};
 ghost use Rattle.exports.specs.Fits.{Fits32, SaidFits};
 use boats::CountReply;
 use checker::CheckReply;
@@ -26,6 +27,7 @@ use record::LineReply;
 use request::WordsReply;
 use searching::BeginReply;
 use searching::MoveReply;
+use starts::StartsReply;
 use writing::WriteReply;
 
 // ---- the version
@@ -258,6 +260,44 @@ pub extern "C" fn chains_find(
     ensures first_shortest { λ r. ⌜ FirstShortest (now (rec .entry)) (now (pat .entry)) from to (length (now (out .entry))) r (now (out .exit)) ⌝ }
 {
     find_number(finder::find(rec, pat, from, to, work, out))
+}
+
+// ---- all starts in one go
+
+// A count in 32 bits: 4,294,967,295 where it is more.
+fn in_32_bits(n: usize) -> usize
+    ensures { λ r. ⌜ (r ≡ counted n) × (r < 4294967296) ⌝ }
+{
+    if n < 4294967295 { n } else { 4294967295 }
+}
+
+// What is said of all starts, as a number.
+fn starts_number(r: StartsReply) -> u64
+    ensures { λ n. ⌜ n ≡ startsNumber (All.startsReply r) ⌝ }
+{
+    match r {
+        StartsReply::Lengths(n) => in_32_bits(n) as u64,
+        StartsReply::Refused(q, second) => refusal(q, in_32_bits(second)),
+    }
+}
+
+// Finds the lengths of the first shortest chains from each listed place to one finishing place, 4,294,967,295 where there is none; value: how
+// many were written.
+#[no_mangle]
+pub extern "C" fn chains_starts(
+    rec: &[u8],
+    pat: &[u8],
+    listed: &[u16],
+    to: u16,
+    work: &mut [u32],
+    lengths: &mut [u32],
+) -> u64
+    ensures reply { λ r. ⌜ r ≡ startsNumber (All.told (All.startsOf (now (rec .entry)) (now (pat .entry)) (now (listed .entry)) to (length (now (work .entry))) (length (now (lengths .entry))))) ⌝ }
+    ensures workspace { λ _. ⌜ now (work .exit) ≡ workAfter (askStarts (now (rec .entry)) (now (pat .entry)) (now (listed .entry)) to (length (now (work .entry)))) (now (work .entry)) ⌝ }
+    ensures words { λ _. ⌜ now (lengths .exit) ≡ All.lengthsAfter (All.startsOf (now (rec .entry)) (now (pat .entry)) (now (listed .entry)) to (length (now (work .entry))) (length (now (lengths .entry)))) (now (lengths .entry)) ⌝ }
+    ensures shortest { λ r. ⌜ EachShortest (now (rec .entry)) (now (pat .entry)) (now (listed .entry)) to r (now (lengths .exit)) ⌝ }
+{
+    starts_number(starts::all_starts(rec, pat, listed, to, work, lengths))
 }
 
 // ---- a search under way

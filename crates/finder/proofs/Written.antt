@@ -1,7 +1,7 @@
 -- What the code tells and writes after both phases is what the loops of the definition find: no chain (`told-none`), one that the output
 -- does not hold (`told-long`), one that is written (`told-written`).
 use mathlib.Core.Path.{_≡_, refl, sym, ap, _∙_, subst}
-use mathlib.Core.List.{List, _++_}
+use mathlib.Core.List.{List, [], _∷_, _++_}
 use mathlib.Core.Option.{Option, none, some}
 use Prim.Native.Nat.{ℕ, zero, suc, _-_, _<_, _≤_}
 use native.Mathlib.Omega.{arith}
@@ -10,21 +10,16 @@ use borrow.Author.Tests.{le-leb, lt-leb}
 use Rattle.request.specs.declared.Plan.{Plan}
 use Rattle.graph.specs.Loops.{loop}
 use Rattle.graph.specs.Table.{Search, blank}
-use Rattle.graph.specs.PhaseTwo.{nearestWord, put, walk, forwardBy, forward}
+use Rattle.graph.specs.PhaseTwo.{nearestWord, put, walk, walk-long, forwardBy, forward}
 use Rattle.search.specs.Product.{Setting}
 use Rattle.search.specs.Moves.{expand, fromState}
 use Rattle.area.specs.Area.{stretch, found, Outside, outside}
 use Rattle.states.specs.Spots.{front}
-use Rattle.backward.specs.Stopped.{fromGoal, tableAfter, Stopped}
+use Rattle.backward.specs.Stopped.{fromGoals, tableAfter, Stopped}
 use Rattle.finder.specs.Searching.{Searched, reachedIn, SearchedIn}
 
-walk-long : (E : ℕ → ℕ → ℕ → Search → Search) (m k lo : ℕ) (st : Search) → length (walk E m k lo st) ≡ k
-unfolding walk
-walk-long E m zero lo st = refl
-walk-long E m (suc k) lo st = ap suc (walk-long E m k _ _)
-
 -- after phase one, and with the number of the nearest first state
-module _ (S : Setting) (plan : Plan) (firsts : List ℕ) (to : ℕ) {r : ℕ} {w v : List ℕ} (one : Stopped (plan .base) (plan .size) (expand S) firsts (fromGoal S (plan .size) to) 0 w r v)
+module _ (S : Setting) (plan : Plan) (firsts : List ℕ) (to : ℕ) {r : ℕ} {w v : List ℕ} (one : Stopped (plan .base) (plan .size) (expand S) firsts (fromGoals S (plan .size) (to ∷ [])) 0 w r v)
     (word : ℕ) (is : word ≡ nearestWord (stretch (plan .base) (plan .size) v) firsts) (out : List ℕ) where
   -- the distances in the area
   abbrev D : List ℕ

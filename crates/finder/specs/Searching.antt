@@ -15,14 +15,10 @@ use Rattle.search.specs.Along.{goal}
 use Rattle.search.specs.Moves.{expand, fromState}
 use Rattle.graph.specs.Early.{Ended}
 use Rattle.graph.specs.PhaseOne.{Progress, begun, advanceBy}
-use Rattle.graph.specs.PhaseTwo.{forward}
+use Rattle.graph.specs.PhaseTwo.{forward, wordOf}
 use Rattle.search.specs.Product.{Setting}
 use Rattle.forward.specs.Posed.{Posed}
 use Rattle.finder.specs.Promise.{chain, too-long, settled, Said, found, none-found, refusal, said, outAfter}
-
-abbrev pub wordOf : Option (List ℕ) → ℕ
-wordOf none = 0
-wordOf (some c) = suc (length c)
 
 -- the number is that of the chain o, and the output has become what it is to be after it
 pub record Searched (o : Option (List ℕ)) (word : ℕ) (out after : List ℕ) : Type 0 where

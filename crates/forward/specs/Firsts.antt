@@ -1,13 +1,14 @@
 -- The first states of a search, at the asked place and the positions where runs begin: as a list, and as the code's loop over positions
 -- (`first-law`); put into a table, they are the first frontier (`start-law`).
-use mathlib.Core.Path.{_≡_, _∙_}
+use mathlib.Core.Path.{_≡_, refl, ap, _∙_}
 use mathlib.Core.Bool.{Bool, cond}
-use mathlib.Core.List.{List, map}
-use Prim.Native.Nat.{ℕ, zero, suc, _+_, _^_, _<_}
-use native.Mathlib.Nat.{zero-mod}
+use mathlib.Core.List.{List, [], _∷_, map}
+use Prim.Native.Nat.{ℕ, zero, suc, _+_, _^_, _%_, _<_}
+use native.Mathlib.Nat.{zero-mod, zero-div}
 use native.Mathlib.Omega.{arith}
 use lib.Dec.{eqb}
 use lib.ListN.{getD}
+use borrow.Author.Tests.{ne-eqb}
 use Rattle.positions.specs.Program.{bitOf, depthAt}
 use Rattle.request.specs.declared.Plan.{Plan}
 use Rattle.graph.specs.Plain.{filt, count}
@@ -21,6 +22,18 @@ use Rattle.states.specs.Spots.{nextTurn}
 -- the states at place a, with the empty stack, at the positions of the mask
 unfoldable pub firstStates : Plan → ℕ → ℕ → List ℕ
 firstStates plan mask a = map (λ k. stateIn plan a k 0) (filt (λ k. eqb (bitOf mask k) 1) (count 0 (plan .done + 1)))
+
+-- the mask 0 has none
+pub no-firsts : (plan : Plan) (a : ℕ) → firstStates plan 0 a ≡ []
+unfolding firstStates filt
+no-firsts plan a = ap (map (λ k. stateIn plan a k 0)) (go (count 0 (plan .done + 1)))
+  where
+    no-bit : (k : ℕ) → bitOf 0 k ≡ 0
+    no-bit k = ap (_% 2) (zero-div (2 ^ k))
+
+    go : (l : List ℕ) → filt (λ k. eqb (bitOf 0 k) 1) l ≡ []
+    go [] = refl
+    go (k ∷ l) = rw (ne-eqb (bitOf 0 k) 1 (λ e. omega (arith, e, no-bit k)), filt) (go l)
 
 -- a loop over them is a loop over positions
 pub first-law : {A : Type 0} (f : ℕ → A → A) (plan : Plan) (mask a : ℕ) (x : A)

@@ -273,6 +273,12 @@ metBy near d last = cond (eqb d last) false (cond (eqb near 0) false (leb near d
 abbrev pub Ended : List ℕ → Progress → Type 0
 Ended S u = (waiting u ≡ []) ⊎ Met S u
 
+-- towards no state it never ends early
+pub ended-none : (u : Progress) → Ended [] u → waiting u ≡ []
+unfolding nearestWord loop
+ended-none u (inl e) = e
+ended-none u (inr met) = absurd (omega (arith, met .some-near))
+
 -- the hypotheses are those of `finish-is`
 module _ (N : ℕ) (goals : List ℕ) (preds : ℕ → List ℕ) (succs : ℕ → ℕ → List ℕ) (m : ℕ)
     (expand : ℕ → ℕ → Search → Search) (expand-law : (w t : ℕ) (st : Search) → loop (push w) (preds t) st ≡ expand w t st)

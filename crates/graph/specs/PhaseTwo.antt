@@ -1,7 +1,8 @@
 -- Phase two as counting loops over the distances and a second table, whose queue holds all frontiers end to end and whose words mark the states in them,
 -- for any `fromState` that puts the successors of a state by a line into the next frontier.
 -- Claimed for `Phases`: the loops give the plain phase two's chain (`forward-is`), with the nearest first state found by a loop (`nearest-is`);
--- for `Early`: where some first state has a distance, the nearest word is that of a state (`nearest-of`).
+-- for `Early`: where some first state has a distance, the nearest word is that of a state (`nearest-of`); for all starts in one go: the chain is as
+-- long as the nearest word says (`forward-word`).
 use mathlib.Core.Path.{_≡_, refl, sym, ap, _∙_}
 use mathlib.Core.Bool.{true, false, cond}
 use mathlib.Core.List.{List, [], _∷_, _++_, append-nil, List·Memᴰ·head, List·Memᴰ·tail, List·Memᴰ·append-cases, Memᴰ·append-right, Memᴰ·map, nil≢cons}
@@ -150,6 +151,27 @@ module _ (fromState : List ℕ → ℕ → ℕ → ℕ → Search → Search) (N
 
   unfoldable pub forward : Option (List ℕ)
   forward = forwardBy (nearestWord D S)
+
+-- ---- the length of the chain
+
+-- one more than a chain's length; 0 for none
+abbrev pub wordOf : Option (List ℕ) → ℕ
+wordOf none = 0
+wordOf (some c) = suc (length c)
+
+pub walk-long : (fromState : ℕ → ℕ → ℕ → Search → Search) (m k lo : ℕ) (st : Search) → length (walk fromState m k lo st) ≡ k
+unfolding walk
+walk-long fromState m zero lo st = refl
+walk-long fromState m (suc k) lo st = ap suc (walk-long fromState m k _ _)
+
+-- it is known before any line is chosen
+pub forward-word : (fromState : List ℕ → ℕ → ℕ → ℕ → Search → Search) (N m : ℕ) (S D : List ℕ) → wordOf (forward fromState N m S D) ≡ nearestWord D S
+unfolding forward forwardBy
+forward-word fromState N m S D = go (nearestWord D S)
+  where
+    go : (w : ℕ) → wordOf (forwardBy fromState N m S D w) ≡ w
+    go zero = refl
+    go (suc k) = ap suc (walk-long (fromState D) m k 0 (loop (put D (suc k)) S (blank N)))
 
 -- ---- one line from the frontier
 

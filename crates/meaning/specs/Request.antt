@@ -1,7 +1,7 @@
 -- A request (document 01, "Asking" and questions 15 to 17): the search size, the words of work area that it needs, and what becomes
 -- of the area. Record first, then pattern, then request.
-use mathlib.Core.Bool.{_&&_}
-use mathlib.Core.List.{List}
+use mathlib.Core.Bool.{Bool, true, _&&_}
+use mathlib.Core.List.{List, [], _∷_}
 use Prim.Native.Nat.{ℕ, suc, _+_, _*_, _^_}
 use lib.Dec.{ltb, leb}
 use lib.ListN.{length, replicate}
@@ -60,6 +60,22 @@ askSearch rec pat from to words =
 -- how many words it needs for a record and a pattern
 unfoldable pub searchWordsOf : List ℕ → List ℕ → Outcome ℕ
 searchWordsOf rec pat = andThen (askBoth rec pat) (λ asked. ask (leb (sizeOf asked) 1048576) 16 (passed (searchNeed asked)))
+
+-- ---- all starts in one go
+
+-- is each of the places below the count?
+unfoldable pub allBelow : ℕ → List ℕ → Bool
+allBelow count [] = true
+allBelow count (a ∷ rest) = ltb a count && allBelow count rest
+
+-- its questions: 15 is asked of every listed place and of the finishing place
+unfoldable pub askStarts : List ℕ → List ℕ → List ℕ → ℕ → ℕ → Outcome Asked
+askStarts rec pat starts to words =
+    andThen (askBoth rec pat) (λ listed.
+    ask (allBelow (listed .day .places) starts && ltb to (listed .day .places)) 15
+    (ask (leb (sizeOf listed) 1048576) 16
+    (ask (leb (need (sizeOf listed)) words) 17
+    (passed listed))))
 
 -- ---- the area afterwards
 

@@ -7,7 +7,7 @@ use lib.ListN.{replicate}
 use Rattle.meaning.specs.Outcome.{refused, passed}
 use Rattle.meaning.specs.Record.{Line, boatsAfter, entryAt, linesFrom, readRecord}
 use Rattle.meaning.specs.Pattern.{nothing, counted, readPattern, readAt, commandAt, shapeOf}
-use Rattle.meaning.specs.Request.{searchSize, need, Asked, askRequest, wordsOf, askSearch, searchWordsOf, workAfter}
+use Rattle.meaning.specs.Request.{searchSize, need, Asked, askRequest, wordsOf, askSearch, searchWordsOf, allBelow, askStarts, workAfter}
 use Rattle.meaning.specs.Rows.{number, line-of, linesR, written-out, bytesR, bytesP, P, S}
 
 -- ---- the search size and the words
@@ -94,6 +94,41 @@ searches-asked = refl
 search-words-told : searchWordsOf bytesR bytesP ∷ searchWordsOf (day-of 63) fifteen ∷ searchWordsOf (day-of 64) fifteen ∷ [] ≡ passed 8725 ∷ passed 4202685 ∷ refused 16 ∷ []
 unfolding fleet day-of fifteen bytesR linesR written-out line-of bytesP searchWordsOf searchSize boatsAfter readRecord linesFrom entryAt readPattern readAt commandAt shapeOf
 search-words-told = refl
+
+-- ---- all starts in one go
+
+record Starts : Type 0 where
+  rec : List ℕ
+  pat : List ℕ
+  starts : List ℕ
+  to : ℕ
+  words : ℕ
+  gives : ℕ
+
+all-starts : List ℕ → List ℕ → List ℕ → ℕ → ℕ → ℕ → Starts
+all-starts rec pat starts to words gives = record { rec = rec; pat = pat; starts = starts; to = to; words = words; gives = gives }
+
+-- 15 is asked of every listed place and of the finishing place, also where none is listed
+lists : List Starts
+lists =
+    all-starts bytesR [] (4 ∷ []) 4 0 8
+    ∷ all-starts bytesR bytesP (0 ∷ 3 ∷ 0 ∷ []) 3 8704 0
+    ∷ all-starts bytesR bytesP [] 3 8704 0
+    ∷ all-starts bytesR bytesP (4 ∷ 0 ∷ 1 ∷ []) 3 0 15
+    ∷ all-starts bytesR bytesP (0 ∷ 1 ∷ 4 ∷ []) 3 8704 15
+    ∷ all-starts bytesR bytesP (0 ∷ []) 4 8704 15
+    ∷ all-starts bytesR bytesP [] 4 8704 15
+    ∷ all-starts bytesR bytesP (0 ∷ 1 ∷ []) 3 8703 17
+    -- the largest size, and the next: 15 before 16 before 17
+    ∷ all-starts (day-of 63) fifteen (1023 ∷ []) 0 4202496 0
+    ∷ all-starts (day-of 63) fifteen (1023 ∷ []) 0 4202495 17
+    ∷ all-starts (day-of 64) fifteen (1023 ∷ []) 0 0 16
+    ∷ all-starts (day-of 64) fifteen (0 ∷ 1024 ∷ []) 0 0 15
+    ∷ []
+
+lists-asked : map (λ r. number (askStarts (r .rec) (r .pat) (r .starts) (r .to) (r .words))) lists ≡ map (λ r. r .gives) lists
+unfolding lists all-starts fleet day-of fifteen bytesR linesR written-out line-of bytesP askStarts allBelow searchSize boatsAfter readRecord linesFrom entryAt readPattern readAt commandAt shapeOf
+lists-asked = refl
 
 -- ---- the work area afterwards
 

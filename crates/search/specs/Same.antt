@@ -55,7 +55,7 @@ unfolding flat
 flat-same f g [] h = refl
 flat-same f g (x ∷ l) h = λ t. h x (List·Memᴰ·head refl) t ++ flat-same f g l (λ y m. h y (List·Memᴰ·tail m)) t
 
-map-same : (f g : ℕ → ℕ) (l : List ℕ) → ((x : ℕ) → x ∈ l → f x ≡ g x) → map f l ≡ map g l
+pub map-same : (f g : ℕ → ℕ) (l : List ℕ) → ((x : ℕ) → x ∈ l → f x ≡ g x) → map f l ≡ map g l
 map-same f g [] h = refl
 map-same f g (x ∷ l) h = λ t. h x (List·Memᴰ·head refl) t ∷ map-same f g l (λ y m. h y (List·Memᴰ·tail m)) t
 

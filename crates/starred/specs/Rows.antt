@@ -1,5 +1,6 @@
 -- Document 01's starred rows, "A day at the hut", computed from the bytes, of the definitions that the promises of the finder and the
--- checker cite: one table, one theorem, `rows-right`. `more-right` has rows that the starred ones do not tell apart. Nothing to believe.
+-- checker cite: one table, one theorem, `rows-right`. `more-right` has rows that the starred ones do not tell apart, `lists-right` rows of all
+-- starts in one go. Nothing to believe.
 use mathlib.Core.Path.{_≡_, refl}
 use mathlib.Core.Bool.{Bool, true, false, cond, not, _&&_}
 use mathlib.Core.List.{List, [], _∷_, _++_}
@@ -8,7 +9,7 @@ use lib.Dec.{eqb}
 use Rattle.meaning.specs.Outcome.{Outcome, refused, passed}
 use Rattle.meaning.specs.Record.{boatsAfter, entryAt, linesFrom, readRecord}
 use Rattle.meaning.specs.Pattern.{readPattern, readAt, commandAt, shapeOf}
-use Rattle.meaning.specs.Request.{searchSize, askRequest}
+use Rattle.meaning.specs.Request.{searchSize, askRequest, allBelow, askStarts}
 use Rattle.meaning.specs.Chain.{exist}
 use Rattle.boats.specs.Codes.{codes}
 use Rattle.graph.specs.Plain.{solve, found, news, look, bfs, chosen, pick, first, next, level, nearest, lesser, isAt, memb, nub, filt, flat, count}
@@ -17,6 +18,8 @@ use Rattle.search.specs.Answer.{setting, starts, answer}
 use Rattle.search.specs.Check.{moved, check}
 use Rattle.checker.specs.Promise.{checkOf}
 use Rattle.finder.specs.Promise.{Finding, stopped, nowhere, chain, too-long, findOf}
+use Rattle.starts.specs.Promise as All
+use Rattle.starts.specs.Promise.{Starting, startsOf}
 
 -- ---- the day's records and patterns, in bytes
 
@@ -204,3 +207,61 @@ more =
 more-right : allRight more ≡ true
 unfolding allRight right sameCheck agrees sameFinding isStopped isNowhere isChain isLong sameChain more C entered lap laps R R-more R-less head-R line-bytes T E P S findOf checkOf askRequest readRecord linesFrom entryAt readPattern readAt commandAt shapeOf searchSize boatsAfter codes solve found news look bfs chosen pick first next level nearest lesser isAt memb nub filt flat count stacks state placeOf posOf stackOf succs preds setting starts answer exist moved check
 more-right = refl
+
+-- ---- all starts in one go
+
+-- record, pattern, listed places, finishing place, words of work area, room for lengths; and the reply
+data ListRow : Type 0 where
+  lists : List ℕ → List ℕ → List ℕ → ℕ → ℕ → ℕ → Starting → ListRow
+
+-- the mark for none
+none : ℕ
+none = 4294967295
+
+-- from place 0 in two steps to place 2, and from place 1 in one; place 3 has a way of its own, of three
+away : List ℕ
+away = 0x01 ∷ 0 ∷ 6 ∷ (line-bytes 0 1 1 1 1 ++ (line-bytes 1 1 1 2 2 ++ (line-bytes 3 1 1 3 4 ++ (line-bytes 4 1 1 3 0 ++ (0x00 ∷ [])))))
+
+someLines : List ℕ
+someLines = 0x26 ∷ 0x21 ∷ 1 ∷ []
+
+lists-of : List ListRow
+lists-of =
+    -- a place listed twice is answered twice
+    lists R P (0 ∷ 1 ∷ 2 ∷ 3 ∷ 0 ∷ []) 3 8704 5 (All.lengths (3 ∷ none ∷ none ∷ none ∷ 3 ∷ []))
+    -- in the list's order; the nearest start is not the end of the search; the empty chain has length 0
+    ∷ lists away someLines (5 ∷ 3 ∷ 2 ∷ 1 ∷ 0 ∷ []) 2 16384 9 (All.lengths (none ∷ 4 ∷ 0 ∷ 1 ∷ 2 ∷ []))
+    ∷ lists R P [] 3 8704 0 (All.lengths [])
+    -- 15 of every listed place and of the finishing place, also with an empty list, and after the pattern
+    ∷ lists R P (0 ∷ 4 ∷ []) 3 16384 2 (All.stopped 15)
+    ∷ lists R P (4 ∷ 0 ∷ []) 3 16384 2 (All.stopped 15)
+    ∷ lists R P (0 ∷ []) 4 16384 1 (All.stopped 15)
+    ∷ lists R P [] 4 16384 0 (All.stopped 15)
+    ∷ lists R (0x22 ∷ 1 ∷ 0 ∷ []) (4 ∷ []) 4 16384 0 (All.stopped 12)
+    -- 15 before 17, 17 before 19, and 19 with the list's length
+    ∷ lists R P (4 ∷ []) 3 8703 0 (All.stopped 15)
+    ∷ lists R P (0 ∷ 0 ∷ []) 3 8703 1 (All.stopped 17)
+    ∷ lists R P (0 ∷ 0 ∷ 0 ∷ []) 3 8704 2 (All.too-short 3)
+    ∷ []
+
+isStart : Starting → Starting → Bool
+isStart (All.stopped m) (All.stopped n) = eqb m n
+isStart (All.stopped m) (All.too-short n) = false
+isStart (All.stopped m) (All.lengths l) = false
+isStart (All.too-short m) (All.stopped n) = false
+isStart (All.too-short m) (All.too-short n) = eqb m n
+isStart (All.too-short m) (All.lengths l) = false
+isStart (All.lengths k) (All.stopped n) = false
+isStart (All.lengths k) (All.too-short n) = false
+isStart (All.lengths k) (All.lengths l) = sameChain k l
+
+rightList : ListRow → Bool
+rightList (lists rec pat starts to words room s) = isStart (startsOf rec pat starts to words room) s
+
+allRightLists : List ListRow → Bool
+allRightLists [] = true
+allRightLists (r ∷ rs) = rightList r && allRightLists rs
+
+lists-right : allRightLists lists-of ≡ true
+unfolding allRightLists rightList isStart lists-of away someLines none sameChain R head-R line-bytes P startsOf askStarts allBelow readRecord linesFrom entryAt readPattern readAt commandAt shapeOf searchSize boatsAfter codes solve found news look bfs chosen pick first next level nearest lesser isAt memb nub filt flat count stacks state placeOf posOf stackOf succs preds setting starts answer
+lists-right = refl

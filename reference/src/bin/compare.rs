@@ -1,8 +1,8 @@
 //! Compares the static library with this program: first the cases written by hand, then
 //! rounds made at random from three fixed seeds and a fresh one, which is printed.
 //!
-//! `compare BYTES WRITES CHECKS FINDS BOATS SEARCHES [SEED]`: how many rounds of each sort, shared
-//! equally by the four seeds, and a seed in place of the fresh one. It ends with status 1
+//! `compare BYTES WRITES CHECKS FINDS BOATS SEARCHES STARTS [SEED]`: how many rounds of each sort,
+//! shared equally by the four seeds, and a seed in place of the fresh one. It ends with status 1
 //! at the first difference, which is printed with the whole request.
 
 use reference::cases::{Bench, ALL};
@@ -21,10 +21,10 @@ const FIXED_SEEDS: [u64; 3] = [1, 2, 3];
 fn main() {
     let arguments: Option<Vec<u64>> = std::env::args().skip(1).map(|a| a.parse().ok()).collect();
     let (counts, fresh) = match arguments.as_deref() {
-        Some(&[b, w, c, f, n, s]) => ([b, w, c, f, n, s], fresh_seed()),
-        Some(&[b, w, c, f, n, s, seed]) => ([b, w, c, f, n, s], seed),
+        Some(&[b, w, c, f, n, s, l]) => ([b, w, c, f, n, s, l], fresh_seed()),
+        Some(&[b, w, c, f, n, s, l, seed]) => ([b, w, c, f, n, s, l], seed),
         _ => {
-            eprintln!("compare BYTES WRITES CHECKS FINDS BOATS SEARCHES [SEED]");
+            eprintln!("compare BYTES WRITES CHECKS FINDS BOATS SEARCHES STARTS [SEED]");
             exit(2);
         }
     };
@@ -96,7 +96,7 @@ fn sort_of(sort: &str, reply: u64) -> String {
         ("checks", 1) => "yes".to_string(),
         ("checks", 0) => "no".to_string(),
         ("checks", _) => shown(reply),
-        ("finds" | "searches", NO_CHAIN) => "none".to_string(),
+        ("finds" | "searches" | "starts", NO_CHAIN) => "none".to_string(),
         ("finds", _) => "found".to_string(),
         _ => "done".to_string(),
     }

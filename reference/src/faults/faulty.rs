@@ -1,12 +1,13 @@
-//! This program once more behind the twelve functions, with one fault in it.
+//! This program once more behind the thirteen functions, with one fault in it.
 
 use super::counting::counted;
+use super::listing;
 use super::reading::{self, asked_of_line, fits_machine, misread, places_pass};
 use super::searching;
 use super::stepping;
 use super::Fault::{self, *};
 use crate::chains::{search, Asked};
-use crate::library::{Ask, Library};
+use crate::library::{Ask, Library, Listed};
 use crate::pattern::{Pattern, MOST_COMMANDS};
 use crate::record::{Line, Record, LONGEST, MOST_LINES, SAIL_LIMIT, UNREAD};
 use crate::request::{refused, search_size, LARGEST, NO_CHAIN};
@@ -426,5 +427,9 @@ impl Library for Faulty {
             work.fill(0);
         }
         reply
+    }
+
+    fn starts(&self, listed: Listed, work: &mut [u32], lengths: &mut [u32]) -> u64 {
+        listing::starts(self.0, listed, work, lengths)
     }
 }

@@ -332,14 +332,12 @@ pub fn silent_steps_queued(asked: &Asked) -> Option<Vec<u16>> {
     None
 }
 
-/// The right distances, and then the lowest line of each step, but from one state only.
-pub fn one_state_followed(asked: &Asked) -> Option<Vec<u16>> {
-    let course = Course::of(asked);
-    let begin = course.begin();
+/// The distance to acceptance of each standing that can be met from these.
+fn distances(course: &Course, begin: &[Standing]) -> HashMap<Standing, usize> {
     // Every standing that can be met, and the standings before it.
     let mut before: HashMap<Standing, Vec<Standing>> = HashMap::new();
     let mut met: HashSet<Standing> = begin.iter().copied().collect();
-    let mut waiting = begin.clone();
+    let mut waiting = begin.to_vec();
     while let Some(standing) = waiting.pop() {
         for &number in course.lines_at(standing.0) {
             for after in course.after(standing, number) {
@@ -350,7 +348,6 @@ pub fn one_state_followed(asked: &Asked) -> Option<Vec<u16>> {
             }
         }
     }
-    // The distance of each to acceptance.
     let mut distance: HashMap<Standing, usize> = HashMap::new();
     let mut waiting: VecDeque<Standing> = VecDeque::new();
     for standing in met
@@ -369,6 +366,14 @@ pub fn one_state_followed(asked: &Asked) -> Option<Vec<u16>> {
             }
         }
     }
+    distance
+}
+
+/// The right distances, and then the lowest line of each step, but from one state only.
+pub fn one_state_followed(asked: &Asked) -> Option<Vec<u16>> {
+    let course = Course::of(asked);
+    let begin = course.begin();
+    let distance = distances(&course, &begin);
     let nearest = begin.into_iter().filter(|s| distance.contains_key(s));
     let mut standing = nearest.min_by_key(|standing| distance[standing])?;
     let mut chain = Vec::new();
@@ -384,6 +389,25 @@ pub fn one_state_followed(asked: &Asked) -> Option<Vec<u16>> {
         standing = after;
     }
     Some(chain)
+}
+
+/// The distance from the first of the states before the first line, the others being left out.
+pub fn one_first_position(asked: &Asked) -> Option<usize> {
+    let course = Course::of(asked);
+    let begin = &course.begin()[..1];
+    distances(&course, begin).get(&begin[0]).copied()
+}
+
+/// The distance of the nearest standing at the first place, whatever its state: one that a chain
+/// from some place comes to will do.
+pub fn any_state(asked: &Asked) -> Option<usize> {
+    let course = Course::of(asked);
+    let states = course.machine.begin();
+    let at = |place: u16| states.iter().map(move |&state| (place, state));
+    let begin: Vec<Standing> = (0..asked.record.places).flat_map(at).collect();
+    let distance = distances(&course, &begin).into_iter();
+    let here = distance.filter(|((place, _), _)| *place == asked.from);
+    here.map(|(_, distance)| distance).min()
 }
 
 /// Is the chain accepted, by what the fault takes the tests for?

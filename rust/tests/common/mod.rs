@@ -2,7 +2,7 @@
 
 #![allow(dead_code)]
 
-use chains::{Line, Question, Record};
+use chains::{Line, Question, Record, StartsQuestion};
 
 pub const P: [u8; 15] = [
     0x27, 1, 0, 0x25, 0x22, 2, 0, 0x25, 0x26, 0x22, 3, 0, 0x22, 4, 0,
@@ -58,6 +58,14 @@ pub fn ask<'a>(record: &'a Record, pattern: &'a [u8], from: u16, to: u16) -> Que
         record: record.bytes(),
         pattern,
         from,
+        to,
+    }
+}
+
+pub fn ask_starts<'a>(record: &'a Record, pattern: &'a [u8], to: u16) -> StartsQuestion<'a> {
+    StartsQuestion {
+        record: record.bytes(),
+        pattern,
         to,
     }
 }

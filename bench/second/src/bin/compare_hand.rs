@@ -1,11 +1,12 @@
 //! Compares the hand-written C with the second program: every reply, every lent word and the
 //! chains, on the cases written by hand and on requests made at random. Both indexes of
-//! lines are compared. Finding, checking, the words needed and the count of boats are in C.
+//! lines are compared. Finding, the lengths from many places, checking, the words needed and the
+//! count of boats are in C.
 //!
-//! `compare_hand CHECKS FINDS BOATS SEED`. It ends with status 1 at the first difference.
+//! `compare_hand CHECKS FINDS BOATS STARTS SEED`. It ends with status 1 at the first difference.
 
 use reference::cases::{Bench, ALL};
-use reference::library::{Ask, Library, Own};
+use reference::library::{Ask, Library, Listed, Own};
 use reference::random::Random;
 use reference::record::Line;
 use reference::rounds;
@@ -23,6 +24,21 @@ type Find = unsafe extern "C" fn(
     work_len: usize,
     out: *mut u16,
     out_len: usize,
+    reached: *mut u32,
+) -> u64;
+
+type Starts = unsafe extern "C" fn(
+    rec: *const u8,
+    rec_len: usize,
+    pat: *const u8,
+    pat_len: usize,
+    starts: *const u16,
+    starts_len: usize,
+    to: u16,
+    work: *mut u32,
+    work_len: usize,
+    lengths: *mut u32,
+    lengths_len: usize,
     reached: *mut u32,
 ) -> u64;
 
@@ -54,6 +70,34 @@ extern "C" {
         out_len: usize,
         reached: *mut u32,
     ) -> u64;
+    fn hand_starts(
+        rec: *const u8,
+        rec_len: usize,
+        pat: *const u8,
+        pat_len: usize,
+        starts: *const u16,
+        starts_len: usize,
+        to: u16,
+        work: *mut u32,
+        work_len: usize,
+        lengths: *mut u32,
+        lengths_len: usize,
+        reached: *mut u32,
+    ) -> u64;
+    fn hand_starts_grouped(
+        rec: *const u8,
+        rec_len: usize,
+        pat: *const u8,
+        pat_len: usize,
+        starts: *const u16,
+        starts_len: usize,
+        to: u16,
+        work: *mut u32,
+        work_len: usize,
+        lengths: *mut u32,
+        lengths_len: usize,
+        reached: *mut u32,
+    ) -> u64;
     fn hand_check(
         rec: *const u8,
         rec_len: usize,
@@ -70,7 +114,11 @@ extern "C" {
     fn hand_boats(rec: *const u8, rec_len: usize, counts: *mut u32, counts_len: usize) -> u64;
 }
 
-struct Hand(Find);
+/// The C with one of its indexes of lines.
+struct Hand {
+    find: Find,
+    starts: Starts,
+}
 
 impl Library for Hand {
     fn begin(&self, buf: &mut [u8], places: u16) -> u64 {
@@ -116,7 +164,7 @@ impl Library for Hand {
 
     fn find(&self, ask: Ask, work: &mut [u32], out: &mut [u16]) -> u64 {
         unsafe {
-            (self.0)(
+            (self.find)(
                 ask.rec.as_ptr(),
                 ask.rec.len(),
                 ask.pat.as_ptr(),
@@ -147,19 +195,38 @@ impl Library for Hand {
     fn search_finish(&self, work: &mut [u32], out: &mut [u16]) -> u64 {
         Own.search_finish(work, out)
     }
+
+    fn starts(&self, listed: Listed, work: &mut [u32], lengths: &mut [u32]) -> u64 {
+        unsafe {
+            (self.starts)(
+                listed.rec.as_ptr(),
+                listed.rec.len(),
+                listed.pat.as_ptr(),
+                listed.pat.len(),
+                listed.starts.as_ptr(),
+                listed.starts.len(),
+                listed.to,
+                work.as_mut_ptr(),
+                work.len(),
+                lengths.as_mut_ptr(),
+                lengths.len(),
+                ptr::null_mut(),
+            )
+        }
+    }
 }
 
 fn main() {
     let numbers: Option<Vec<u64>> = std::env::args().skip(1).map(|a| a.parse().ok()).collect();
-    let Some(&[checks, finds, boats, seed]) = numbers.as_deref() else {
-        eprintln!("compare_hand CHECKS FINDS BOATS SEED");
+    let Some(&[checks, finds, boats, lists, seed]) = numbers.as_deref() else {
+        eprintln!("compare_hand CHECKS FINDS BOATS STARTS SEED");
         exit(2);
     };
-    for (name, find) in [
-        ("by place", hand_find as Find),
-        ("grouped", hand_find_grouped),
+    for (name, find, starts) in [
+        ("by place", hand_find as Find, hand_starts as Starts),
+        ("grouped", hand_find_grouped, hand_starts_grouped),
     ] {
-        let hand = Hand(find);
+        let hand = Hand { find, starts };
         let bench = Bench { library: &hand };
         for case in ALL {
             stop_at((case.run)(&bench).map(|_| ()), case.name);
@@ -178,8 +245,13 @@ fn main() {
         for _ in 0..boats {
             stop_at(rounds::boats(&hand, &mut random).map(|_| ()), "boats");
         }
+        let mut unanswered = 0;
+        for _ in 0..lists {
+            let replies = stop_at(rounds::starts(&hand, &mut random), "starts");
+            unanswered += u64::from(replies[0] >> 32 != 0);
+        }
         println!(
-            "hand-written C, lines {name}: {} cases, {checks} checks, {finds} finds ({found} found, {refused} refused), {boats} counts of boats, no difference",
+            "hand-written C, lines {name}: {} cases, {checks} checks, {finds} finds ({found} found, {refused} refused), {boats} counts of boats, {lists} lists of places ({unanswered} refused), no difference",
             ALL.len()
         );
     }

@@ -1,6 +1,6 @@
 -- `finder::both_phases` meets its contract: what phase one leaves in the area is what phase two goes by. Assumes nothing.
 use mathlib.Core.Path.{_≡_, sym, _∙_, subst}
-use mathlib.Core.List.{List}
+use mathlib.Core.List.{List, [], _∷_}
 use Prim.Native.Nat.{ℕ}
 use native.Mathlib.Omega.{arith}
 use Rattle.request.specs.Layout.{Laid}
@@ -10,7 +10,7 @@ use Rattle.search.specs.Product.{Setting}
 use Rattle.states.specs.Spots.{front}
 use Rattle.forward.specs.Firsts.{firstStates}
 use Rattle.states.specs.Spots.{Fit}
-use Rattle.backward.specs.Stopped.{fromGoal, Stopped}
+use Rattle.backward.specs.Stopped.{fromGoals, Stopped}
 use Rattle.sorted.proofs.Turns.{kept-take}
 use Rattle.states.proofs.Bounds.{fit-same}
 use Rattle.expanding.proofs.Backs.{told-fit}
@@ -51,7 +51,7 @@ distances-requires c κs = let k = c .before .before .before in (record { fit = 
 abbrev first : tie.After-distances → tie.Start
 first k = start (k .before .before .before .before)
 
-searched : (k : tie.After-distances) → Stopped (first k .args .plan .base) (first k .args .plan .size) (expand (setting (first k))) (firsts (first k)) (fromGoal (setting (first k)) (first k .args .plan .size) (first k .args .to)) 0 (k .before .before .before .before .file-lines .last .0) (k .distances .result) (k .distances .last .0)
+searched : (k : tie.After-distances) → Stopped (first k .args .plan .base) (first k .args .plan .size) (expand (setting (first k))) (firsts (first k)) (fromGoals (setting (first k)) (first k .args .plan .size) (first k .args .to ∷ [])) 0 (k .before .before .before .before .file-lines .last .0) (k .distances .result) (k .distances .last .0)
 searched k = rw (front-same (k .before .before .before .before)) at (k .distances .ensures)
 
 nearest-requires : tie.Need-nearest-requires

@@ -1,0 +1,56 @@
+-- What a search that has run out finds in the area of a request are the answers to the request from every listed place: `posed-lengths`.
+use mathlib.Core.Path.{_≡_, sym, ap, _∙_}
+use mathlib.Core.Bool.{true}
+use mathlib.Core.List.{List, _++_, map}
+use mathlib.Core.Logic.{inl}
+use Prim.Native.Nat.{ℕ, _<_}
+use native.Mathlib.Omega.{arith}
+use lib.ListN.{length, drop, length-map}
+use Rattle.meaning.specs.Request.{Asked, allBelow}
+use Rattle.positions.specs.Program.{Compiled, members}
+use Rattle.positions.specs.Limits.{compiled-start}
+use Rattle.request.specs.declared.Plan.{Plan}
+use Rattle.graph.specs.Early.{ended-none}
+use Rattle.graph.specs.PhaseTwo.{nearestWord, wordOf, forward-word}
+use Rattle.search.specs.Along.{starting}
+use Rattle.search.specs.Answer.{answer}
+use Rattle.search.specs.Loaded.{settingIn}
+use Rattle.search.specs.Moves.{expand, fromState, expand-law, from-law}
+use Rattle.search.specs.Product.{Setting}
+use Rattle.search.specs.ReadBack.{loaded-ended}
+use Rattle.search.specs.Same.{map-same}
+use Rattle.forward.specs.Posed.{Posed}
+use Rattle.forward.proofs.Firsts.{first-states}
+use Rattle.forward.proofs.Posing.{posed-tables}
+use Rattle.states.specs.Spots.{front}
+use Rattle.starts.specs.Promise.{lengthFrom, lengthsOf, lengths, lengthsAfter}
+use Rattle.starts.specs.Highest.{all-below}
+use Rattle.starts.specs.Lengths.{lengthBy, by-word, lengthAt, reachedIn, Searched}
+
+module _ {q : Asked} {pat : List ℕ} {plan : Plan} {to : ℕ} {w : List ℕ} (posed : Posed q pat plan to to w) {program : List ℕ} {begin : ℕ} (compiled : Compiled (q .pattern) program begin)
+    {starts old after : List ℕ} (s : Searched (settingIn program plan (front plan w)) plan begin starts to old after) where
+  abbrev In : Setting
+  In = settingIn program plan (front plan w)
+
+  -- the distances when nothing waits
+  abbrev D : List ℕ
+  D = reachedIn In plan to (s .count) .table .dist
+
+  abbrev from : ℕ → List ℕ
+  from a = starting In a (members begin)
+
+  -- the length from one place
+  one : (a : ℕ) → a < q .day .places → lengthAt plan begin D a ≡ lengthFrom q to a
+  one a low =
+      let first = first-states program plan (length w) (posed .laid) (front plan w) begin a (λ k m. omega (arith, posed .planned .done-is, compiled-start compiled k m .0)) in
+      let is = loaded-ended q plan (length w) (posed .planned) (posed .laid) (front plan w) (posed-tables posed) (posed .fit) program begin compiled a to
+      (expand In) (expand-law In) (fromState In) (from-law In) low (posed .to-low) (s .count) (inl (ended-none _ (s .ended))) in
+      ap (λ firsts. lengthBy (nearestWord D firsts)) first
+      ∙ (ap lengthBy (sym (forward-word (fromState In) (plan .size) (plan .lines) (from a) D))
+      ∙ (ap (λ o. lengthBy (wordOf o)) is ∙ by-word (answer (q .day .lines) (q .day .places) (q .pattern) a to)))
+
+  pub posed-lengths : allBelow (plan .places) starts ≡ true → after ≡ lengthsAfter (lengths (lengthsOf q starts to)) old
+  posed-lengths below =
+      let f = lengthFrom q to in
+      let all = map-same (lengthAt plan begin D) f starts (λ a m. one a (omega (arith, all-below (plan .places) starts below a m, posed .planned .places-are))) in
+      s .after-is ∙ (ap (_++ drop (length starts) old) all ∙ ap (λ n. map f starts ++ drop n old) (sym (length-map starts f)))

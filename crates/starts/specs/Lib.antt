@@ -1,0 +1,5 @@
+pub mod Promise
+pub mod Highest
+pub mod Lengths
+pub mod Theorems
+pub mod Demand
