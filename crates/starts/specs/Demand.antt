@@ -1,6 +1,6 @@
 -- The definition that the promise of all starts cites, `startsOf`, meets demand 3: `starts-shortest`. By the outcome of the questions:
 -- `starts-refused`, `starts-short`, `starts-lengths`. Where the bytes are read, refusals are 15 and later (`starts-late`).
-use mathlib.Core.Path.{_≡_, refl, sym, ap, _∙_, subst}
+use mathlib.Core.Path.{_≡_, refl, sym, _∙_, subst}
 use mathlib.Core.Bool.{Bool, true, false, cond}
 use mathlib.Core.List.{List, _++_}
 use Prim.Native.Nat.{ℕ, _<_, _≤_}

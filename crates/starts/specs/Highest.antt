@@ -14,7 +14,7 @@ use lib.Seq.{drop-cons, drop-length}
 use borrow.Author.Tests.{ltb-true, lt-ltb, le-ltb}
 use Rattle.lists.specs.Listed.{_∈_, none-in}
 use Rattle.record.specs.Outcomes.{passed-inj, and-true, ask-passed, andThen-passed}
-use Rattle.meaning.specs.Outcome.{Outcome, passed, ask, andThen}
+use Rattle.meaning.specs.Outcome.{passed, ask, andThen}
 use Rattle.meaning.specs.Request.{Asked, sizeOf, need, askBoth, askRequest, allBelow, askStarts}
 
 -- the higher of two places

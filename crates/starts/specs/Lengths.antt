@@ -1,9 +1,9 @@
--- The lengths of the listed places by the words of a search that has run out: what is written (`written`), and that each is the length of the
--- finder's answer (`length-answer`).
-use mathlib.Core.Path.{_≡_, refl, sym, ap, _∙_}
+-- The lengths of the listed places by the words of a search that has run out: what is written (`written`), what the search of a loaded record leaves
+-- (`Searched`), and that it is right (`RightFor`). What the contracts of the inner functions cite.
+use mathlib.Core.Path.{_≡_, refl, sym, ap}
 use mathlib.Core.List.{List, [], _∷_, _++_, map}
 use mathlib.Core.Option.{Option, none, some}
-use Prim.Native.Nat.{ℕ, zero, suc, _-_, _<_}
+use Prim.Native.Nat.{ℕ, zero, suc, _-_}
 use native.Mathlib.Omega.{arith}
 use lib.ListN.{length, drop}
 use Rattle.meaning.specs.Request.{Asked}
@@ -11,7 +11,7 @@ use Rattle.request.specs.declared.Plan.{Plan}
 use Rattle.graph.specs.Early.{Ended}
 use Rattle.graph.specs.PhaseOne.{Progress, advanceBy}
 use Rattle.graph.specs.PhaseTwo.{nearestWord, wordOf}
-use Rattle.graph.specs.Table.{Search, blank}
+use Rattle.graph.specs.Table.{blank}
 use Rattle.search.specs.Moves.{expand}
 use Rattle.search.specs.Product.{Setting}
 use Rattle.forward.specs.Firsts.{firstStates}

@@ -2,7 +2,7 @@
 -- Claimed, where the questions are passed: a listed place gets what the finder says for it alone (`start-as-find`), so its length is that of the first
 -- accepted chain or there is none (`length-says`); a place listed twice is answered twice (`listed-twice`); and the search takes up no state twice,
 -- whatever the list, so at most the search size (`no-state-twice`, `none-waits`).
-use mathlib.Core.Path.{_≡_, refl, sym, ap, _∙_, subst}
+use mathlib.Core.Path.{_≡_, refl, sym, ap, _∙_}
 use mathlib.Core.Bool.{Bool, true, false, cond}
 use mathlib.Core.List.{List, [], _∷_, map, List·Memᴰ·head, List·Memᴰ·tail}
 use mathlib.Core.Logic.{_↔_}
@@ -24,7 +24,7 @@ use Rattle.search.specs.Answer.{setting, answer, LinesWithin, answer-none, answ
 use Rattle.search.specs.Moves.{expand, expand-law}
 use Rattle.search.specs.Product.{Setting, preds}
 use Rattle.search.specs.Steps.{Ok, preds-ok}
-use Rattle.finder.specs.Promise.{chain, too-long, settled, findOf, Said, found, none-found, said}
+use Rattle.finder.specs.Promise.{chain, too-long, settled, findOf, found, none-found, said}
 use Rattle.starts.specs.Promise.{noLength, lengthOf, lengthFrom, lengthsOf, LengthSays}
 use Rattle.starts.specs.Highest.{asked-from}
 

@@ -3,7 +3,7 @@ use mathlib.Core.Path.{refl, sym, subst}
 use Prim.Native.Nat.{_+_, _≤_}
 use lib.ListN.{length}
 use native.Mathlib.Omega.{arith}
-use Rattle.area.proofs.Changes.{cleared, cleared-ready, step-none, step-cleared}
+use Rattle.area.proofs.Changes.{cleared-ready, step-none, step-cleared}
 use Rattle.states.specs.Pairs.{StepBack}
 use Rattle.backward.specs.Stopped.{forgotten}
 use borrow.Author.Needs.{needs}

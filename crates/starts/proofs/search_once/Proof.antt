@@ -9,7 +9,7 @@ use Rattle.graph.specs.Table.{Search}
 use Rattle.search.specs.Loaded.{settingAt}
 use Rattle.search.specs.Product.{Setting}
 use Rattle.area.specs.Area.{stretch, found}
-use Rattle.states.specs.Spots.{front, Fit}
+use Rattle.states.specs.Spots.{front}
 use Rattle.states.proofs.Bounds.{fit-same}
 use Rattle.sorted.proofs.Turns.{kept-take}
 use Rattle.expanding.proofs.Backs.{told-fit}
