@@ -218,7 +218,7 @@ data ListRow : Type 0 where
 none : ℕ
 none = 4294967295
 
--- from place 0 in two steps to place 2, and from place 1 in one; place 3 has a way of its own, of three
+-- from place 1 in one line to place 2, from place 0 in two, and from place 3 in four; from place 5 no line leads
 away : List ℕ
 away = 0x01 ∷ 0 ∷ 6 ∷ (line-bytes 0 1 1 1 1 ++ (line-bytes 1 1 1 2 2 ++ (line-bytes 3 1 1 3 4 ++ (line-bytes 4 1 1 3 0 ++ (0x00 ∷ [])))))
 
