@@ -1,5 +1,6 @@
 /* Times the library's finder and checker, its count of boats (by the words needed with one keep), the same by hand in C, and the second
-   program, on the same requests in one run; and beside the finder the library's search in steps, and its lengths from many places.
+   program, on the same requests in one run; and beside the finder the library's search in steps, its lengths from many places, and the days
+   with times and windows.
    Before anything is timed, each program's reply, output and cleared work area are compared with the others'. Work area and
    output are dirtied before every call, outside the clock. The calls of a sample alternate between the programs; each program
    makes as many as last at least BATCH together.
@@ -11,10 +12,15 @@
                                      rows, the slowest among them where they are named
    bench --starts [ROW...]           lists of places beside the finder and the C: every row of the table that finds a chain, but for one that
                                      differs by its start alone, and rows about lists; or these rows. After it the times that it is made of
+   bench --windows [ROW...]          the typical and the full days of the table, and row 60, a check, and row 61, all starts: as they are, with
+                                     every line timed, and with every other line of each kind outside its window; or these rows. After it
+                                     the times
    bench --call ROW PROGRAM TIMES    calls alone, for a profiler; programs are 0 library, 1 C, 2 C grouped, 3 second; in steps 5 begin and
                                      finish, 6 with one move of everything between them, 7 with moves of 1,000; of many places 8 the finder
                                      from a place without a chain, 9 a list of that place, 10 of one with a chain, 11 of all places, 12 of
-                                     all four times over, 13 the finder for each place, 14 C and 15 C grouped for all places
+                                     all four times over, 13 the finder for each place, 14 C and 15 C grouped for all places; of windows 16
+                                     the day as it is, 17 timed with windows of the whole day, 18 timed with half of it outside, 19 as it is
+                                     with the lines outside of kind 15 instead, 20 to 22 C on the first three
 
    Linked with an earlier build of the library, whose functions are then old_chains_*, it times that and the present one alone:
 
@@ -26,7 +32,7 @@
    earlier build refuses with 8, as one with a command that it does not have, is left out; with --differ it is timed.
 
    Rows have their numbers for good, so the slowest requests stand among them: 30 and 31, and 40 to 45. From 54 on they are about lists of
-   places: --starts has them, and else they are measured where they are named. */
+   places: --starts has them, and else they are measured where they are named. 60 and 61 are there for --windows; but for that 61 is row 1. */
 #include "hand.h"
 
 #include <math.h>
@@ -41,6 +47,12 @@ uint64_t chains_check(const uint8_t *, size_t, const uint8_t *, size_t, uint16_t
                       size_t);
 uint64_t chains_starts(const uint8_t *, size_t, const uint8_t *, size_t, const uint16_t *, size_t, uint16_t, uint32_t *, size_t, uint32_t *,
                        size_t);
+uint64_t chains_find_with(const uint8_t *, size_t, const uint8_t *, size_t, uint16_t, uint16_t, const uint32_t *, size_t, uint32_t *, size_t,
+                          uint16_t *, size_t);
+uint64_t chains_check_with(const uint8_t *, size_t, const uint8_t *, size_t, uint16_t, uint16_t, const uint16_t *, size_t, const uint32_t *,
+                           size_t, uint32_t *, size_t);
+uint64_t chains_starts_with(const uint8_t *, size_t, const uint8_t *, size_t, const uint16_t *, size_t, uint16_t, const uint32_t *, size_t,
+                            uint32_t *, size_t, uint32_t *, size_t);
 uint64_t chains_search_words(const uint8_t *, size_t, const uint8_t *, size_t);
 uint64_t chains_search_begin(const uint8_t *, size_t, const uint8_t *, size_t, uint16_t, uint16_t, uint32_t *, size_t);
 uint64_t chains_search_move(uint32_t *, size_t, size_t);
@@ -57,9 +69,13 @@ uint64_t second_check(const uint8_t *, size_t, const uint8_t *, size_t, uint16_t
 size_t second_proposition_3_day(uint16_t n, uint8_t *buf);
 size_t second_proposition_3_pattern(uint8_t keeps, uint8_t *buf);
 
-enum { MOST_BYTES = 40964, MOST_PLACES = 1024, MOST_WORDS = 4 * 1048576 + 8192 + 3 * 4096, MOST_CHAIN = 1048576, MOST_SAMPLES = 401 };
+enum { MOST_BYTES = 57348, MOST_LINES = 4096, MOST_PLACES = 1024, MOST_WORDS = 4 * 1048576 + 8192 + 3 * 4096, MOST_CHAIN = 1048576,
+       MOST_SAMPLES = 401 };
 
 enum { NO_PLACE = 65535 };
+
+/* Kinds 1 to 15 have a window each; the patterns name none above 5. */
+enum { DAY = 86400, KINDS = 16, OPTIONS = 2 * (KINDS - 1), NOT_NAMED = 15 };
 
 static const double BATCH = 0.004; /* seconds of one program's calls in a sample */
 static const double LONG = 1.5;    /* seconds of one call that is not repeated */
@@ -67,8 +83,8 @@ static const double LONG = 1.5;    /* seconds of one call that is not repeated *
 /* The same for before and after, and seconds of all samples of a row: short samples, and many, for ratios near 1. */
 static const double BATCH_BEFORE = 0.001, ROW_BEFORE = 10;
 
-/* Seconds of all samples of a row about many places. */
-static const double ROW_STARTS = 2;
+/* Seconds of all samples of a row about many places, and of one about windows. */
+static const double ROW_STARTS = 2, ROW_WINDOWS = 8;
 
 static const uint64_t NO_CHAIN = 4294967295u;
 
@@ -76,11 +92,15 @@ static const uint64_t NO_CHAIN = 4294967295u;
 
 /* From STEPS on they are the library's search in steps: begin and finish, with one move of everything between them, with moves of 1,000.
    From FIND_NONE on they are about places other than the request's start: the library's finder from a place without a chain; its lists of
-   that place, of one with a chain, of all places, and of all four times over; its finder for each place; and all places in C. */
+   that place, of one with a chain, of all places, and of all four times over; its finder for each place; and all places in C.
+   From UNTIMED on they are about windows: the library without options on the day as it is, with options on the day timed, windows being the
+   whole day, and half of it being outside, and without options on the day as it is with the lines outside of a kind that is not named; and
+   the C on the first three. */
 enum { LIBRARY, HAND, GROUPED, SECOND, BEFORE, STEPS, ONE_MOVE, THOUSANDS, FIND_NONE, ONE_NONE, ONE_FOUND, ALL, FOUR_TIMES, EACH, HAND_ALL,
-       GROUPED_ALL, PROGRAMS };
+       GROUPED_ALL, UNTIMED, WHOLE_DAY, HALF_OUTSIDE, OTHER_KIND, HAND_UNTIMED, HAND_WHOLE_DAY, HAND_HALF_OUTSIDE, PROGRAMS };
 
-enum { IN_STEPS = 1 << STEPS | 1 << ONE_MOVE | 1 << THOUSANDS, OF_PLACES = (1 << PROGRAMS) - (1 << FIND_NONE) };
+enum { IN_STEPS = 1 << STEPS | 1 << ONE_MOVE | 1 << THOUSANDS, OF_PLACES = (1 << UNTIMED) - (1 << FIND_NONE),
+       OF_WINDOWS = (1 << PROGRAMS) - (1 << UNTIMED), OF_HALF = 1 << HALF_OUTSIDE | 1 << OTHER_KIND | 1 << HAND_HALF_OUTSIDE };
 
 /* Is an earlier build of the library linked; and may its replies differ from the present one's? */
 static int before, differ;
@@ -89,7 +109,7 @@ static uint32_t work[MOST_WORDS], lengths[4 * MOST_PLACES + 1];
 static uint16_t out[MOST_CHAIN];
 
 /* A request: to check a chain, to find one, or to say the words needed. `left_out` has the bit of each program that is not asked, or would
-   take too long. What stands after it is there for the programs of OF_PLACES. */
+   take too long. What stands after it is there for the programs of OF_PLACES and OF_WINDOWS. */
 struct request {
     char name[96];
     uint8_t rec[MOST_BYTES], pat[256];
@@ -102,6 +122,10 @@ struct request {
     size_t places;
     uint16_t starts[4 * MOST_PLACES]; /* all places, four times over */
     uint16_t none, found;             /* a place without a chain, and the nearest one with a chain; NO_PLACE where there is none */
+    int listed;                       /* with OF_WINDOWS: all starts instead of one */
+    uint8_t timed_rec[MOST_BYTES], other_rec[MOST_BYTES]; /* the day with times; with the lines outside of another kind */
+    size_t timed_len;
+    uint32_t windows[OPTIONS];
 };
 
 static uint64_t begin_search(const struct request *r, size_t words)
@@ -156,12 +180,44 @@ static uint64_t call_of_places(const struct request *r, int program, uint32_t *r
     case EACH:
         return each_found(r, words);
     case HAND_ALL:
-        return hand_starts(r->rec, r->rec_len, r->pat, r->pat_len, list, count, r->to, work, words, lengths, count, reached);
+        return hand_starts(r->rec, r->rec_len, r->pat, r->pat_len, list, count, r->to, NULL, 0, work, words, lengths, count, reached);
     case GROUPED_ALL:
-        return hand_starts_grouped(r->rec, r->rec_len, r->pat, r->pat_len, list, count, r->to, work, words, lengths, count, reached);
+        return hand_starts_grouped(r->rec, r->rec_len, r->pat, r->pat_len, list, count, r->to, NULL, 0, work, words, lengths, count,
+                                   reached);
     default:
         return chains_starts(r->rec, r->rec_len, r->pat, r->pat_len, list, count, r->to, work, words, lengths, count);
     }
+}
+
+static uint64_t call_of_windows(const struct request *r, int program, uint32_t *reached)
+{
+    static const uint32_t whole_day[OPTIONS] = {0, DAY, 0, DAY, 0, DAY, 0, DAY, 0, DAY, 0, DAY, 0, DAY, 0, DAY,
+                                                0, DAY, 0, DAY, 0, DAY, 0, DAY, 0, DAY, 0, DAY, 0, DAY};
+    const int is_half = program == HALF_OUTSIDE || program == HAND_HALF_OUTSIDE;
+    const int is_timed = is_half || program == WHOLE_DAY || program == HAND_WHOLE_DAY;
+    const uint8_t *rec = is_timed ? r->timed_rec : program == OTHER_KIND ? r->other_rec : r->rec, *pat = r->pat;
+    const uint32_t *options = is_half ? r->windows : whole_day;
+    const size_t rec_len = is_timed ? r->timed_len : r->rec_len, pat_len = r->pat_len, words = r->words[program], places = r->places;
+    if (program >= HAND_UNTIMED) {
+        const size_t count = is_timed ? OPTIONS : 0;
+        if (r->check)
+            return hand_check(rec, rec_len, pat, pat_len, r->from, r->to, r->chain, r->chain_len, options, count, work, words);
+        if (r->listed)
+            return hand_starts(rec, rec_len, pat, pat_len, r->starts, places, r->to, options, count, work, words, lengths, places, reached);
+        return hand_find(rec, rec_len, pat, pat_len, r->from, r->to, options, count, work, words, out, MOST_CHAIN, reached);
+    }
+    if (is_timed) {
+        if (r->check)
+            return chains_check_with(rec, rec_len, pat, pat_len, r->from, r->to, r->chain, r->chain_len, options, OPTIONS, work, words);
+        if (r->listed)
+            return chains_starts_with(rec, rec_len, pat, pat_len, r->starts, places, r->to, options, OPTIONS, work, words, lengths, places);
+        return chains_find_with(rec, rec_len, pat, pat_len, r->from, r->to, options, OPTIONS, work, words, out, MOST_CHAIN);
+    }
+    if (r->check)
+        return chains_check(rec, rec_len, pat, pat_len, r->from, r->to, r->chain, r->chain_len, work, words);
+    if (r->listed)
+        return chains_starts(rec, rec_len, pat, pat_len, r->starts, places, r->to, work, words, lengths, places);
+    return chains_find(rec, rec_len, pat, pat_len, r->from, r->to, work, words, out, MOST_CHAIN);
 }
 
 static uint64_t call(const struct request *r, int program, uint32_t *reached)
@@ -169,6 +225,8 @@ static uint64_t call(const struct request *r, int program, uint32_t *reached)
     size_t words = r->words[program];
     if (OF_PLACES >> program & 1)
         return call_of_places(r, program, reached);
+    if (OF_WINDOWS >> program & 1)
+        return call_of_windows(r, program, reached);
     if (r->needed)
         switch (program) {
         case LIBRARY:
@@ -185,7 +243,7 @@ static uint64_t call(const struct request *r, int program, uint32_t *reached)
         case LIBRARY:
             return chains_check(r->rec, r->rec_len, r->pat, r->pat_len, r->from, r->to, r->chain, r->chain_len, work, words);
         case HAND:
-            return hand_check(r->rec, r->rec_len, r->pat, r->pat_len, r->from, r->to, r->chain, r->chain_len, work, words);
+            return hand_check(r->rec, r->rec_len, r->pat, r->pat_len, r->from, r->to, r->chain, r->chain_len, NULL, 0, work, words);
         case BEFORE:
             return old_chains_check(r->rec, r->rec_len, r->pat, r->pat_len, r->from, r->to, r->chain, r->chain_len, work, words);
         default:
@@ -195,9 +253,10 @@ static uint64_t call(const struct request *r, int program, uint32_t *reached)
     case LIBRARY:
         return chains_find(r->rec, r->rec_len, r->pat, r->pat_len, r->from, r->to, work, words, out, MOST_CHAIN);
     case HAND:
-        return hand_find(r->rec, r->rec_len, r->pat, r->pat_len, r->from, r->to, work, words, out, MOST_CHAIN, reached);
+        return hand_find(r->rec, r->rec_len, r->pat, r->pat_len, r->from, r->to, NULL, 0, work, words, out, MOST_CHAIN, reached);
     case GROUPED:
-        return hand_find_grouped(r->rec, r->rec_len, r->pat, r->pat_len, r->from, r->to, work, words, out, MOST_CHAIN, reached);
+        return hand_find_grouped(r->rec, r->rec_len, r->pat, r->pat_len, r->from, r->to, NULL, 0, work, words, out, MOST_CHAIN,
+                                 reached);
     case BEFORE:
         return old_chains_find(r->rec, r->rec_len, r->pat, r->pat_len, r->from, r->to, work, words, out, MOST_CHAIN);
     case STEPS:
@@ -238,7 +297,7 @@ static double timed(const struct request *r, int program, uint64_t *reply, uint3
     memset(work, 0xA5, sizeof work[0] * r->words[program]);
     if (!r->check && !r->needed)
         memset(out, 0xA5, sizeof out[0] * (r->chain_len + 16));
-    if (OF_PLACES >> program & 1)
+    if (OF_PLACES >> program & 1 || r->listed)
         memset(lengths, 0xA5, sizeof lengths[0] * (4 * r->places + 1));
     double start = now();
     *reply = call(r, program, reached);
@@ -305,11 +364,12 @@ static void compare_lengths(const struct request *r, int program, uint64_t reply
             fail(r, "the lengths differ");
 }
 
-/* One call of each program, the replies and lent words compared. Gives each one's reply and time, and whether they differ. */
+/* One call of each program, the replies and lent words compared; those about the half of a day that is inside by themselves. Gives each one's
+   reply and time, and whether they differ. */
 static int compared(struct request *r, uint64_t reply[PROGRAMS], uint32_t *reached, double time[PROGRAMS])
 {
-    static uint16_t expected[MOST_CHAIN];
-    int first = -1, differing = 0;
+    static uint8_t expected[2][sizeof out];
+    int first[2] = {-1, -1}, differing = 0;
     *reached = 0;
     for (int p = PROGRAMS - 1; p >= 0; p--) {
         if (r->left_out >> p & 1)
@@ -318,20 +378,25 @@ static int compared(struct request *r, uint64_t reply[PROGRAMS], uint32_t *reach
         for (size_t i = 0; i < r->words[p]; i++)
             if (work[i] != 0)
                 fail(r, "the work area is not cleared");
+        const int half = OF_HALF >> p & 1, lists = OF_WINDOWS >> p & 1 && r->listed;
         if (OF_PLACES >> p & 1) {
-            compare_lengths(r, p, reply[p], first < 0);
-            first = p;
+            compare_lengths(r, p, reply[p], first[0] < 0);
+            first[0] = p;
             continue;
         }
         size_t length = r->check || r->needed || reply[p] >= NO_CHAIN ? 0 : reply[p];
-        if (first < 0) {
-            first = p;
-            memcpy(expected, out, sizeof out[0] * length);
-        } else if (reply[p] != reply[first] || memcmp(out, expected, sizeof out[0] * length) != 0)
+        size_t bytes = length * (lists ? sizeof lengths[0] : sizeof out[0]);
+        const void *given = lists ? (const void *)lengths : out;
+        if (lists && (reply[p] != r->places || lengths[length] != 0xA5A5A5A5))
+            fail(r, "the lengths are not as many as the places");
+        if (first[half] < 0) {
+            first[half] = p;
+            memcpy(expected[half], given, bytes);
+        } else if (reply[p] != reply[first[half]] || memcmp(given, expected[half], bytes) != 0)
             differing = 1;
         if (differing && !differ)
             fail(r, "the programs differ");
-        if (!r->check && length > r->chain_len)
+        if (!r->check && !lists && length > r->chain_len)
             r->chain_len = length;
     }
     return differing;
@@ -345,6 +410,8 @@ static void say(char said[24], const struct request *r, uint64_t reply)
         snprintf(said, 24, "%u words", (unsigned)reply);
     else if (r->check)
         snprintf(said, 24, "%s", reply == 1 ? "yes" : "no");
+    else if (r->listed)
+        snprintf(said, 24, "%u lengths", (unsigned)reply);
     else if (reply == NO_CHAIN)
         snprintf(said, 24, "none");
     else
@@ -372,9 +439,10 @@ static void show_time(double seconds)
 }
 
 /* Programs whose samples have as many calls of the one as of the other, by turns. */
-enum { BY_BEFORE, NONE_BY_FIND, ALL_BY_NONE, ALL_BY_FOUND, RATIOS };
+enum { BY_BEFORE, NONE_BY_FIND, ALL_BY_NONE, ALL_BY_FOUND, WHOLE_BY_UNTIMED, HALF_BY_UNTIMED, HALF_BY_OTHER, RATIOS };
 
-static const int RATIO[RATIOS][2] = {{LIBRARY, BEFORE}, {ONE_NONE, FIND_NONE}, {ALL, ONE_NONE}, {ALL, ONE_FOUND}};
+static const int RATIO[RATIOS][2] = {{LIBRARY, BEFORE},    {ONE_NONE, FIND_NONE},   {ALL, ONE_NONE},           {ALL, ONE_FOUND},
+                                     {WHOLE_DAY, UNTIMED}, {HALF_OUTSIDE, UNTIMED}, {HALF_OUTSIDE, OTHER_KIND}};
 
 /* What was measured: of each program the reply, the least time of a call and the median, 0 where it was left out; the states that the C's
    phase one reached; the medians of the samples' ratios; and whether the replies of before and after differ. */
@@ -394,16 +462,20 @@ static struct measured sampled(struct request *r)
     if (r->check || r->needed)
         r->left_out |= 1 << GROUPED;
     m.differing = compared(r, m.reply, &m.reached, time);
-    double round = 0, list = 0;
+    double round = 0, list = 0, windows = 0;
     for (int p = FIND_NONE; p <= FOUR_TIMES; p++)
         list = fmax(list, time[p]);
+    for (int p = UNTIMED; p <= OTHER_KIND; p++)
+        windows = fmax(windows, time[p]);
     for (int p = 0; p < PROGRAMS; p++) {
         if (r->left_out >> p & 1)
             continue;
-        /* Before and after have as many calls each, by turns; so have a find and the lists. */
-        double batch = before ? BATCH_BEFORE : BATCH, lasts = before ? fmax(time[LIBRARY], time[BEFORE]) : time[p];
+        /* Before and after have as many calls each, by turns; so have a find and the lists, and the day with and without windows. */
+        double batch = before || windows > 0 ? BATCH_BEFORE : BATCH, lasts = before ? fmax(time[LIBRARY], time[BEFORE]) : time[p];
         if (p >= FIND_NONE && p <= FOUR_TIMES)
             lasts = list;
+        if (p >= UNTIMED && p <= OTHER_KIND)
+            lasts = windows;
         calls[p] = lasts >= batch ? 1 : (unsigned)(batch / lasts) + 2;
         most = calls[p] > most ? calls[p] : most;
         round += time[p] >= LONG ? 0 : calls[p] * time[p];
@@ -415,6 +487,8 @@ static struct measured sampled(struct request *r)
         samples = fmax(5, fmin(MOST_SAMPLES, ROW_BEFORE / round));
     else if (list > 0)
         samples = fmax(15, fmin(MOST_SAMPLES, ROW_STARTS / round));
+    else if (windows > 0)
+        samples = fmax(15, fmin(MOST_SAMPLES, ROW_WINDOWS / round));
     for (int p = 0; p < PROGRAMS; p++)
         for (unsigned n = 0; n < samples; n++)
             sample[p][n] = time[p] >= LONG ? time[p] : 0;
@@ -503,7 +577,7 @@ static double move_of_one(const struct request *r, uint32_t states)
 /* A search in steps beside the finder, and the C. */
 static void measure_steps(struct request *r)
 {
-    r->left_out = 1 << GROUPED | 1 << SECOND | 1 << BEFORE | OF_PLACES;
+    r->left_out = 1 << GROUPED | 1 << SECOND | 1 << BEFORE | OF_PLACES | OF_WINDOWS;
     const struct measured m = sampled(r);
     const uint32_t states = taken_up;
     char said[24];
@@ -518,15 +592,21 @@ static void measure_steps(struct request *r)
     fflush(stdout);
 }
 
+/* The list of all places, four times over. */
+static void list_places(struct request *r)
+{
+    r->places = r->rec[1] << 8 | r->rec[2];
+    for (size_t i = 0; i < 4 * r->places; i++)
+        r->starts[i] = i % r->places;
+}
+
 /* All places, and of them one without a chain and the nearest with one, by what the C says. Gives how many have a chain; the states that
    its search reached go to *reached. */
 static unsigned choose_places(struct request *r, uint32_t *reached)
 {
     unsigned chains = 0;
     lend(r);
-    r->places = r->rec[1] << 8 | r->rec[2];
-    for (size_t i = 0; i < 4 * r->places; i++)
-        r->starts[i] = i % r->places;
+    list_places(r);
     r->none = r->found = NO_PLACE;
     if (call(r, GROUPED_ALL, reached) != r->places)
         fail(r, "the C refuses the places");
@@ -560,6 +640,74 @@ static void measure_starts(struct request *r, int too_long, double least[PROGRAM
     printf(" | %9.5f", by(least[ALL], least[EACH]));
     show_ratio(by(least[ALL], least[HAND_ALL]));
     show_ratio(by(least[GROUPED_ALL], least[HAND_ALL]));
+    printf(" |\n");
+    fflush(stdout);
+}
+
+/* The day with a time for every line, and a window for every kind. Of each two lines of a kind that follow each other one is inside and the
+   other is not: the first is inside, but where the shortest chain has the second of them and not the first; so the same chain is found, unless
+   it has both. */
+static void give_windows(struct request *r)
+{
+    static uint8_t inside[MOST_LINES], chained[MOST_LINES];
+    unsigned count = (r->rec_len - 4) / 10, waiting[KINDS] = {0}, met[KINDS] = {0};
+    lend(r);
+    list_places(r);
+    const uint64_t length = chains_find(r->rec, r->rec_len, r->pat, r->pat_len, r->from, r->to, work, r->words[UNTIMED], out, MOST_CHAIN);
+    memset(chained, 0, sizeof chained);
+    for (size_t i = 0; length < NO_CHAIN && i < length; i++)
+        chained[out[i]] = 1;
+    for (unsigned i = 0; i < count; i++) {
+        const unsigned kind = r->rec[3 + 10 * i + 3], first = waiting[kind];
+        inside[i] = met[kind]++ % 2 == 0;
+        if (!inside[i] && chained[i] && !chained[first]) {
+            inside[first] = 0;
+            inside[i] = 1;
+        }
+        waiting[kind] = i;
+    }
+    for (unsigned kind = 1; kind < KINDS; kind++) {
+        r->windows[2 * kind - 2] = 30000 + 1000 * kind;
+        r->windows[2 * kind - 1] = 42000 + 1000 * kind;
+    }
+    memcpy(r->other_rec, r->rec, r->rec_len);
+    memcpy(r->timed_rec, r->rec, 3);
+    uint8_t *line = r->timed_rec + 3;
+    for (unsigned i = 0; i < count; i++, line += 14) {
+        const unsigned kind = r->rec[3 + 10 * i + 3], open = r->windows[2 * kind - 2], close = r->windows[2 * kind - 1];
+        /* By turns at the opening second and at the closing one: inside from the one on and up to the other, outside away from them. */
+        const unsigned early = i % 2 == 0, turn = i / 2;
+        const unsigned time = inside[i] ? (early ? open + turn : close - 1 - turn) : early ? open - 1 - turn : close + turn;
+        memcpy(line, r->rec + 3 + 10 * i, 10);
+        line[0] = 3;
+        line[10] = time >> 24;
+        line[11] = time >> 16;
+        line[12] = time >> 8;
+        line[13] = time;
+        if (!inside[i])
+            r->other_rec[3 + 10 * i + 3] = NOT_NAMED;
+    }
+    *line = 0;
+    r->timed_len = line + 1 - r->timed_rec;
+}
+
+/* A day as it is, timed, and with half of it outside; and the C. Gives each program's least time. */
+static void measure_windows(struct request *r, double least[PROGRAMS])
+{
+    r->left_out = ~OF_WINDOWS;
+    give_windows(r);
+    const struct measured m = sampled(r);
+    memcpy(least, m.least, sizeof m.least);
+    char said[24], half[24];
+    say(said, r, m.reply[UNTIMED]);
+    say(half, r, m.reply[HALF_OUTSIDE]);
+    printf("| %-52s | %-10s | %-10s | %10.1f", r->name, said, half, least[UNTIMED] * 1e6);
+    show_ratio(least[WHOLE_DAY] / least[UNTIMED]);
+    show_ratio(m.ratio[WHOLE_BY_UNTIMED]);
+    show_ratio(least[HALF_OUTSIDE] / least[UNTIMED]);
+    show_ratio(m.ratio[HALF_BY_UNTIMED]);
+    show_ratio(least[HALF_OUTSIDE] / least[OTHER_KIND]);
+    show_ratio(m.ratio[HALF_BY_OTHER]);
     printf(" |\n");
     fflush(stdout);
 }
@@ -657,7 +805,7 @@ static struct request *fresh(const char *name)
 {
     struct request *r = calloc(1, sizeof *r);
     snprintf(r->name, sizeof r->name, "%s", name);
-    r->left_out = (before ? 1 << HAND | 1 << GROUPED | 1 << SECOND : 1 << BEFORE) | IN_STEPS | OF_PLACES;
+    r->left_out = (before ? 1 << HAND | 1 << GROUPED | 1 << SECOND : 1 << BEFORE) | IN_STEPS | OF_PLACES | OF_WINDOWS;
     seed = 1;
     return r;
 }
@@ -1076,13 +1224,40 @@ static struct request *goal_apart(const char *name)
     return r;
 }
 
+/* ---- for windows */
+
+/* The chain that is found on the full day, whole laps, checked. */
+static struct request *full_day_check(void)
+{
+    struct request *r = full_day_laps();
+    strcat(r->name, ": check");
+    const uint64_t words = chains_words(r->rec, r->rec_len, r->pat, r->pat_len);
+    if (words > MOST_WORDS)
+        fail(r, "refused");
+    r->chain_len = chains_find(r->rec, r->rec_len, r->pat, r->pat_len, r->from, r->to, work, words, out, MOST_CHAIN);
+    if (r->chain_len >= NO_CHAIN)
+        fail(r, "no chain to check");
+    r->chain = malloc(sizeof r->chain[0] * r->chain_len);
+    memcpy(r->chain, out, sizeof r->chain[0] * r->chain_len);
+    r->check = 1;
+    return r;
+}
+
+/* The lengths from all places of that day: the request is the same. */
+static struct request *full_day_starts(void)
+{
+    struct request *r = full_day_laps();
+    strcat(r->name, ": all starts");
+    return r;
+}
+
 /* ---- the runs */
 
 /* The full days stand by twos, each request about the day read and then about the day with a third unread; so do rounds, written out
    and then counted. */
 enum { FULL = 1, FULL_END = 7, CASES = 14, SLOWEST = CASES + 16, CLASSES = SLOWEST + 2, FULL_CLASSES = CLASSES + 2,
        FULL_CLASSES_END = FULL_CLASSES + 4, SLOWEST_CLASSES = FULL_CLASSES_END + 2, ROUNDS = SLOWEST_CLASSES + 6, ROUNDS_END = ROUNDS + 6,
-       LISTS = ROUNDS_END + 2, ROWS = LISTS + 6 };
+       LISTS = ROUNDS_END + 2, LISTS_END = LISTS + 6, ALL_STARTS = LISTS_END + 1, ROWS = LISTS_END + 2 };
 
 /* The row that is another one from another start, so that their lists are the same. */
 enum { NEAR_BY = 8 };
@@ -1090,8 +1265,14 @@ enum { NEAR_BY = 8 };
 /* Is the row one of the slowest requests, which stand apart from the table? */
 static int is_slowest(int i) { return (i >= SLOWEST && i < CLASSES) || (i >= SLOWEST_CLASSES && i < ROUNDS); }
 
-/* Does the row stand apart from the table, as the rows about lists of places do too? */
+/* Does the row stand apart from the table, as the rows about lists of places and about windows do too? */
 static int is_apart(int i) { return is_slowest(i) || i >= LISTS; }
+
+/* Is the row about the typical or the full day, in the table, or there for windows? */
+static int is_day(int i)
+{
+    return i < FULL_END || (i >= CLASSES && i < FULL_CLASSES_END) || (i >= ROUNDS && i < ROUNDS + 4) || i >= LISTS_END;
+}
 
 static struct request *row(unsigned i)
 {
@@ -1184,6 +1365,10 @@ static struct request *row(unsigned i)
         return many_beginnings("largest size, 1,024 places, one keep, 31 beginnings", 1);
     case LISTS + 5:
         return goal_apart("1,024 places, no line to the goal, 31 beginnings");
+    case LISTS_END:
+        return full_day_check();
+    case ALL_STARTS:
+        return full_day_starts();
     }
     unsigned step = (i - CASES) % 4;
     switch ((i - CASES) / 4) {
@@ -1235,7 +1420,12 @@ static int profiled(char **argument)
     int program = atoi(argument[1]), times = atoi(argument[2]);
     uint64_t reply = 0;
     uint32_t reached = 0;
-    if (program >= STEPS && (r->check || r->needed))
+    if (OF_WINDOWS >> program & 1) {
+        if (r->needed)
+            fail(r, "no windows");
+        r->listed = atoi(argument[0]) == ALL_STARTS;
+        give_windows(r);
+    } else if (program >= STEPS && (r->check || r->needed))
         fail(r, "no search");
     if (OF_PLACES >> program & 1)
         choose_places(r, &reached);
@@ -1278,7 +1468,7 @@ static void show_starts(int count, char **number)
     printf("| case | places | with a chain | states reached | find none, us | list of one / find none | the same, medians | "
            "list of all / list of one | the same, medians | list of all / find for each | list of all / C | C grouped / C |\n"
            "|---|---|---|---|---|---|---|---|---|---|---|---|\n");
-    for (int i = 0; i < (count > 0 ? count : ROWS); i++) {
+    for (int i = 0; i < (count > 0 ? count : LISTS_END); i++) {
         int named = count > 0 ? atoi(number[i]) : i;
         struct request *r = row(named);
         if (!r->check && !r->needed && (count > 0 || (!is_slowest(named) && named != NEAR_BY)))
@@ -1293,9 +1483,39 @@ static void show_starts(int count, char **number)
             continue;
         struct request *r = row(i);
         printf("| %-52s", r->name);
-        for (int p = FIND_NONE; p < PROGRAMS; p++)
+        for (int p = FIND_NONE; p <= GROUPED_ALL; p++)
             show_time(least[i][p]);
         printf(" |\n");
+        free(r);
+    }
+}
+
+/* The days, or the rows that are named, with windows; then the times. */
+static void show_windows(int count, char **number)
+{
+    static double least[ROWS][PROGRAMS];
+    printf("| case | reply | half outside | untimed, us | timed / untimed | the same, medians | half outside / untimed | the same, medians | "
+           "half outside / kind 15 | the same, medians |\n|---|---|---|---|---|---|---|---|---|---|\n");
+    for (int i = 0; i < (count > 0 ? count : ROWS); i++) {
+        int named = count > 0 ? atoi(number[i]) : i;
+        struct request *r = row(named);
+        r->listed = named == ALL_STARTS;
+        if (!r->needed && (count > 0 || is_day(named)))
+            measure_windows(r, least[named]);
+        free(r->chain);
+        free(r);
+    }
+    printf("\n| times, us | untimed | timed | half outside | kind 15 | C, untimed | C, timed | C, half outside |\n"
+           "|---|---|---|---|---|---|---|---|\n");
+    for (int i = 0; i < ROWS; i++) {
+        if (least[i][UNTIMED] == 0)
+            continue;
+        struct request *r = row(i);
+        printf("| %-52s", r->name);
+        for (int p = UNTIMED; p < PROGRAMS; p++)
+            show_time(least[i][p]);
+        printf(" |\n");
+        free(r->chain);
         free(r);
     }
 }
@@ -1304,7 +1524,8 @@ int main(int count, char **argument)
 {
     read_clock_cost();
     before = old_chains_find != NULL;
-    int slowest_too = 0, steps = 0, starts = 0;
+    int slowest_too = 0;
+    void (*show)(int, char **) = NULL;
     if (before && count > 1 && strcmp(argument[1], "--differ") == 0) {
         differ = 1;
         count--;
@@ -1312,13 +1533,18 @@ int main(int count, char **argument)
     }
     if (count == 5 && strcmp(argument[1], "--call") == 0 && callable(atoi(argument[3])))
         return profiled(argument + 2);
-    if (!before && count > 1 && (strcmp(argument[1], "--steps") == 0 || strcmp(argument[1], "--starts") == 0)) {
-        steps = strcmp(argument[1], "--steps") == 0;
-        starts = !steps;
+    if (!before && count > 1) {
+        const char *mode = argument[1];
+        show = strcmp(mode, "--steps") == 0     ? show_steps
+               : strcmp(mode, "--starts") == 0  ? show_starts
+               : strcmp(mode, "--windows") == 0 ? show_windows
+                                                : NULL;
+    }
+    if (show != NULL) {
         count--;
         argument++;
     }
-    if (!steps && !starts && count == 2 && strcmp(argument[1], "--slowest") == 0) {
+    if (show == NULL && count == 2 && strcmp(argument[1], "--slowest") == 0) {
         if (!before) {
             printf("| case | reply | states reached | C, s | C grouped, s | library, s |\n|---|---|---|---|---|---|\n");
             for (int i = 0; i < ROWS; i++)
@@ -1332,15 +1558,11 @@ int main(int count, char **argument)
     for (int i = 1; i < count; i++)
         if (strspn(argument[i], "0123456789") != strlen(argument[i]) || atoi(argument[i]) >= ROWS) {
             fprintf(stderr, "bench %s[ROW... | --slowest | %s--call ROW PROGRAM TIMES], rows 0 to %d\n", before ? "[--differ] " : "",
-                    before ? "" : "--steps [ROW...] | --starts [ROW...] | ", ROWS - 1);
+                    before ? "" : "--steps [ROW...] | --starts [ROW...] | --windows [ROW...] | ", ROWS - 1);
             return 2;
         }
-    if (steps) {
-        show_steps(count - 1, argument + 1);
-        return 0;
-    }
-    if (starts) {
-        show_starts(count - 1, argument + 1);
+    if (show != NULL) {
+        show(count - 1, argument + 1);
         return 0;
     }
     if (before)

@@ -1,8 +1,8 @@
 /*
  * The chain finder for a sailing day's record: the functions of libchains.a and libchains.so, which `make lib` builds.
  *
- * A record is a day's written lines; a line has a kind and a boat (class and sail number) and leads from a place to a place. A
- * pattern says which chains of lines are accepted. README.md explains the bytes of both.
+ * A record is a day's written lines; a line has a kind and a boat (class and sail number), leads from a place to a place, and may have a
+ * time. A pattern says which chains of lines are accepted. README.md explains the bytes of both.
  *
  * Boats compared. A line's boat is the slot's (same, 22) or another (other, 23); another one has the slot's class and another number
  * (sister, 28) or another class, whatever its number (foreign, 29).
@@ -15,6 +15,15 @@
  * and a boat that it keeps is known in that round only. Commands count once as they are written, and in the unfolded count as often as they
  * may come: a counted pattern has 1 + highest * the unfolded count of its pattern. The search goes by unfolded counts.
  *
+ * Windows. A line's time is in seconds since midnight, 0 to 86,399. chains_find_with, chains_check_with, chains_starts_with and
+ * chains_search_begin_with take a window of the day for each kind, and reply as for the record with only those lines that are inside the
+ * window of their kind; lines keep their numbers. A window has an opening second, which is in it, and a closing second, which is not: a line
+ * with a time is inside if open <= time < close. A line without a time is inside exactly if the window runs from 0 to 86,400, the whole day.
+ * `options` has open and close of the kinds 1 to 15 in turn: word 2 * (kind - 1) opens, and the word after it closes. A kind without both its
+ * words there, as where none are lent, has the whole day; words from the 31st on are not read. All lines count for the size of a search, for
+ * the work area and for which lines there are, those outside too; so a checked chain with a line outside gets no. The functions without
+ * options go by the whole day for every kind, so that times have no say in them.
+ *
  * Slices. A pointer and the count that follows it are one slice: so many entries from there on. A pointer is never null and is
  * aligned to its type, also where the count is 0: lend the address of any variable of the type then. (malloc(0) may be null.)
  *
@@ -22,14 +31,16 @@
  * only read may.
  *
  * Replies. Every function replies with one number of 64 bits: value + 2^32 * number. The number is 0, and the value is then what
- * the function says below; or a question about what was given was answered no, and the number is that question's (1 to 26,
+ * the function says below; or a question about what was given was answered no, and the number is that question's (1 to 28,
  * enum chains_refusal). A refusal's value is 0, except with 19, where it is the length of the shortest chain, or with chains_starts how
- * many lengths there are. chains_length, chains_needed, chains_written, chains_yes, chains_no, chains_none, chains_found, chains_too_long,
- * chains_lengths, chains_begun and chains_moved take a reply apart so that a refusal is not taken for an answer.
+ * many lengths there are. chains_length, chains_needed, chains_written, chains_timed, chains_yes, chains_no, chains_none, chains_found,
+ * chains_too_long, chains_lengths, chains_begun and chains_moved take a reply apart so that a refusal is not taken for an answer.
  *
- * Questions. A record is asked 1 to 7. A pattern is asked 8, 9, 10, 11, 24, 12 and 13 at each of its commands, in this order, and when it
- * is complete 14 and then 25. 15 is one question about all places that are given, a list of them too. 19 is asked when the shortest chain
- * is known, but by chains_starts, whose lengths are as many as the list has places, before the search.
+ * Questions. A record is asked 1 and 2; then at each line 3, 22, 4, 5, 6 and, where the line has a time, 28, in this order, and at the end 3
+ * and 7. A pattern is asked 8, 9, 10, 11, 24, 12 and 13 at each of its commands, in this order, and when it is complete 14 and then 25. A
+ * request is asked those of its record, those of its pattern, 15, 27, 16 and 17. 15 is one question about all places that are given, a list of
+ * them too; 27 is one about all fifteen windows, also of kinds that neither the record nor the pattern has, and never fails without options.
+ * 19 is asked when the shortest chain is known, but by chains_starts, whose lengths are as many as the list has places, before the search.
  *
  * Searches in steps. chains_search_begin takes what it needs of a record and a pattern into the work area, and searches nothing;
  * chains_search_move takes up so many states of the search (a state is a place, a spot in the pattern and the boats kept);
@@ -65,13 +76,15 @@ enum chains_refusal {
     CHAINS_NOT_REFUSED = 0,
 
     /* The record, entry by entry. */
-    CHAINS_RECORD_TOO_LONG = 1,         /* the record has more than 40,964 bytes */
+    CHAINS_RECORD_TOO_LONG = 1,         /* the record has more than 57,348 bytes */
     CHAINS_PLACES_OUT_OF_RANGE = 2,     /* it does not begin with 01 and a count of 1 to 1,024 places */
-    CHAINS_ENTRY_NOT_KNOWN = 3,         /* where a line (02) or the end (00) must stand, there is another byte or none */
-    CHAINS_LINE_CUT_SHORT = 4,          /* a line has fewer than its ten bytes */
+    CHAINS_ENTRY_NOT_KNOWN = 3,         /* where a line (02, 03) or the end (00) must stand, there is another byte or none */
+    CHAINS_LINE_CUT_SHORT = 4,          /* a line has fewer than its ten bytes, or its fourteen with a time */
     CHAINS_LINE_PLACE_NOT_THERE = 5,    /* a line's place is not below the count of places */
     CHAINS_LINE_KIND_OUT_OF_RANGE = 6,  /* a line's kind is not 1 to 15 */
     CHAINS_BYTES_AFTER_END = 7,         /* there are bytes after the record's end byte */
+    CHAINS_RECORD_FULL = 22,            /* the record has more than 4,096 lines, or has that many where one is added */
+    CHAINS_LINE_TIME_OUT_OF_RANGE = 28, /* a line's time is not below 86,400 */
 
     /* The pattern, command by command. */
     CHAINS_COMMAND_NOT_KNOWN = 8,       /* where a command (20 to 2A) must stand, there is another byte or none */
@@ -90,11 +103,11 @@ enum chains_refusal {
     CHAINS_WORK_AREA_TOO_SMALL = 17,    /* the work area has fewer words than chains_words or chains_search_words says */
     CHAINS_LINE_NOT_THERE = 18,         /* a named line is not in the record */
     CHAINS_OUTPUT_TOO_SMALL = 19,       /* the output is shorter than the shortest chain or the list of places, whose length is the value */
+    CHAINS_WINDOW_OUT_OF_RANGE = 27,    /* a window does not open before it closes, or closes after 86,400 */
 
     /* Writing. */
     CHAINS_LENGTH_BEYOND_BUFFER = 20,   /* the record's length is more than the buffer's */
     CHAINS_SAIL_NUMBER_TOO_LARGE = 21,  /* the sail number is not below 16,777,216 */
-    CHAINS_RECORD_FULL = 22,            /* the record has 4,096 lines already */
     CHAINS_BUFFER_TOO_SMALL = 23,       /* the buffer does not hold the record after the act */
 
     /* A search in steps. */
@@ -106,7 +119,13 @@ enum chains_refusal {
 #define CHAINS_NO_CHAIN UINT32_C(4294967295)
 
 /* No record is longer, in bytes: a buffer of this size holds every day. */
-#define CHAINS_LONGEST_RECORD 40964
+#define CHAINS_LONGEST_RECORD 57348
+
+/* The seconds of a day: every line's time is below it, and a window that runs from 0 to it is the whole day. */
+#define CHAINS_DAY 86400
+
+/* How many words the options of a request have: open and close of each of the kinds 1 to 15. */
+#define CHAINS_OPTIONS 30
 
 /* Where so many bytes of the thread's stack are left, they are enough for every call. */
 #define CHAINS_STACK 65536
@@ -118,7 +137,9 @@ enum chains_field {
     CHAINS_FIELD_CLASS = 2,
     CHAINS_FIELD_SAIL = 3,
     CHAINS_FIELD_TO = 4,
-    CHAINS_FIELDS = 5 /* how many there are */
+    CHAINS_FIELD_TIME = 5,  /* of a line that has a time */
+    CHAINS_FIELDS = 5,      /* how many there are of a line without a time */
+    CHAINS_TIMED_FIELDS = 6 /* how many there are of one with a time: lend so many for every line */
 };
 
 /* Where chains_pattern puts the counts of a pattern. */
@@ -156,7 +177,7 @@ static inline bool chains_refused(uint64_t reply)
     return chains_number(reply) != CHAINS_NOT_REFUSED;
 }
 
-/* Of chains_begin and chains_add: true, and the record's new length; false, and *length as it was, where refused. */
+/* Of chains_begin, chains_add and chains_add_timed: true, and the record's new length; false, and *length as it was, where refused. */
 static inline bool chains_length(uint64_t reply, size_t *length)
 {
     if (chains_refused(reply)) {
@@ -178,6 +199,14 @@ static inline bool chains_written(uint64_t reply)
 {
     return !chains_refused(reply) && chains_value(reply) != 0;
 }
+
+/* Of chains_read: true where a line with a time was written, to six words; false where the line has none, and where nothing was written. */
+static inline bool chains_timed(uint64_t reply)
+{
+    return !chains_refused(reply) && chains_value(reply) == CHAINS_TIMED_FIELDS;
+}
+
+/* What is said here of a function is said of its form with options as well. */
 
 /* Of chains_check: was the answer yes? A refused check is neither yes nor no. */
 static inline bool chains_yes(uint64_t reply)
@@ -238,7 +267,7 @@ static inline const char *chains_message(uint32_t number)
 {
     switch (number) {
     case 0: return "not refused";
-    case 1: return "the day's record is longer than 40,964 bytes";
+    case 1: return "the day's record is longer than 57,348 bytes";
     case 2: return "the day's record must begin with its count of places, 1 to 1,024";
     case 3: return "the day's record breaks off, or has something in it that is neither a line nor the end";
     case 4: return "the last line of the day's record is cut short";
@@ -259,11 +288,13 @@ static inline const char *chains_message(uint32_t number)
     case 19: return "the output is too short: for the chain that there is, or for the lengths asked for";
     case 20: return "the day's record is said to be longer than its buffer";
     case 21: return "the sail number is not below 16,777,216";
-    case 22: return "the day's record is full: it has 4,096 lines";
+    case 22: return "the day's record has more than 4,096 lines, or is full with that many";
     case 23: return "the buffer has no room for the day's record after this";
     case 24: return "the pattern has a count of rounds whose lowest is above its highest, or whose highest is above 20";
     case 25: return "the pattern is too long: with its rounds written out it has more than 63 commands";
     case 26: return "the work area holds no search, or not one as a begin and its moves left it";
+    case 27: return "a window does not open before it closes, or closes after 86,400, the end of the day";
+    case 28: return "a line's time is not below 86,400, the seconds of a day";
     default: return "this number is not that of a refusal";
     }
 }
@@ -286,10 +317,11 @@ uint64_t chains_version(void);
 uint64_t chains_begin(uint8_t *buf, size_t buf_len, uint16_t places);
 
 /*
- * Adds a line to the record that is the first len bytes of the buffer. Class 0 with sail number 0 says that the number was not read.
+ * Adds a line without a time to the record that is the first len bytes of the buffer. Class 0 with sail number 0 says that the number was
+ * not read.
  *
  * Value: the record's new length, len + 10.
- * Refusals: 20, then 1 to 7 of the record, 5 and 6 of the new line, 21, 22, 23, in this order.
+ * Refusals: 20, then those of a record, 5 and 6 of the new line, 21, 22, 23, in this order.
  * buf: the line's ten bytes are written from the old end byte (at len - 1) on, and a new end byte after them; all other bytes
  * stay. A refusal leaves it untouched.
  */
@@ -297,12 +329,23 @@ uint64_t chains_add(uint8_t *buf, size_t buf_len, size_t len, uint16_t from, uin
                     uint16_t to);
 
 /*
+ * Adds a line with a time, in seconds since midnight, as chains_add adds one without.
+ *
+ * Value: the record's new length, len + 14.
+ * Refusals: 20, then those of a record, 5, 6 and 28 of the new line, 21, 22, 23, in this order.
+ * buf: the line's fourteen bytes are written from the old end byte (at len - 1) on, and a new end byte after them; all other bytes
+ * stay. A refusal leaves it untouched.
+ */
+uint64_t chains_add_timed(uint8_t *buf, size_t buf_len, size_t len, uint16_t from, uint8_t kind, uint8_t class_, uint32_t sail,
+                          uint16_t to, uint32_t time);
+
+/*
  * Reads a line back. Lines are numbered from 0.
  *
- * Value: 5; or 0 where fields_len is below 5, which is no refusal.
- * Refusals: 1 to 7 of the whole record, then 18. They come before the count of fields is looked at.
- * rec: only read. fields: from, kind, class, sail number, to are written to the first five words; all other words stay. A value of
- * 0 and a refusal leave it untouched.
+ * Value: 5 of a line without a time, 6 of one with a time; or 0 where fields_len is below that, which is no refusal.
+ * Refusals: those of the whole record, then 18. They come before the count of fields is looked at.
+ * rec: only read. fields: from, kind, class, sail number, to are written to the first five words, and a time to the sixth; all other words
+ * stay, the sixth too where there is no time. A value of 0 and a refusal leave it untouched.
  */
 uint64_t chains_read(const uint8_t *rec, size_t rec_len, uint16_t line, uint32_t *fields, size_t fields_len);
 
@@ -322,14 +365,15 @@ uint64_t chains_pattern(const uint8_t *pat, size_t pat_len, uint32_t *counts, si
  * such line.
  *
  * Value: 2; or 0 where counts_len is below 2, which is no refusal.
- * Refusals: 1 to 7 of the record. They come before the count of words is looked at.
+ * Refusals: those of a record. They come before the count of words is looked at.
  * rec: only read. counts: the different boats (0 to 4,096) and the reads (0 to 8,386,560) are written to the first two words; all other
  * words stay. A value of 0 and a refusal leave it untouched.
  */
 uint64_t chains_boats(const uint8_t *rec, size_t rec_len, uint32_t *counts, size_t counts_len);
 
 /*
- * How many words of 32 bits chains_check, chains_find and chains_starts need as their work area, for this record and this pattern.
+ * How many words of 32 bits chains_check, chains_find and chains_starts need as their work area, for this record and this pattern, with
+ * options and without.
  *
  * Value: the words, 8,200 to 4,202,496.
  * Refusals: those of a record and a pattern, then 16.
@@ -350,6 +394,17 @@ uint64_t chains_check(const uint8_t *rec, size_t rec_len, const uint8_t *pat, si
                       const uint16_t *chain, size_t chain_len, uint32_t *work, size_t work_len);
 
 /*
+ * As chains_check, with a window of the day for each kind: no also where a line of the chain is outside the window of its kind.
+ *
+ * Value: 1 for yes, 0 for no.
+ * Refusals: those of a record and a pattern, then 15, 27, 16, 17, 18. All lines of the record can be named, those outside too.
+ * rec, pat, chain, options: only read. work: as with chains_check.
+ */
+uint64_t chains_check_with(const uint8_t *rec, size_t rec_len, const uint8_t *pat, size_t pat_len, uint16_t from, uint16_t to,
+                           const uint16_t *chain, size_t chain_len, const uint32_t *options, size_t options_len, uint32_t *work,
+                           size_t work_len);
+
+/*
  * Finds the shortest accepted chain from the first place to the second; of several, the one with the lower line number at the
  * first difference.
  *
@@ -360,6 +415,16 @@ uint64_t chains_check(const uint8_t *rec, size_t rec_len, const uint8_t *pat, si
  */
 uint64_t chains_find(const uint8_t *rec, size_t rec_len, const uint8_t *pat, size_t pat_len, uint16_t from, uint16_t to,
                      uint32_t *work, size_t work_len, uint16_t *out, size_t out_len);
+
+/*
+ * As chains_find, with a window of the day for each kind: the chain has no line that is outside the window of its kind.
+ *
+ * Value: as with chains_find.
+ * Refusals: those of a record and a pattern, then 15, 27, 16, 17, then 19, whose value is the shortest length.
+ * rec, pat, options: only read. work, out: as with chains_find.
+ */
+uint64_t chains_find_with(const uint8_t *rec, size_t rec_len, const uint8_t *pat, size_t pat_len, uint16_t from, uint16_t to,
+                          const uint32_t *options, size_t options_len, uint32_t *work, size_t work_len, uint16_t *out, size_t out_len);
 
 /*
  * The shortest lengths from many places to one, out of one search: for each place of the list what chains_find would say of it, with an
@@ -377,8 +442,19 @@ uint64_t chains_starts(const uint8_t *rec, size_t rec_len, const uint8_t *pat, s
                        uint16_t to, uint32_t *work, size_t work_len, uint32_t *lengths, size_t lengths_len);
 
 /*
- * How many words of 32 bits chains_search_begin needs as its work area, for this record and this pattern: three for each line of the
- * record more than chains_words says.
+ * As chains_starts, with a window of the day for each kind: for each place of the list what chains_find_with would say of it.
+ *
+ * Value: as with chains_starts.
+ * Refusals: those of a record and a pattern, then 15, 27, 16, 17, then 19 as with chains_starts.
+ * rec, pat, starts, options: only read. work, lengths: as with chains_starts.
+ */
+uint64_t chains_starts_with(const uint8_t *rec, size_t rec_len, const uint8_t *pat, size_t pat_len, const uint16_t *starts,
+                            size_t starts_len, uint16_t to, const uint32_t *options, size_t options_len, uint32_t *work, size_t work_len,
+                            uint32_t *lengths, size_t lengths_len);
+
+/*
+ * How many words of 32 bits chains_search_begin needs as its work area, for this record and this pattern, with options and without: three
+ * for each line of the record more than chains_words says.
  *
  * Value: the words, 8,200 to 4,214,784.
  * Refusals: those of a record and a pattern, then 16.
@@ -398,6 +474,17 @@ uint64_t chains_search_begin(const uint8_t *rec, size_t rec_len, const uint8_t *
                              uint32_t *work, size_t work_len);
 
 /*
+ * As chains_search_begin, with a window of the day for each kind: the search is for the chain that chains_find_with finds. The windows are in
+ * the area then, and chains_search_move and chains_search_finish go by them.
+ *
+ * Value: 0.
+ * Refusals: those of a record and a pattern, then 15, 27, 16, 17, which asks for the words that chains_search_words says.
+ * rec, pat, options: only read, and not looked at again by moves and finish. work: as with chains_search_begin.
+ */
+uint64_t chains_search_begin_with(const uint8_t *rec, size_t rec_len, const uint8_t *pat, size_t pat_len, uint16_t from, uint16_t to,
+                                  const uint32_t *options, size_t options_len, uint32_t *work, size_t work_len);
+
+/*
  * Moves a search on: takes up so many states of it, or all that remain where those are fewer. 2 * search size + 2 moves of at least 1
  * reach the end; a move there takes up none and changes nothing, as does a move of 0.
  *
@@ -408,7 +495,8 @@ uint64_t chains_search_begin(const uint8_t *rec, size_t rec_len, const uint8_t *
 uint64_t chains_search_move(uint32_t *work, size_t work_len, size_t amount);
 
 /*
- * Finishes a search: takes up all that remains, and replies as chains_find does for the record and the pattern at the beginning.
+ * Finishes a search: takes up all that remains, and replies as chains_find, or chains_find_with, does for the record, the pattern and the
+ * windows at the beginning.
  *
  * Value: as with chains_find.
  * Refusals: 26 as with chains_search_move, then 19, whose value is the shortest length. A chain has fewer lines than the search size, so

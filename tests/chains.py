@@ -1,5 +1,5 @@
 #!/usr/bin/env python3
-"""The small program: its data sets and the line that each prints, from the text of document 01 and requests One to Three alone.
+"""The small program: its data sets and the line that each prints, from the text of document 01 and requests One to Three and Seven alone.
 
 Run from the repository's root:
 python3 tests/chains.py write FOLDER    writes crates/chains/data, its stdout, examples/day and tests/data under the folder
@@ -43,6 +43,7 @@ def unread(n): return record(4, (0, 1, 0, 0, 1), (1, 2, 0, 0, 2), *sailed(n))
 
 
 LONG = [1, 4, 0] + line(0, 1, 1, 1, 1) * 4096
+LONGEST = [1, 4, 0] + line(0, 1, 1, 1, 1, 86399) * 4096
 TIMES = [0x25, 0x21, 3] * 31
 # Entered, that boat started, another or the same finished, and roundings of the two.
 TWO_KEEPS = [0x27, 1, 0, 0x25, 0x22, 2, 0, 0x27, 4, 1, 0x26, 0x24, 0x22, 3, 0, 0x22, 3, 1]
@@ -101,9 +102,23 @@ OTHERS = {
     "31 laps and home": (LAPS, question(0, 1, TIMES + [0x21, 4])),
     "4,096 lines": (LONG + [0], question(0, 1, [0x21, 1])),
     "4,096 lines and no end": (LONG, question(0, 1, [0x21, 1])),
-    "40,965 bytes": (LONG + [0, 0], question(0, 1, [0x21, 1])),
-    "40,966 bytes": (LONG + [0, 0, 0], question(0, 1, [0x21, 1])),
-    "60,000 bytes": (LONG + [0] * 19037, question(0, 1, [0x21, 1])),
+    "4,096 lines and a byte after the end": (LONG + [0, 0], question(0, 1, [0x21, 1])),
+    "4,097 lines": (LONG + line(0, 1, 1, 1, 1) + [0], question(0, 1, [0x21, 1])),
+    "4,096 lines and 02": (LONG + [2], question(0, 1, [0x21, 1])),
+    "4,096 lines and 03": (LONG + [3], question(0, 1, [0x21, 1])),
+    "4,096 lines and 04": (LONG + [4], question(0, 1, [0x21, 1])),
+    "4,096 lines with times, 57,348 bytes": (LONGEST + [0], question(0, 1, [0x21, 1])),
+    "4,096 lines with times and no end": (LONGEST, question(0, 1, [0x21, 1])),
+    "4,096 lines with times and 03": (LONGEST + [3], question(0, 1, [0x21, 1])),
+    "57,349 bytes": (LONGEST + [0, 0], question(0, 1, [0x21, 1])),
+    "60,000 bytes": (LONGEST + [0] * 2653, question(0, 1, [0x21, 1])),
+    "70,000 bytes": (LONGEST + [0] * 12653, question(0, 1, [0x21, 1])),
+    "R with times": (record(4, *[(*fields, 100 * i) for i, fields in enumerate(R_LINES)]), question(0, 3, P)),
+    "R with times and without": (record(4, *[(*fields, [None, 86399][i % 2]) for i, fields in enumerate(R_LINES)]), question(0, 3, P)),
+    "a line at 86,400": (record(2, (0, 1, 1, 1, 1, 86400)), question(0, 1, [0x21, 1])),
+    "a line at 86,400, kind 0": (record(2, (0, 0, 1, 1, 1, 86400)), question(0, 1, [0x21, 1])),
+    "a line at 5 without its last byte": (record(2, (0, 1, 1, 1, 1, 5))[:-2], question(0, 1, [0x21, 1])),
+    "04 where a line could stand": ([1, 0, 2, 4] + line(0, 1, 1, 1, 1)[1:] + [0], question(0, 1, [0x21, 1])),
     "62 commands, 126 bytes": (E, question(0, 0, [0x27, 1, 0] + [0x24, 0x22, 1, 0] * 30 + [0x22, 1, 0])),
     "309 bytes, complete after 12": (E, question(0, 0, [0x27, 1, 0] * 3 + [0x22, 1, 0] * 100)),
     "bytes after the end": (E, question(0, 0, [0x20] * 190)),

@@ -1,5 +1,5 @@
-"""The text of document 01 and of requests One to Three as Python, for the tests' expected outputs: reading records and patterns,
-membership clause by clause, questions 1 to 17, 24 and 25 of a request, and the worked records and patterns."""
+"""The text of document 01 and of requests One to Three and Seven as Python, for the tests' expected outputs: reading records and patterns,
+membership clause by clause, the questions of a request up to 17, lines inside windows, and the worked records and patterns."""
 
 TABLE = {0x20: (0, 0), 0x21: (1, 0), 0x22: (2, 0), 0x23: (2, 0), 0x24: (0, 2), 0x25: (0, 2), 0x26: (0, 1), 0x27: (2, 1),
          0x28: (2, 0), 0x29: (2, 0), 0x2A: (2, 1)}
@@ -13,22 +13,30 @@ def ask(answer, number):
     if not answer: raise Refused(number)
 
 
+DAY = 86400
+
+
 def read_record(data):
-    ask(len(data) <= 40964, 1)
+    """The count of places, and each line: from, kind, boat, to, and the time or None."""
+    ask(len(data) <= 57348, 1)
     ask(len(data) >= 3 and data[0] == 1 and 1 <= data[1] * 256 + data[2] <= 1024, 2)
     places, at, lines = data[1] * 256 + data[2], 3, []
     while True:
-        ask(at < len(data) and data[at] in (0, 2), 3)
+        ask(at < len(data) and data[at] in (0, 2, 3), 3)
         if data[at] == 0:
             ask(at == len(data) - 1, 7)
             return places, lines
-        ask(len(data) - at >= 10, 4)
-        b = data[at + 1:at + 10]
-        line = (b[0] * 256 + b[1], b[2], (b[3], (b[4] * 256 + b[5]) * 256 + b[6]), b[7] * 256 + b[8])
+        ask(len(lines) < 4096, 22)
+        width = 10 if data[at] == 2 else 14
+        ask(len(data) - at >= width, 4)
+        b = data[at + 1:at + width]
+        time = None if width == 10 else int.from_bytes(b[9:], "big")
+        line = (b[0] * 256 + b[1], b[2], (b[3], (b[4] * 256 + b[5]) * 256 + b[6]), b[7] * 256 + b[8], time)
         ask(line[0] < places and line[3] < places, 5)
         ask(1 <= line[1] <= 15, 6)
+        ask(time is None or time < DAY, 28)
         lines.append(line)
-        at += 10
+        at += width
 
 
 def read_pattern(data):
@@ -101,19 +109,27 @@ def in_a_row(p, n, word, slots):
     return any(accepts(p, word[:i], slots) and in_a_row(p, n - 1, word[i:], slots) for i in range(len(word) + 1))
 
 
-def asked(day, pattern, a, b, words):
-    """Questions 1 to 17, 24 and 25: the lines and the pattern, or the exception Refused."""
+def inside(line, windows):
+    """Is a line inside the window of its kind? A kind that is not in the dict has the whole day."""
+    opens, closes = windows.get(line[1], (0, DAY))
+    return (opens, closes) == (0, DAY) if line[4] is None else opens <= line[4] < closes
+
+
+def asked(day, pattern, a, b, words, windows={}):
+    """The questions of a request up to 17: the lines and the pattern, or the exception Refused."""
     places, lines = read_record(day)
     p = read_pattern(pattern)
     ask(a < places and b < places, 15)
+    ask(all(opens < closes <= DAY for opens, closes in windows.values()), 27)
     size = places * (unfolded(p) + 1) * (len({line[2] for line in lines}) + 1) ** keeps(p)
     ask(size <= 1048576, 16)
     ask(words >= 4 * size + 8192, 17)
     return lines, p
 
 
-def line(a, kind, boat_class, sail, b):
-    return [2, a >> 8, a & 255, kind, boat_class, sail >> 16, sail >> 8 & 255, sail & 255, b >> 8, b & 255]
+def line(a, kind, boat_class, sail, b, time=None):
+    fields = [a >> 8, a & 255, kind, boat_class, sail >> 16, sail >> 8 & 255, sail & 255, b >> 8, b & 255]
+    return [2] + fields if time is None else [3] + fields + list(time.to_bytes(4, "big"))
 
 
 def record(places, *lines): return [1, places >> 8, places & 255] + sum((line(*fields) for fields in lines), []) + [0]
@@ -153,6 +169,11 @@ def rounds(lowest, highest, pattern): return [0x2A, lowest, highest] + pattern
 def twenties(n, pattern):
     """So many times "twenty times", each in the one before."""
     return [0x2A, 20, 20] * n + pattern
+
+
+# Request Seven. R with a time for each line, from the first second of the day to the last.
+R_TIMES = (0, 1, 5, 36000, 65535, 65536, 86399)
+R_TIMED = record(4, *[fields + (time,) for fields, time in zip(R_LINES, R_TIMES)])
 
 
 def boats_like(kept, other):
@@ -209,15 +230,16 @@ def read_one(todo, kind, boat):
 def frozen(p): return (p[0], tuple(p[1]), tuple(frozen(q) for q in p[2]))
 
 
-def first_shortest(lines, p, a, b):
-    """The first shortest accepted chain from a to b, or None: chains in order of length, and then of line numbers. Of two chains
-    that end at one place with the same left to read, what follows the later one follows the earlier one too."""
+def first_shortest(lines, p, a, b, windows={}):
+    """The first shortest accepted chain of lines inside their windows from a to b, or None: chains in order of length, and then of line
+    numbers. Of two chains that end at one place with the same left to read, what follows the later one follows the earlier one too."""
     start = (a, frozenset(heads(((frozen(p), ()),))))
     waiting, met = [(start, [])], {start}
     for (place, lists), chain in waiting:
         if place == b and () in lists: return chain
-        for i, (come, kind, boat, go) in enumerate(lines):
-            if come != place: continue
+        for i, line in enumerate(lines):
+            come, kind, boat, go, _ = line
+            if come != place or not inside(line, windows): continue
             after = frozenset(h for t in lists if t for left in [read_one(t, kind, boat)] if left is not None for h in heads(left))
             if after and (go, after) not in met:
                 met.add((go, after))
@@ -225,13 +247,13 @@ def first_shortest(lines, p, a, b):
     return None
 
 
-def find(day, pattern, a, b, words, room):
+def find(day, pattern, a, b, words, room, windows={}):
     """The finder: the reply as a pair of a word and a number, and the chain."""
     try:
-        lines, p = asked(day, pattern, a, b, words)
+        lines, p = asked(day, pattern, a, b, words, windows)
     except Refused as refused:
         return "refused", refused.args[0], []
-    chain = first_shortest(lines, p, a, b)
+    chain = first_shortest(lines, p, a, b, windows)
     if chain is None: return "none", 0, []
     if len(chain) > room: return "refused", 19, chain
     return "found", len(chain), chain

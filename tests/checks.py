@@ -1,9 +1,9 @@
 #!/usr/bin/env python3
-"""Rows about the checker and what they make crates/rows write, from the text of document 01 and requests One to Three alone: questions 1 to
-18, 24 and 25, and membership clause by clause.
+"""Rows about the checker and what they make crates/rows write, from the text of document 01 and requests One to Three and Seven alone: questions 1
+to 18, 22, 24, 25 and 28, and membership clause by clause.
 
 Run from the repository's root: python3 tests/checks.py FOLDER writes FOLDER/checks.bin and prints a part of crates/rows/stdout."""
-from chains01 import (A, B, C, D, E, F, LAP, P, R, S, T, THEN_ANY, THEN_FOREIGN, THEN_OTHER, THEN_SAME, THEN_SISTER, Refused, accepts, asked,
+from chains01 import (A, B, C, D, E, F, LAP, P, R, R_TIMED, S, T, THEN_ANY, THEN_FOREIGN, THEN_OTHER, THEN_SAME, THEN_SISTER, Refused, accepts, asked,
                       boats_like, record, rounds, twenties)
 from table import Table, long, short
 
@@ -123,4 +123,18 @@ row("25, a byte more", R, twenties(40, LAP) + [0x20], 9, 9, [9])
 # The size is 7 for two to five laps of one place, and by keeps as written: 2 × 2 where no round may come.
 for words in (8219, 8220): row("two to five laps, %d words" % words, F, rounds(2, 5, LAP), 0, 0, [0, 0], words)
 for words in (8207, 8208): row("no rounds of a keep, %d words" % words, F, rounds(0, 0, [0x27, 3, 0, 0x20]), 0, 0, [], words)
+
+# ---- request Seven: a line may have a time; without windows it is inside at any
+for chain in ([1, 2, 5], [0, 2, 5], [0, 3, 4, 4, 6]): row("R timed, P, %s" % " ".join(map(str, chain)), R_TIMED, P, 0, 3, chain)
+row("R timed, line 7", R_TIMED, P, 0, 3, [7])
+row("R timed, one word short", R_TIMED, P, 0, 3, [1, 2, 5], 8703)
+MIXED = record(2, (0, 1, 1, 1, 1, 86399), (1, 2, 1, 1, 0), (0, 2, 1, 1, 1, 0))
+for chain in ([0, 1, 2], [0, 1], [2, 1], [1]): row("timed and not: %s" % " ".join(map(str, chain)), MIXED, [0x26, 0x24, 0x21, 1, 0x21, 2], 0, 1, chain)
+row("time 86,400", record(2, (0, 1, 1, 1, 1, 86400)), [0x21, 1], 0, 1, [0])
+row("time 86,400, kind 0", record(2, (0, 0, 1, 1, 1, 86400)), [0x21, 1], 0, 1, [0])
+row("time 86,400, from out", record(2, (2, 1, 1, 1, 1, 86400)), [0x21, 1], 0, 1, [0])
+row("time 86,400 and no pattern", record(2, (0, 1, 1, 1, 1, 86400)), [], 9, 9, [9], 0)
+row("13 bytes of a timed line", MIXED[:16], [0x21, 1], 0, 1, [0])
+row("a time and no end", MIXED[:17], [0x21, 1], 0, 1, [0])
+row("byte 04", [1, 0, 1, 4], [0x20], 0, 0, [])
 table.write()

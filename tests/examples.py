@@ -11,7 +11,7 @@ import subprocess
 import sys
 import tempfile
 from chains import put, question, said
-from chains01 import read_record, record
+from chains01 import find, read_record, record
 
 KINDS = {1: "entered", 2: "started", 3: "rounded", 4: "finished", 5: "retired"}
 
@@ -21,6 +21,8 @@ ONCE = [0x27, 1, 0, 0x25, 0x22, 2, 0, 0x25, 0x22, 3, 0, 0x22, 4, 0]
 TWICE = [0x27, 1, 0, 0x25, 0x22, 2, 0, 0x25, 0x22, 3, 0, 0x25, 0x22, 3, 0, 0x22, 4, 0]
 # The same with two to five roundings.
 COUNTED = [0x27, 1, 0, 0x25, 0x22, 2, 0, 0x25, 0x2A, 2, 5, 0x22, 3, 0, 0x22, 4, 0]
+# The boat of the entered line, then that boat started and finished.
+HOME = [0x27, 1, 0, 0x25, 0x22, 2, 0, 0x22, 4, 0]
 # Entered, started, rounded, finished, of any boats.
 ANY = [0x25, 0x21, 1, 0x25, 0x21, 2, 0x25, 0x21, 3, 0x21, 4]
 
@@ -30,6 +32,8 @@ SLIPS = [(0, 1, 1, 150, 3), (1, 1, 2, 150, 3), (2, 1, 1, 151, 3), (3, 2, 2, 150,
 # Places: 0 desk, 1 start, 2 first lap, 3 second lap, 4 last leg, 5 hut.
 LEGS = [(0, 1, 1, 7, 1), (0, 1, 1, 9, 1), (1, 2, 1, 7, 2), (1, 2, 1, 9, 2), (2, 3, 1, 7, 3), (2, 3, 1, 9, 3), (3, 4, 1, 7, 5),
         (3, 3, 1, 9, 4), (4, 4, 1, 9, 5)]
+# Places: 0 desk, 1 start, 2 course, 3 hut. The last field is the time, where there is one.
+LIMIT = [(0, 1, 1, 7, 1), (0, 1, 1, 9, 1), (1, 2, 1, 7, 2, 36000), (1, 2, 1, 9, 2, 36000), (2, 4, 1, 9, 3, 53400), (2, 4, 1, 7, 3, 54000)]
 # The same day with one place for the whole course: 0 desk, 1 start, 2 course, 3 hut.
 COURSE = [(min(a, 2), kind, boat_class, sail, 3 if b == 5 else min(b, 2)) for a, kind, boat_class, sail, b in LEGS]
 
@@ -44,7 +48,10 @@ EXAMPLES = {
     "laps": (6, LEGS, 0, 5, TWICE),
     "laps_one_place": (4, COURSE, 0, 3, TWICE),
     "laps_counted": (6, LEGS, 0, 5, COUNTED),
+    "time_limit": (4, LIMIT, 0, 3, HOME),
 }
+# What README says of the time limit: the windows, and the answer with them.
+WINDOWED = [({4: (0, 54000)}, "found 3: 1 3 4"), ({4: (0, 54001)}, "found 3: 0 2 5"), ({2: (36001, 86400)}, "none"), ({1: (0, 43200)}, "none")]
 
 
 def files(name):
@@ -86,6 +93,21 @@ def hexadecimal(data): return " ".join("%02X" % byte for byte in data)
 def rows(lines): return ["| %d | %d | %d %s | %d-%d | %d |" % (i, a, kind, KINDS[kind], c, sail, b) for i, (a, kind, c, sail, b) in enumerate(lines)]
 
 
+def clock(time): return "%d:%02d:%02d" % (time // 3600, time // 60 % 60, time % 60)
+
+
+def timed_rows(lines):
+    """The rows of lines with a time or without: the seconds, and the hour that they are."""
+    times = ["%s (%s)" % (format(line[5], ","), clock(line[5])) if line[5:] else "" for line in lines]
+    return [row + (" %s |" % time if time else " |") for row, time in zip(rows([line[:5] for line in lines]), times)]
+
+
+def said_with(day, ask, windows):
+    """What the finder says of a question with windows, as the program would print it."""
+    word, n, chain = find(day, ask[4:], ask[0] * 256 + ask[1], ask[2] * 256 + ask[3], 16384, 2048, windows)
+    return "%s %d: %s" % (word, n, " ".join(map(str, chain))) if word == "found" else word
+
+
 def run():
     failed = []
 
@@ -101,9 +123,10 @@ def run():
             "./chains " + folder in row and row.endswith("prints: " + expected.strip()) for row in readme.splitlines()))
     for name in ("one_boat", "laps", "laps_one_place"):
         expect("README shows the lines of " + name, "\n".join(rows(EXAMPLES[name][1])) in readme)
+    expect("README shows the lines of time_limit", "\n".join(timed_rows(LIMIT)) in readme)
     by_slip = "".join("    " + row for row in read("examples/one_boat/by_slip.txt").decode().splitlines(True))
     expect("README shows by_slip.txt", by_slip in readme)
-    for pattern in (ONCE, TWICE, COUNTED, ANY): expect("README shows " + hexadecimal(pattern), "`%s`" % hexadecimal(pattern) in readme)
+    for pattern in (ONCE, TWICE, COUNTED, ANY, HOME): expect("README shows " + hexadecimal(pattern), "`%s`" % hexadecimal(pattern) in readme)
 
     # Each boat, from its own slip and by a record of its own lines: the same lines of the day.
     day, _ = files("one_boat")
@@ -121,6 +144,17 @@ def run():
         counted = COUNTED[:9] + [lowest, highest] + COUNTED[11:]
         expect("%d to %d laps: %s" % (lowest, highest, line), printed_of(record(6, *LEGS), question(0, 5, counted)) == line + "\n")
         expect("README says %02X %02X and %s" % (lowest, highest, line), re.search("`%02X %02X`[^.]*`%s`" % (lowest, highest, line), readme))
+
+    # The time limit: README names each window by its seconds, and then what the answer is.
+    for windows, line in WINDOWED:
+        ((kind, (opens, closes)),) = windows.items()
+        expect("windows %s: %s" % (windows, line), said_with(*files("time_limit"), windows) == line)
+        window = "%s to %s" % (format(opens, ","), format(closes, ","))
+        expect("README says %s of kind %d and %s" % (window, kind, line), "| %d %s | %s | `%s` |" % (kind, KINDS[kind], window, line) in readme)
+    # What README shows of C stands in the test that is compiled.
+    shown = re.search(r"```c\n(.*?)```", readme, re.S)[1]
+    tested = re.sub(r"\s+", " ", read("tests/c/chains_test.c").decode())
+    for part in shown.split("\n\n")[0].splitlines(): expect("the C test has " + part.strip(), re.sub(r"\s+", " ", part.strip()) in tested)
 
     # A changed byte: line 5 of the worked day, the low byte of its sail number.
     day, ask = bytearray(read("examples/day/day.rec")), read("examples/day/ask.pat")

@@ -1,10 +1,10 @@
 #!/usr/bin/env python3
-"""Rows about the finder and what they make crates/rows write, from the text of document 01 and requests One to Three alone: 01's table, the
+"""Rows about the finder and what they make crates/rows write, from the text of document 01 and requests One to Three and Seven alone: 01's table, the
 misreadings that they shut out, and requests at the edge of each question.
 
 Run from the repository's root: python3 tests/finds.py FOLDER writes FOLDER/finds.bin and prints a part of crates/rows/stdout."""
 from itertools import permutations
-from chains01 import (A, B, C, D, E, F, G, LAP, P, R, R_LINES, S, T, THEN_ANY, THEN_FOREIGN, THEN_OTHER, THEN_SAME, THEN_SISTER, boats_like, find,
+from chains01 import (A, B, C, D, E, F, G, LAP, P, R, R_LINES, R_TIMED, S, T, THEN_ANY, THEN_FOREIGN, THEN_OTHER, THEN_SAME, THEN_SISTER, boats_like, find,
                       line, record, rounds, twenties)
 from table import Table, long, short
 
@@ -158,9 +158,10 @@ row("25 and no place", E, twenties(40, LAP), 9, 9, 0)
 row("24 after the record", E[:-1], rounds(1, 0, LAP))
 
 # ---- the record's questions
-row("40,965 bytes", [1, 4, 0] + line(0, 1, 1, 1, 1) * 4096 + [0, 0], [0x20])
+row("4,097 lines", [1, 4, 0] + line(0, 1, 1, 1, 1) * 4097 + [0], [0x20])
 row("record empty", [], [0x20])
 row("byte 03", [1, 0, 1, 3], [0x20])
+row("byte 04", [1, 0, 1, 4], [0x20])
 row("operand missing", R[:12], P, 0, 3)
 row("no end", R[:-1], P, 0, 3)
 row("from out", record(4, (4, 1, 1, 1, 0)), P, 0, 3)
@@ -169,6 +170,11 @@ row("kind 0", record(4, (0, 0, 1, 1, 0)), P, 0, 3)
 row("kind 15", record(4, (0, 15, 1, 1, 0)), [0x21, 15])
 row("kind 16", record(4, (0, 16, 1, 1, 0)), P, 0, 3)
 row("byte after the end", R + [0], P, 0, 3)
+row("time 86,399", record(1, (0, 1, 1, 1, 0, 86399)), [0x21, 1])
+row("time 86,400", record(1, (0, 1, 1, 1, 0, 86400)), [0x21, 1])
+row("time 86,400, kind 0", record(1, (0, 0, 1, 1, 0, 86400)), [0x21, 1])
+row("13 bytes of a timed line", record(1, (0, 1, 1, 1, 0, 5))[:16], [0x21, 1])
+row("R timed, P", R_TIMED, P, 0, 3)
 
 # ---- the pattern's questions
 row("pattern 28", E, [0x28])

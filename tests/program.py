@@ -152,7 +152,7 @@ class Answered(Case):
 
     def test_every_refusal_in_words(self):
         tree = Tree.of(self)
-        self.assertEqual([str(i + 1) for i in range(26)], list(sentences()))
+        self.assertEqual([str(i + 1) for i in range(28)], list(sentences()))
         for number, sentence in sentences().items():
             tree.says("echo refused " + number)
             self.assertEqual((0, "refused %s\n" % number, sentence + "\n"), tree.built())
@@ -482,6 +482,14 @@ class Example(Case):
         status, said, more = self.run_in(self.command, ROOT + "/tests/data/damaged")
         self.assertEqual((0, "refused 3\n"), (status, said))
         self.assertRegex(more, r"\Aworked_day(\.py)?: %s\n\Z" % re.escape(sentences()["3"]))
+
+    def test_lines_with_a_time(self):
+        status, said, more = self.run_in(self.command, ROOT + "/examples/time_limit")
+        self.assertEqual((0, ""), (status, more))
+        self.assertEqual("found 3: 0 2 5\n"
+                         "line 0: from 0, kind 1, class 1, sail number 7, to 1\n"
+                         "line 2: from 1, kind 2, class 1, sail number 7, to 2, time 36000\n"
+                         "line 5: from 2, kind 4, class 1, sail number 7, to 3, time 54000\n", said)
 
     def test_an_answer_that_cannot_be_written(self):
         with open("/dev/full", "w") as full:

@@ -30,9 +30,9 @@ def day_of(places, lines):
 
 
 class Asking(unittest.TestCase):
-    def refused(self, number, call, *given):
+    def refused(self, number, call, *given, **options):
         with self.assertRaises(chains.Refused) as caught:
-            call(*given)
+            call(*given, **options)
         self.assertEqual((caught.exception.number, caught.exception.value), (number, 0))
         self.assertEqual(str(caught.exception), chains.SENTENCES[number - 1])
 
@@ -63,7 +63,7 @@ class Records(Asking):
             self.refused(number, chains.add, day, *line)
         self.assertEqual(day, chains.begin(2))
         self.refused(2, chains.begin, 0)
-        for number, damaged in ((1, bytes(40965)), (2, b""), (3, day[:3]), (4, day[:3] + b"\2"), (7, day + b"\0")):
+        for number, damaged in ((1, bytes(57349)), (2, b""), (3, day[:3]), (4, day[:3] + b"\2"), (7, day + b"\0")):
             self.refused(number, chains.lines, damaged)
             self.refused(number, chains.words, damaged, NOTHING)
 
@@ -78,11 +78,115 @@ class Records(Asking):
         for sails, different, reads in (([7] * 4096, 1, 4095), (range(4096), 4096, 8386560)):
             day = b"\x01\x00\x01" + b"".join(line % sail.to_bytes(3, "big") for sail in sails) + b"\x00"
             self.assertEqual(chains.boats(day), (different, reads))
-            self.refused(1, chains.boats, day + b"\x00")
+            self.refused(7, chains.boats, day + b"\x00")
         day = day_of(1, [(0, 1, *a, 0)])
-        for number, damaged in ((1, bytes(40965)), (2, b""), (3, day[:3]), (4, day[:5]), (5, day[:5] + b"\1" + day[6:]), (6, day[:6] + b"\0" + day[7:]),
+        for number, damaged in ((1, bytes(57349)), (2, b""), (3, day[:3]), (4, day[:5]), (5, day[:5] + b"\1" + day[6:]), (6, day[:6] + b"\0" + day[7:]),
                                 (7, day + b"\0")):
             self.refused(number, chains.boats, damaged)
+
+
+class Times(Asking):
+    def test_bytes(self):
+        day = day_of(2, [(1, 15, 255, 0x010203, 0, 86399), (0, 1, 1, 1, 1), (0, 1, 1, 1, 1, 0)])
+        self.assertEqual(day, bytes.fromhex("010002 03 0001 0f ff 010203 0000 0001517f 02 0000 01 01 000001 0001 03 0000 01 01 000001 0001 00000000 00"))
+
+    def test_lines(self):
+        given = [(1, 15, 255, 0x010203, 0, 86399), (0, 1, 1, 1, 1), (0, 1, 1, 1, 1, 0)]
+        day = day_of(2, given)
+        read = chains.lines(day)
+        self.assertEqual(read, given)
+        self.assertEqual([line.time for line in read], [86399, None, 0])
+        self.assertEqual([type(line) for line in read], [chains.TimedLine, chains.Line, chains.TimedLine])
+        self.assertEqual((read[0].sail, read[1].sail, read[0].to), (0x010203, 1, 0))
+        self.assertNotEqual(read[1], read[2])
+        self.assertEqual(day_of(2, read), day)
+        chains.add(day, from_=0, kind=4, class_=1, sail=7, to=1, time=5)
+        self.assertEqual(chains.lines(day)[3], chains.TimedLine(0, 4, 1, 7, 1, 5))
+
+    def test_refused(self):
+        day = chains.begin(2)
+        for number, line in ((5, (2, 0, 1, 1 << 24, 0, 86400)), (6, (0, 0, 1, 1 << 24, 0, 86400)), (28, (0, 1, 1, 1 << 24, 0, 86400)),
+                             (28, (0, 1, 1, 1, 0, 2 ** 32 - 1)), (21, (0, 1, 1, 1 << 24, 0, 86399))):
+            self.refused(number, chains.add, day, *line)
+        self.assertEqual(day, chains.begin(2))
+        timed = bytes(day_of(2, [(0, 1, 1, 1, 1, 5)]))
+        late = timed[:13] + b"\1" + timed[14:]
+        for number, damaged in ((4, timed[:16]), (4, timed[:13]), (3, timed[:17]), (7, timed + b"\0"), (28, late), (28, late + b"\0"),
+                                (6, late[:6] + b"\0" + late[7:]), (3, timed[:3] + b"\4" + timed[4:])):
+            for call in (chains.lines, chains.boats): self.refused(number, call, damaged)
+            for call in (chains.words, chains.search_words): self.refused(number, call, damaged, b"")
+            self.refused(number, chains.find, damaged, b"", 9, 9, windows={1: (5, 5)})
+
+    def test_full(self):
+        line, timed = b"\x02\x00\x00\x01\x01\x00\x00\x01\x00\x00", b"\x03\x00\x00\x01\x01\x00\x00\x01\x00\x00\x00\x00\x00\x05"
+        day = bytearray(b"\x01\x00\x01" + timed * 4095 + b"\x00")
+        chains.add(day, 0, 1, 1, 1, 0, time=86399)
+        self.assertEqual((len(day), chains.boats(day)), (57348, (1, 4095)))
+        for time in (None, 5): self.refused(22, chains.add, day, 0, 1, 1, 1, 0, time)
+        self.refused(1, chains.boats, day + b"\x00")
+        for number, end in ((22, b"\x02"), (22, b"\x03"), (3, b"\x04")): self.refused(number, chains.boats, day[:-1] + end)
+        for lines in (line * 4097, line * 4 + timed * 4093): self.refused(22, chains.boats, b"\x01\x00\x01" + lines + b"\x00")
+
+
+class Windows(Asking):
+    def one_line(self, day, kind, windows, inside):
+        """Found or none, one line being asked for from place 0 to place 1 in every way."""
+        pattern, chain = bytes((0x21, kind)), [0] if inside else None
+        self.assertEqual(chains.find(day, pattern, 0, 1, windows=windows), chain)
+        self.assertIs(chains.check(day, pattern, 0, 1, [0], windows=windows), inside)
+        self.assertEqual(chains.starts(day, pattern, [0, 1], 1, windows=windows), [1 if inside else None, None])
+        search = chains.Search(day, pattern, 0, 1, windows=windows)
+        self.assertEqual(search.move(1), 1)
+        self.assertEqual(search.finish(), chain)
+
+    def test_seconds(self):
+        for time, window, inside in ((5, (5, 6), True), (5, (0, 5), False), (5, (6, 7), False), (5, (0, 86400), True), (0, (0, 1), True), (0, (1, 9), False),
+                                     (86399, (86399, 86400), True), (86399, (0, 86399), False), (None, (0, 86400), True), (None, (0, 86399), False),
+                                     (None, (1, 86400), False)):
+            for kind in range(1, 16):
+                day = day_of(2, [(0, kind, 1, 1, 1, time)])
+                self.one_line(day, kind, {kind: window}, inside)
+                others = {other: (6, 7) for other in range(1, 16) if other != kind}
+                self.one_line(day, kind, others, True)
+                self.one_line(day, kind, {**others, kind: window}, inside)
+                for none in (None, {}): self.one_line(day, kind, none, True)
+
+    def test_lines_outside(self):
+        lines = [(*line, 100 * number) for number, line in enumerate(LINES + [(2, 4, 1, 150, 3)], 1)]
+        day, low, high = day_of(4, lines), [1, 2, 5], [0, 3, 7]
+        for windows, first, second in (({}, True, True), ({4: (0, 800)}, True, False), ({4: (601, 86400)}, False, True), ({4: (700, 800)}, False, False),
+                                       ({2: (0, 400)}, True, False), ({2: (400, 401)}, False, True), ({1: (200, 300), 2: (0, 400)}, True, False),
+                                       ({1: (200, 300), 2: (400, 401)}, False, False), ({3: (0, 1)}, True, True)):
+            chain = high if second else low if first else None
+            self.assertEqual(chains.find(day, P, 0, 3, windows=windows), chain)
+            self.assertEqual([chains.check(day, P, 0, 3, given, windows=windows) for given in (low, high)], [first, second])
+            self.refused(18, chains.check, day, P, 0, 3, [7, 5, 8], windows=windows)
+            self.assertEqual(chains.starts(day, P, [0, 1], 3, windows=windows), [chain and 3, None])
+            later = bytearray(day)
+            search = chains.Search(later, P, 0, 3, windows=windows)
+            chains.add(later, 0, 1, 2, 150, 1, 5)
+            self.assertEqual(search.finish(), chain)
+        self.assertEqual((chains.words(day, P), chains.search_words(day, P)), (8704, 8704 + 3 * 8))
+
+    def test_refused(self):
+        day, many = day_of(4, LINES), day_of(1024, [(0, 1, 1, boat, 0, 5) for boat in range(64)])
+        large = bytes.fromhex("270100") + b"\x26" * 13 + b"\x21\x01"
+        for kind in range(1, 16):
+            for window in ((5, 5), (6, 5), (0, 86401), (86400, 86400), (2 ** 32 - 1, 0)):
+                wrong = {"windows": {kind: window}}
+                self.refused(27, chains.find, day, P, 0, 3, **wrong)
+                self.refused(27, chains.check, day, P, 0, 3, [9], **wrong)
+                self.refused(27, chains.starts, day, P, [], 3, **wrong)
+                self.refused(27, chains.Search, day, P, 0, 3, **wrong)
+        for number, to, pattern, window in ((15, 1024, large, (5, 5)), (27, 0, large, (5, 5)), (16, 0, large, (6, 7)), (8, 1024, b"", (5, 5))):
+            for call in (chains.find, chains.Search): self.refused(number, call, many, pattern, 0, to, windows={1: window})
+
+    def test_windows_that_are_none(self):
+        day = chains.begin(2)
+        for kind in (0, 16, -1, "4"):
+            with self.assertRaises(ValueError): chains.find(day, NOTHING, 0, 0, windows={kind: (0, 1)})
+        for window in ((-1, 5), (0, 1 << 32)):
+            with self.assertRaises(OverflowError): chains.find(day, NOTHING, 0, 0, windows={1: window})
 
 
 class Requests(Asking):
@@ -272,7 +376,8 @@ class Module(unittest.TestCase):
         search = chains.Search(day, NOTHING, 0, 0)
         for call, given in ((chains.begin, (65537,)), (chains.begin, (-1,)), (chains.add, (day, 65536, 1, 1, 1, 0)),
                             (chains.add, (day, 0, 257, 1, 1, 0)), (chains.add, (day, 0, 1, 256, 1, 0)),
-                            (chains.add, (day, 0, 1, 1, 1 << 32, 0)), (chains.find, (day, NOTHING, 65536, 0)),
+                            (chains.add, (day, 0, 1, 1, 1 << 32, 0)), (chains.add, (day, 0, 1, 1, 1, 0, 1 << 32)),
+                            (chains.add, (day, 0, 1, 1, 1, 0, -1)), (chains.find, (day, NOTHING, 65536, 0)),
                             (chains.check, (day, NOTHING, 0, 0, [65536])), (chains.check, (day, NOTHING, 0, 0, [-1])),
                             (chains.starts, (day, NOTHING, [0, 65536], 0)), (chains.starts, (day, NOTHING, [-1], 0)),
                             (chains.starts, (day, NOTHING, [0], 65536)), (chains.starts, (day, NOTHING, [], -1)),
@@ -288,7 +393,7 @@ class Module(unittest.TestCase):
 
     def test_readme(self):
         """README's programs print what their comments say."""
-        first, many, second = re.findall(r"```python\n(.*?)```", (HOME / "README.md").read_text(), re.S)
+        first, many, second, limit = re.findall(r"```python\n(.*?)```", (HOME / "README.md").read_text(), re.S)
         said = re.findall(r"# (\[0\]|True|\(1, 0\))", first)
         self.assertEqual(len(said), 3)
         self.printed(first, [chains.Line(0, 1, 2, 150, 1)], *map(eval, said))
@@ -298,6 +403,9 @@ class Module(unittest.TestCase):
         said = re.findall(r"print.*# (\[.*?\])", second)
         self.assertEqual(said, ["[1, 2, 5]", "[0, 3, 7]"])
         self.printed(second, *map(eval, said))
+        said = re.findall(r"print.*# (\[.*?\]|\w+)", limit)
+        self.assertEqual(said, ["[0, 2, 5]", "[1, 3, 4]", "False", "54000"])
+        self.printed(limit, *said)
 
     def printed(self, program, *lines):
         ran = subprocess.run([sys.executable, "-c", program], capture_output=True, text=True, env=FOUND, cwd=HOME)

@@ -1,9 +1,9 @@
 #!/usr/bin/env python3
-"""Rows about records and what they make crates/rows write, from document 01's text alone ("The day's record", questions 1 to 7 and 18
-to 23).
+"""Rows about records and what they make crates/rows write, from the text of document 01 ("The day's record", questions 1 to 7 and 18
+to 23) and of request Seven (timed lines, questions 1, 3, 22 and 28) alone.
 
 Run from the repository's root: python3 tests/records.py FOLDER writes FOLDER/records.bin and prints a part of crates/rows/stdout."""
-from chains01 import Refused, read_record
+from chains01 import Refused, line as bytes_of, read_record, record
 from table import Table, byte, field, long, short
 
 table, BUFFER = Table("records"), 65536
@@ -12,17 +12,12 @@ NEW = [2, 0, 1, 15, 7, 1, 2, 3, 0, 0]
 
 
 def read(data):
-    """The number of the first question that fails, or the count of places and the lines."""
+    """The number of the first question that fails, or the count of places and the lines: five numbers each, or six with a time."""
     try:
         places, lines = read_record(data)
     except Refused as refused:
         return refused.args[0]
-    return places, [(a, kind, boat[0], boat[1], b) for a, kind, boat, b in lines]
-
-
-def bytes_of(line):
-    f, kind, boat_class, sail, t = line
-    return [2, f >> 8, f & 255, kind, boat_class, sail >> 16, sail >> 8 & 255, sail & 255, t >> 8, t & 255, 0]
+    return places, [(a, kind, *boat, b) if time is None else (a, kind, *boat, b, time) for a, kind, boat, b, time in lines]
 
 
 def begin(buf, room, places):
@@ -41,7 +36,7 @@ def add(buf, room, length, line):
     if line[3] >= 1 << 24: return "refused 21"
     if len(day[1]) >= 4096: return "refused 22"
     if length + 10 > room: return "refused 23"
-    buf[length - 1:length + 10] = bytes_of(line)
+    buf[length - 1:length + 10] = bytes_of(*line) + [0]
     return "length %d" % (length + 10)
 
 
@@ -68,7 +63,7 @@ class Buffer(list):
     def grow(self, name, room, length, new):
         """Made lines, added one after the other: each is good, and there is room. The length then."""
         fields = b"".join(field(ten_bytes(a)) for a in new)
-        for i, a in enumerate(new): self[length - 1 + 10 * i:length + 10 + 10 * i] = bytes_of(a)
+        for i, a in enumerate(new): self[length - 1 + 10 * i:length + 10 + 10 * i] = bytes_of(*a) + [0]
         after = length + 10 * len(new)
         table.row("%s: %d\n" % (name, after), byte(6), name + ": ", long(room), long(length), fields)
         return after
@@ -81,7 +76,8 @@ def line(data, i):
     day = read(data)
     if isinstance(day, int): return "refused %d" % day
     if i >= len(day[1]): return "refused 18"
-    return "line " + " ".join(map(str, day[1][i]))
+    numbers = day[1][i]
+    return ("timed line " if len(numbers) == 6 else "line ") + " ".join(map(str, numbers))
 
 
 def given(name, data, i): table.row("%s: %s\n" % (name, line(data, i)), byte(0), name + ": ", long(0), short(i), data)
@@ -100,6 +96,7 @@ def heads():
     given("places twice", [1, 0, 1, 1, 0, 1, 0], 0)
     given("byte after the end", [1, 0, 1, 0, 0], 0)
     given("byte 03", [1, 0, 1, 3], 0)
+    given("byte 04", [1, 0, 1, 4], 0)
 
 
 def lines():
@@ -117,6 +114,28 @@ def lines():
     given("kind 16", with_bytes(b3=16), 0)
     given("kind of line 0 before places of line 1", with_bytes(b3=0)[:-1] + with_bytes(b2=9, b3=1)[3:], 0)
     given("line 0 of a record that fails later", with_bytes(b3=1)[:-1] + with_bytes(b2=0, b3=16)[3:], 0)
+
+
+def timed_lines():
+    late = record(2, (1, 15, 7, 66051, 0, 86399))
+    given("a timed line", late, 0)
+    given("no line 1 after a timed one", late, 1)
+    for n in (1, 9, 10, 13): given("%d bytes of a timed line" % n, late[:3 + n], 0)
+    given("a timed line and no end", late[:-1], 0)
+    given("13 bytes of a timed line, then the end", late[:16] + [0], 0)
+    given("a timed line, byte after the end", late + [0], 0)
+    for time in (0, 1, 255, 256, 65535, 65536, 86398, 86399, 86400, 86401, 131072, 16777216, 4294967295):
+        given("time %d" % time, record(1, (0, 1, 1, 1, 0, time)), 0)
+    given("time 86,400, kind 0", record(1, (0, 0, 1, 1, 0, 86400)), 0)
+    given("time 86,400, from out", record(1, (1, 1, 1, 1, 0, 86400)), 0)
+    given("time 86,400, to out, kind 16", record(1, (0, 16, 1, 1, 1, 86400)), 0)
+    given("time 86,400, cut", record(1, (0, 1, 1, 1, 0, 4294967295))[:16], 0)
+    given("time of line 0 before places of line 1", record(1, (0, 1, 1, 1, 0, 86400), (1, 1, 1, 1, 0)), 0)
+    given("places of line 0 before time of line 1", record(1, (1, 1, 1, 1, 0), (0, 1, 1, 1, 0, 86400)), 0)
+    given("line 0 of a record that is late later", record(1, (0, 1, 1, 1, 0), (0, 1, 1, 1, 0, 86400)), 0)
+    # Lines of both widths one after the other, and bytes of lines that look like commands.
+    mixed = record(772, (0, 1, 1, 1, 0, 5), (1, 2, 2, 2, 2), (2, 3, 3, 197379, 771), (3, 3, 3, 3, 3, 0), (4, 4, 4, 4, 4, 66051), (5, 5, 5, 5, 5))
+    for i in range(7): given("line %d of six, timed and not" % i, mixed, i)
 
 
 def begins(buf):
@@ -171,10 +190,19 @@ def full(buf):
     buf.add("one line more, no room", 40964, 40964, nth(0))
     buf.add("one line more, bad sail number", 40980, 40964, (0, 1, 1, 16777216, 0))
     buf.nines("bytes left as they were", 40980, 40964)
-    buf.fill(40964, 40963, 2)
-    buf.line("02 as byte 40,964", 40964, 0)
-    buf.line("40,965 bytes", 40965, 0)
-    buf.add("40,965 bytes to add to", 40980, 40965, nth(0))
+    for command in (2, 3):
+        buf.fill(40964, 40963, command)
+        buf.line("4,096 lines and then 0%d" % command, 40964, 0)
+        buf.line("4,096 lines, 0%d and another byte" % command, 40965, 0)
+    buf.add("4,096 lines and then 03 to add to", 40980, 40964, (9999, 0, 1, 16777216, 0))
+    buf.fill(40964, 40963, 4)
+    buf.line("4,096 lines and then 04", 40964, 0)
+    buf.fill(57360, 40963, 0)
+    buf.line("4,096 lines and two ends", 40965, 0)
+    buf.line("57,348 bytes", 57348, 0)
+    buf.line("57,349 bytes", 57349, 0)
+    buf.add("57,348 bytes to add to", 57360, 57348, nth(0))
+    buf.add("57,349 bytes to add to", 57360, 57349, nth(0))
 
 
 def unread(buf):
@@ -186,6 +214,7 @@ def unread(buf):
 
 heads()
 lines()
+timed_lines()
 buffer = Buffer([0] * BUFFER)
 begins(buffer)
 adds(buffer)

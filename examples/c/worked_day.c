@@ -89,11 +89,16 @@ static void print_chain(struct bytes day, const uint16_t *chain, size_t length)
     }
     putchar('\n');
     for (size_t i = 0; i < length; i++) {
-        uint32_t field[CHAINS_FIELDS];
-        if (chains_written(chains_read(day.at, day.count, chain[i], field, CHAINS_FIELDS))) {
-            printf("line %u: from %u, kind %u, class %u, sail number %u, to %u\n", (unsigned)chain[i],
+        uint32_t field[CHAINS_TIMED_FIELDS];
+        uint64_t reply = chains_read(day.at, day.count, chain[i], field, CHAINS_TIMED_FIELDS);
+        if (chains_written(reply)) {
+            printf("line %u: from %u, kind %u, class %u, sail number %u, to %u", (unsigned)chain[i],
                    (unsigned)field[CHAINS_FIELD_FROM], (unsigned)field[CHAINS_FIELD_KIND], (unsigned)field[CHAINS_FIELD_CLASS],
                    (unsigned)field[CHAINS_FIELD_SAIL], (unsigned)field[CHAINS_FIELD_TO]);
+            if (chains_timed(reply)) {
+                printf(", time %u", (unsigned)field[CHAINS_FIELD_TIME]);
+            }
+            putchar('\n');
         }
     }
 }

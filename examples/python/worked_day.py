@@ -28,6 +28,12 @@ def read_file(folder, name):
         fail(UNREADABLE, f"{name} cannot be read: {error.strerror}")
 
 
+def in_words(line):
+    """A line's fields, and its time where it has one."""
+    said = f"from {line.from_}, kind {line.kind}, class {line.class_}, sail number {line.sail}, to {line.to}"
+    return said if line.time is None else f"{said}, time {line.time}"
+
+
 def answer(day, ask):
     """The lines to print."""
     if len(ask) < 4:
@@ -41,9 +47,7 @@ def answer(day, ask):
     if chain is None:
         return ["none"]
     lines = chains.lines(day)
-    return [" ".join([f"found {len(chain)}:", *map(str, chain)])] + [
-        "line {}: from {}, kind {}, class {}, sail number {}, to {}".format(number, *lines[number]) for number in chain
-    ]
+    return [" ".join([f"found {len(chain)}:", *map(str, chain)])] + [f"line {number}: {in_words(lines[number])}" for number in chain]
 
 
 def main():

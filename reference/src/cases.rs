@@ -1,8 +1,10 @@
 //! Requests with replies written down by hand: document 01's rows, the places where it can
 //! be misread, request One's unread numbers, request Two's classes, request Three's rounds, request
-//! Four's counts of boats, request Five's searches, request Six's lists of starts, and the vectors
-//! that tell wrong programs apart. Each is compared with this program and with the reply that stands
-//! here, so that it tests this program too.
+//! Four's counts of boats, request Five's searches, request Six's lists of starts, request Seven's
+//! windows (in `windows`), and the vectors that tell wrong programs apart. Each is compared with this
+//! program and with the reply that stands here, so that it tests this program too.
+
+mod windows;
 
 use crate::compare::{self, shown, Searching};
 use crate::generator::{counting_to, dirt, dirty_bytes, dirty_entries};
@@ -86,6 +88,23 @@ pub const ALL: &[Case] = &[
     case("Six: first positions", start_positions),
     case("Six: boats kept", start_boats),
     case("Six: V1-V7, V12", start_vectors),
+    case("Seven: timed lines in a record", windows::records),
+    case("Seven: 4,097 lines", windows::too_many_lines),
+    case("Seven: timed lines added", windows::adds),
+    case("Seven: timed lines read back", windows::reads),
+    case("Seven: a timed line at every edge", windows::edges),
+    case("Seven: untimed lines", windows::untimed),
+    case("Seven: a window for each kind", windows::kinds),
+    case("Seven: options of every length", windows::lengths),
+    case("Seven: 27", windows::questions),
+    case("Seven: the order of 15, 27, 16 and 17", windows::order),
+    case("Seven: the whole record counts", windows::whole_record),
+    case("Seven: line numbers and lengths", windows::numbers),
+    case("Seven: the whole day changes nothing", windows::whole_day),
+    case("Seven: the worked day", windows::worked_day),
+    case("Seven: searches, word by word", windows::areas),
+    case("Seven: searches and lines added", windows::meanwhile),
+    case("Seven: lists of starts", windows::lists),
     case("A 26: a chain of a million entries", million),
     case("V11: a chain of 92,400 lines", vector_11),
     case("Five: V11, and 4,096 boats", search_long),
@@ -187,10 +206,10 @@ impl Bench<'_> {
 
     fn read(&self, rec: &[u8], number: u16, expected: u64) -> Done {
         let mut random = Random::new(rec.len() as u64);
-        for fields in [5, 4, 0, 7] {
-            let lent = dirt(&mut random, fields);
+        for fields in [5, 4, 0, 7, 6] {
+            let lent = dirt(&mut random, fields as usize);
             let got = compare::read(self.library, rec, number, &lent)?;
-            let short = fields < 5 && expected == 5;
+            let short = expected >> 32 == 0 && fields < expected;
             expect("read", got, if short { 0 } else { expected })?;
         }
         Ok(())
@@ -235,7 +254,7 @@ impl Bench<'_> {
     /// refused with its length; and the checker says yes to it.
     fn found(&self, ask: Ask, chain: &[u16]) -> Done {
         let work_len = exact(ask);
-        let expected = request::find(ask.rec, ask.pat, ask.from, ask.to, work_len, chain.len());
+        let expected = request::find(ask, work_len, chain.len());
         if expected != FindReply::Found(chain.to_vec()) {
             return Err(format!(
                 "this program says {expected:?}, but the case says {chain:?}"
@@ -326,7 +345,7 @@ impl Bench<'_> {
         let (work_len, count) = (exact(listed.alone(0)), lengths.len());
         let length = |&word: &u32| (word != NONE).then_some(word as usize);
         let told: Vec<Option<usize>> = lengths.iter().map(length).collect();
-        let expected = listed.reply(work_len, count);
+        let expected = request::starts(listed, work_len, count);
         if expected != StartsReply::Lengths(told.clone()) {
             return Err(format!(
                 "this program says of {} starts {expected:?}, but the case says {told:?}",
@@ -365,7 +384,13 @@ fn exact(ask: Ask) -> usize {
 }
 
 fn ask<'a>(rec: &'a [u8], pat: &'a [u8], from: u16, to: u16) -> Ask<'a> {
-    Ask { rec, pat, from, to }
+    Ask {
+        rec,
+        pat,
+        from,
+        to,
+        options: None,
+    }
 }
 
 fn list<'a>(rec: &'a [u8], pat: &'a [u8], starts: &'a [u16], to: u16) -> Listed<'a> {
@@ -374,6 +399,7 @@ fn list<'a>(rec: &'a [u8], pat: &'a [u8], starts: &'a [u16], to: u16) -> Listed<
         pat,
         starts,
         to,
+        options: None,
     }
 }
 
@@ -387,6 +413,7 @@ pub fn line(from: u16, kind: u8, class: u8, sail: u32, to: u16) -> Line {
         class,
         sail,
         to,
+        time: None,
     }
 }
 
@@ -530,9 +557,9 @@ fn record_traps(b: &Bench) -> Result<String, String> {
     b.read(&full, 4_096, refused(18, 0))?;
     let mut over = full.clone();
     *over.last_mut().expect("not empty") = 2;
-    asked(&over, 4)?;
+    asked(&over, 22)?;
     over.push(0);
-    asked(&over, 1)?;
+    asked(&over, 22)?;
     // 4
     asked(&[], 2)?;
     asked(&[1], 2)?;
@@ -541,7 +568,7 @@ fn record_traps(b: &Bench) -> Result<String, String> {
     asked(&[0], 2)?;
     asked(&[1, 0xFF, 0xFF, 0], 2)?;
     asked(&[1, 0, 1, 1, 0, 1, 0], 3)?;
-    asked(&[1, 0, 1, 3], 3)?;
+    asked(&[1, 0, 1, 4], 3)?;
     // 5: all operands before 5, and 5 before 6.
     let one = written(1, &[line(0, 1, 1, 1, 0)]);
     asked(&one[..12], 4)?;
@@ -1796,8 +1823,8 @@ fn add_traps(b: &Bench) -> Result<String, String> {
     let mut large = written(2, &[]);
     large.resize(60_000, 7);
     b.add(&large, 4, good, 14)?;
-    b.add(&large, 40_964, good, refused(7, 0))?;
-    b.add(&large, 40_965, good, refused(1, 0))?;
+    b.add(&large, 57_348, good, refused(7, 0))?;
+    b.add(&large, 57_349, good, refused(1, 0))?;
     // 22 before 23, and a last line that still goes in.
     let one_left = written(2, &vec![good; MOST_LINES - 1]);
     let mut room = one_left.clone();
@@ -2085,7 +2112,7 @@ fn vector_11(b: &Bench) -> Result<String, String> {
     let chain = vector_11_chain();
     expect("V11's length", chain.len() as u64, 92_400)?;
     let work_len = exact(asked);
-    let expected = request::find(&rec, &pat, 0, 100, work_len, 92_400);
+    let expected = request::find(asked, work_len, 92_400);
     if expected != FindReply::Found(chain) {
         return Err("this program finds another chain for V11".to_string());
     }
@@ -2389,7 +2416,7 @@ fn boat_questions(b: &Bench) -> Result<String, String> {
     // A full record, and one byte more.
     let full = written(1, &vec![lines[0]; MOST_LINES]);
     b.boats(&full, Ok([1, 4_095]))?;
-    b.boats(&[&full[..], &[0]].concat(), Err(1))?;
+    b.boats(&[&full[..], &[0]].concat(), Err(7))?;
     ok()
 }
 

@@ -11,6 +11,9 @@ use std::hash::{BuildHasherDefault, Hasher};
 /// A request that has passed the questions before the search.
 pub struct Asked {
     pub record: Record,
+    /// For each line: is it inside its kind's window? Others are in no accepted chain, but they
+    /// keep their numbers.
+    pub inside: Vec<bool>,
     pub pattern: Pattern,
     pub from: u16,
     pub to: u16,
@@ -42,9 +45,16 @@ impl Asked {
         chain.iter().map(letter).collect()
     }
 
+    /// Are all lines of a chain inside their windows?
+    pub fn is_inside(&self, chain: &[u16]) -> bool {
+        chain.iter().all(|&number| self.inside[number as usize])
+    }
+
     /// Is the chain accepted, by the language's clauses?
     pub fn accepted_by_clauses(&self, chain: &[u16]) -> bool {
-        self.leads(chain) && is_member(&self.pattern.root, &self.word(chain))
+        self.leads(chain)
+            && self.is_inside(chain)
+            && is_member(&self.pattern.root, &self.word(chain))
     }
 
     /// Is the chain accepted, by the machine?
@@ -54,14 +64,25 @@ impl Asked {
             let number = number as usize;
             (&self.record.lines[number], boats[number])
         });
-        self.leads(chain) && Machine::new(&self.pattern.root).accepts(lines)
+        self.leads(chain)
+            && self.is_inside(chain)
+            && Machine::new(&self.pattern.root).accepts(lines)
     }
 
-    /// The numbers of the lines from each place, in order.
-    pub(crate) fn lines_from(&self) -> Vec<Vec<u16>> {
+    /// The numbers of the lines from each place, in order, those outside among them.
+    fn lines_from(&self) -> Vec<Vec<u16>> {
         let mut from = vec![Vec::new(); self.record.places as usize];
         for (number, line) in self.record.lines.iter().enumerate() {
             from[line.from as usize].push(number as u16);
+        }
+        from
+    }
+
+    /// The same without those outside.
+    pub(crate) fn usable_from(&self) -> Vec<Vec<u16>> {
+        let mut from = self.lines_from();
+        for lines in from.iter_mut() {
+            lines.retain(|&number| self.inside[number as usize]);
         }
         from
     }
@@ -141,7 +162,7 @@ struct Group {
 pub fn search(asked: &Asked) -> Option<Vec<u16>> {
     let machine = Machine::new(&asked.pattern.root);
     let boats = boat_words(&asked.record);
-    let lines_from = asked.lines_from();
+    let lines_from = asked.usable_from();
     let accepting = |s: &Standing| s.place == asked.to && machine.is_done(s.state);
 
     // Each chain as the chain without its last line, and that line; the empty one first.

@@ -197,35 +197,77 @@ pub fn boats(library: &dyn Library, rec: &[u8], counts: &[u32]) -> Compared {
 
 pub fn words(library: &dyn Library, rec: &[u8], pat: &[u8]) -> Compared {
     let expected = request::words(rec, pat).unwrap_or_else(|number| refused(number, 0));
-    let given = (rec.to_vec(), pat.to_vec());
-    let got = library.words(&given.0, &given.1);
+    let given = Given::new(rec, pat, None);
+    let got = library.words(&given.rec, &given.pat);
     compare_reply(got, expected)
-        .and_then(|()| unchanged(&given, rec, pat))
+        .and_then(|()| given.compare(rec, pat, None))
         .map_err(|what| format!("words, record {}, pattern {}: {what}", hex(rec), hex(pat)))?;
     Ok(got)
 }
 
-fn unchanged(given: &(Vec<u8>, Vec<u8>), rec: &[u8], pat: &[u8]) -> Result<(), String> {
-    if given.0 != rec || given.1 != pat {
+/// What a call only reads, copied for it. A window read beyond the options would fail question 27.
+struct Given {
+    rec: Vec<u8>,
+    pat: Vec<u8>,
+    options: Option<Lent<u32>>,
+}
+
+impl Given {
+    fn new(rec: &[u8], pat: &[u8], options: Option<&[u32]>) -> Given {
+        Given {
+            rec: rec.to_vec(),
+            pat: pat.to_vec(),
+            options: options.map(|options| Lent::new(options, 0xA5A5_A5A5)),
+        }
+    }
+
+    /// The options as they are given.
+    fn options(&self) -> Option<&[u32]> {
+        let options = self.options.as_ref()?;
+        Some(&options.all[MARGIN..options.all.len() - MARGIN])
+    }
+
+    /// Is all of it as it was?
+    fn compare(&self, rec: &[u8], pat: &[u8], options: Option<&[u32]>) -> Result<(), String> {
+        unchanged(&self.rec, &self.pat, rec, pat)?;
+        match (&self.options, options) {
+            (Some(given), Some(options)) => given.compare("options", options),
+            _ => Ok(()),
+        }
+    }
+}
+
+/// Are record and pattern as they were?
+fn unchanged(rec_now: &[u8], pat_now: &[u8], rec: &[u8], pat: &[u8]) -> Result<(), String> {
+    if rec_now != rec || pat_now != pat {
         return Err("the record or the pattern was written".to_string());
     }
     Ok(())
 }
 
+/// The options of a question, as text.
+fn options_text(options: Option<&[u32]>) -> String {
+    match options {
+        None => String::new(),
+        Some(options) => format!(", options {options:?}"),
+    }
+}
+
 /// A call of the checker, as text.
 fn check_text(ask: Ask, chain: &[u16], work_len: usize) -> String {
     format!(
-        "check, record {}, pattern {}, {} to {}, work {work_len}, chain{}",
+        "check, record {}, pattern {}, {} to {}{}, work {work_len}, chain{}",
         hex(ask.rec),
         hex(ask.pat),
         ask.from,
         ask.to,
+        options_text(ask.options),
         numbers(chain)
     )
 }
 
 pub fn check(library: &dyn Library, ask: Ask, chain: &[u16], work: &[u32]) -> Compared {
-    let expected = request::check(ask.rec, ask.pat, ask.from, ask.to, chain, work.len());
+    let expected = request::check(ask, chain, work.len());
     check_against(library, ask, chain, work, &expected)
 }
 
@@ -236,18 +278,19 @@ fn check_against(
     work: &[u32],
     expected: &CheckReply,
 ) -> Compared {
-    let given = (ask.rec.to_vec(), ask.pat.to_vec());
+    let given = Given::new(ask.rec, ask.pat, ask.options);
     let given_chain = chain.to_vec();
     let mut lent = Lent::new(work, 0xA5A5_A5A5);
     let call = Ask {
-        rec: &given.0,
-        pat: &given.1,
+        rec: &given.rec,
+        pat: &given.pat,
+        options: given.options(),
         ..ask
     };
     let got = library.check(call, &given_chain, lent.inside());
     compare_reply(got, expected.number())
         .and_then(|()| lent.compare("work area", &expected.work_after(work)))
-        .and_then(|()| unchanged(&given, ask.rec, ask.pat))
+        .and_then(|()| given.compare(ask.rec, ask.pat, ask.options))
         .and_then(|()| {
             if given_chain == chain {
                 Ok(())
@@ -260,7 +303,7 @@ fn check_against(
 }
 
 pub fn find(library: &dyn Library, ask: Ask, work: &[u32], out: &[u16]) -> Compared {
-    let expected = request::find(ask.rec, ask.pat, ask.from, ask.to, work.len(), out.len());
+    let expected = request::find(ask, work.len(), out.len());
     find_against(library, ask, work, out, &expected)
 }
 
@@ -272,30 +315,32 @@ pub fn find_against(
     out: &[u16],
     expected: &FindReply,
 ) -> Compared {
-    let given = (ask.rec.to_vec(), ask.pat.to_vec());
+    let given = Given::new(ask.rec, ask.pat, ask.options);
     let mut lent = Lent::new(work, 0xA5A5_A5A5);
     let mut lent_out = Lent::new(out, 0xA5A5);
     let call = Ask {
-        rec: &given.0,
-        pat: &given.1,
+        rec: &given.rec,
+        pat: &given.pat,
+        options: given.options(),
         ..ask
     };
     let got = library.find(call, lent.inside(), lent_out.inside());
     compare_reply(got, expected.number())
         .and_then(|()| lent_out.compare("output", &expected.out_after(out)))
         .and_then(|()| lent.compare("work area", &expected.work_after(work)))
-        .and_then(|()| unchanged(&given, ask.rec, ask.pat))
+        .and_then(|()| given.compare(ask.rec, ask.pat, ask.options))
         .map_err(|what| {
             let expected = match expected {
                 FindReply::Found(chain) => format!(" (expected chain{})", numbers(chain)),
                 _ => String::new(),
             };
             format!(
-                "find, record {}, pattern {}, {} to {}, work {}, output {}: {what}{expected}",
+                "find, record {}, pattern {}, {} to {}{}, work {}, output {}: {what}{expected}",
                 hex(ask.rec),
                 hex(ask.pat),
                 ask.from,
                 ask.to,
+                options_text(ask.options),
                 work.len(),
                 out.len()
             )
@@ -306,7 +351,7 @@ pub fn find_against(
 // ---- lists of starts
 
 pub fn starts(library: &dyn Library, listed: Listed, work: &[u32], lengths: &[u32]) -> Compared {
-    let expected = listed.reply(work.len(), lengths.len());
+    let expected = request::starts(listed, work.len(), lengths.len());
     starts_against(library, listed, work, lengths, &expected)
 }
 
@@ -318,21 +363,22 @@ pub fn starts_against(
     lengths: &[u32],
     expected: &StartsReply,
 ) -> Compared {
-    let given = (listed.rec.to_vec(), listed.pat.to_vec());
+    let given = Given::new(listed.rec, listed.pat, listed.options);
     let given_starts = listed.starts.to_vec();
     let mut lent = Lent::new(work, 0xA5A5_A5A5);
     let mut lent_lengths = Lent::new(lengths, 0xA5A5_A5A5);
     let call = Listed {
-        rec: &given.0,
-        pat: &given.1,
+        rec: &given.rec,
+        pat: &given.pat,
         starts: &given_starts,
+        options: given.options(),
         ..listed
     };
     let got = library.starts(call, lent.inside(), lent_lengths.inside());
     compare_reply(got, expected.number())
         .and_then(|()| lent_lengths.compare("lengths", &expected.lengths_after(lengths)))
         .and_then(|()| lent.compare("work area", &expected.work_after(work)))
-        .and_then(|()| unchanged(&given, listed.rec, listed.pat))
+        .and_then(|()| given.compare(listed.rec, listed.pat, listed.options))
         .and_then(|()| {
             if given_starts == listed.starts {
                 Ok(())
@@ -382,10 +428,11 @@ pub fn starts_alone(
 /// A question about a list of starts, as text.
 fn starts_text(listed: Listed) -> String {
     format!(
-        "starts, record {}, pattern {}, to {}, list{}",
+        "starts, record {}, pattern {}, to {}{}, list{}",
         hex(listed.rec),
         hex(listed.pat),
         listed.to,
+        options_text(listed.options),
         numbers(listed.starts)
     )
 }
@@ -394,10 +441,10 @@ fn starts_text(listed: Listed) -> String {
 
 pub fn search_words(library: &dyn Library, rec: &[u8], pat: &[u8]) -> Compared {
     let expected = search::words(rec, pat).unwrap_or_else(|number| refused(number, 0));
-    let given = (rec.to_vec(), pat.to_vec());
-    let got = library.search_words(&given.0, &given.1);
+    let given = Given::new(rec, pat, None);
+    let got = library.search_words(&given.rec, &given.pat);
     compare_reply(got, expected)
-        .and_then(|()| unchanged(&given, rec, pat))
+        .and_then(|()| given.compare(rec, pat, None))
         .map_err(|what| {
             let (rec, pat) = (hex(rec), hex(pat));
             format!("words of a search, record {rec}, pattern {pat}: {what}")
@@ -428,8 +475,8 @@ impl<'a> Searching<'a> {
         ask: Ask,
         work: &[u32],
     ) -> Result<(u64, Searching<'a>), String> {
-        let (expected, after) = search::begin_values(ask.rec, ask.pat, ask.from, ask.to, work);
-        let first = request::shortest(ask.rec, ask.pat, ask.from, ask.to, work.len());
+        let (expected, after) = search::begin_values(ask, work);
+        let first = request::shortest(ask, work.len());
         let mut searching = Searching {
             library,
             buf: [ask.rec, &[0xA5; 60]].concat(),
@@ -438,25 +485,29 @@ impl<'a> Searching<'a> {
             first,
             area: after,
             told: format!(
-                "search, record {}, pattern {}, {} to {}, area {}",
+                "search, record {}, pattern {}, {} to {}{}, area {}",
                 hex(ask.rec),
                 hex(ask.pat),
                 ask.from,
                 ask.to,
+                options_text(ask.options),
                 work.len()
             ),
         };
         let mut lent = Lent::new(work, 0xA5A5_A5A5);
+        // The options are gone when the call is over, so that nothing can hang on them later.
+        let given = Given::new(&[], &[], ask.options);
         let call = Ask {
             rec: &searching.buf[..searching.len],
             pat: &searching.pat,
+            options: given.options(),
             ..ask
         };
         let got = library.search_begin(call, lent.inside());
-        let given = (call.rec.to_vec(), call.pat.to_vec());
         compare_reply(got, expected)
             .and_then(|()| lent.compare("area", &searching.area))
-            .and_then(|()| unchanged(&given, ask.rec, ask.pat))
+            .and_then(|()| unchanged(call.rec, call.pat, ask.rec, ask.pat))
+            .and_then(|()| given.compare(&[], &[], ask.options))
             .map_err(|what| searching.difference(&format!("begin: {what}")))?;
         // From here on nothing may hang on the pattern's bytes where they were.
         searching.pat.fill(0xA5);

@@ -3,14 +3,17 @@
 //! sail number in two classes, and several numbers in one; days with many unread numbers;
 //! patterns that accept the empty word under repeat; rounds that are counted, in each other,
 //! with keeps in them, empty, and a round more or less than allowed; several starts, near and
-//! far, listed in any order and again; every question at its edge; damaged bytes; areas and
+//! far, listed in any order and again; timed lines among untimed ones, at the edges of windows and
+//! of the day; options of every length; every question at its edge; damaged bytes; areas and
 //! outputs that fit exactly or just don't.
 
 use crate::membership::{compared, takes, Letter, Valuation};
 use crate::pattern::{read_pattern, Node, Rule};
 use crate::random::Random;
-use crate::record::{written, Boat, Line, LONGEST, MOST_LINES, UNREAD};
-use crate::request::words;
+use crate::record::{line_starts, written, Boat, Line, DAY, LONGEST, MOST_LINES, UNREAD};
+use crate::request::{words, Ask, Listed};
+use crate::windows::{Window, Windows, KINDS, OPTIONS, WHOLE_DAY};
+use std::collections::BTreeSet;
 
 /// A request to the checker or the finder.
 pub struct Request {
@@ -18,11 +21,36 @@ pub struct Request {
     pub pat: Vec<u8>,
     pub from: u16,
     pub to: u16,
+    /// The words that say the windows, where the question has any.
+    pub options: Option<Vec<u32>>,
     /// For the checker.
     pub chain: Vec<u16>,
     pub work_len: usize,
     /// For the finder.
     pub room: Room,
+}
+
+impl Request {
+    pub fn ask(&self) -> Ask<'_> {
+        Ask {
+            rec: &self.rec,
+            pat: &self.pat,
+            from: self.from,
+            to: self.to,
+            options: self.options.as_deref(),
+        }
+    }
+
+    /// The same question about a list of starts.
+    pub fn listed<'a>(&'a self, starts: &'a [u16]) -> Listed<'a> {
+        Listed {
+            rec: &self.rec,
+            pat: &self.pat,
+            starts,
+            to: self.to,
+            options: self.options.as_deref(),
+        }
+    }
 }
 
 /// How long the output is.
@@ -498,6 +526,7 @@ fn any_line(random: &mut Random, pool: &Pool, places: u16) -> Line {
         class: boat.class,
         sail: boat.sail,
         to: next_place(random, from, places),
+        time: None,
     }
 }
 
@@ -543,6 +572,7 @@ fn laid_out(random: &mut Random, pool: &Pool, word: &[Letter]) -> Day {
                 } else {
                     next_place(random, place, places)
                 },
+                time: None,
             });
             lines.len() - 1
         };
@@ -640,6 +670,7 @@ fn led_to_one(random: &mut Random, pool: &Pool, words: &[Vec<Letter>]) -> Day {
                 class: letter.boat.class,
                 sail: letter.boat.sail,
                 to: next,
+                time: None,
             });
             place = next;
         }
@@ -717,6 +748,7 @@ fn at_the_limit(random: &mut Random) -> (Day, Vec<u8>) {
                 class: (n % 2) as u8,
                 sail: (n / 2) as u32,
                 to: next_place(random, from, places),
+                time: None,
             }
         })
         .collect();
@@ -753,23 +785,26 @@ fn full_day(random: &mut Random, pool: &Pool) -> Day {
 
 // ---- damage
 
+/// One of these places, or that of a first line where there are none.
+fn any_start(random: &mut Random, starts: &[usize]) -> usize {
+    match starts {
+        [] => 3,
+        _ => random.pick(starts),
+    }
+}
+
 /// Damages a record's bytes, most often where a question is about to be asked.
 pub fn damage_record(random: &mut Random, bytes: &mut Vec<u8>) {
-    let lines = bytes.len().saturating_sub(4) / 10;
-    let line = if lines > 0 {
-        3 + 10 * random.below(lines)
-    } else {
-        3
-    };
+    let line = any_start(random, &line_starts(bytes));
     let count = if bytes.len() >= 3 {
         [bytes[1], bytes[2]]
     } else {
         [0, 0]
     };
     let below_count = u16::from_be_bytes(count).wrapping_sub(1).to_be_bytes();
-    match random.below(13) {
+    match random.below(17) {
         0 => bytes.truncate(random.below(bytes.len() + 1)),
-        1 => bytes.extend([random.pick(&[0, 0, 1, 2, 0xFF])]),
+        1 => bytes.extend([random.pick(&[0, 0, 1, 2, 3, 0xFF])]),
         2 => set(bytes, random.below(44), &[random.byte()]),
         3 => set(
             bytes,
@@ -781,27 +816,97 @@ pub fn damage_record(random: &mut Random, bytes: &mut Vec<u8>) {
         4 => set(bytes, line + 1, &random.pick(&[count, below_count])),
         5 => set(bytes, line + 8, &random.pick(&[count, below_count])),
         6 | 7 => set(bytes, line + 3, &[random.pick(&[0, 1, 15, 16, 255])]),
-        8 => set(bytes, line, &[random.pick(&[0, 1, 3, 0x20, 0xFF])]),
+        8 => set(bytes, line, &[random.pick(&[0, 1, 2, 3, 4, 0x20, 0xFF])]),
         9 => {
             bytes.pop();
         }
-        10 => set(bytes, 0, &[random.pick(&[0, 2, 0xFF])]),
+        10 => set(bytes, 0, &[random.pick(&[0, 2, 3, 0xFF])]),
         11 => {
             let at = line.min(bytes.len());
             let rest = bytes.split_off(at);
             bytes.extend([1, 0, 1]);
             bytes.extend(rest);
         }
-        _ => {
+        12 => {
             let at = random.below(bytes.len() + 1);
             bytes.insert(at, random.byte());
         }
+        _ => damage_timed_line(random, bytes, count),
+    }
+}
+
+/// Damages a timed line, one that is put there where the record has none: it is cut, or its time is
+/// at the end of the day or beyond, alone or with its kind or a place that is not there.
+fn damage_timed_line(random: &mut Random, bytes: &mut Vec<u8>, count: [u8; 2]) {
+    let starts = line_starts(bytes);
+    let timed: Vec<usize> = starts
+        .iter()
+        .copied()
+        .filter(|&at| bytes[at] == 3)
+        .collect();
+    let line = match timed[..] {
+        [] => {
+            let at = any_start(random, &starts).min(bytes.len());
+            let new = [3, 0, 0, 1, 1, 0, 0, 7, 0, 0, 0, 0, 0, 5];
+            bytes.splice(at..at, new);
+            at
+        }
+        _ => random.pick(&timed),
+    };
+    if random.once_in(3) {
+        bytes.truncate(line + random.between(1, 14));
+        return;
+    }
+    let time = late_time(random);
+    set(bytes, line + 10, &time.to_be_bytes());
+    match random.below(6) {
+        0 => set(bytes, line + 3, &[random.pick(&[0, 16])]),
+        1 => set(bytes, line + random.pick(&[1, 8]), &count),
+        2 => bytes.truncate(line + random.between(10, 13)),
+        _ => {}
+    }
+}
+
+/// A time at the end of the day, most often after it; some come round to one of the day in 16 bits,
+/// or with the low byte first.
+fn late_time(random: &mut Random) -> u32 {
+    let any = random.draw() as u32;
+    random.pick(&[
+        DAY - 1,
+        DAY,
+        DAY,
+        DAY + 1,
+        DAY + 256,
+        131_072,
+        1 << 24,
+        1 << 31,
+        u32::MAX,
+        any,
+    ])
+}
+
+/// Puts so many lines more before the end that there is one too many. That one is whole, good or
+/// bad, or it is cut; where all lines are timed, only its first byte leaves a record that is not too
+/// long.
+fn overfill(random: &mut Random, bytes: &mut Vec<u8>, lines: usize) {
+    bytes.pop();
+    for _ in lines..MOST_LINES {
+        bytes.extend([2, 0, 0, 1, 1, 0, 0, 7, 0, 0]);
+    }
+    let bad = random.pick(&[0, 1, 16]);
+    let new = [3, 0, 0, bad, 1, 0, 0, 7, 0, 0, 0xFF, 0, 0, 0];
+    match random.below(4) {
+        0 => bytes.extend([2, 0, 0, 1, 1, 0, 0, 7, 0, 0, 0]),
+        1 => bytes.extend([&new[..], &[0]].concat()),
+        2 => bytes.extend(&new[..random.between(1, 14)]),
+        _ => bytes.push(random.pick(&[2, 3])),
     }
 }
 
 /// A record whose boats are to be counted: no lines to as many as there can be; one boat, few, or as
 /// many as lines; each after the other, in turns or in any order; the same numbers in several
-/// classes; unread numbers among them or not. One in four is damaged, and some are too long.
+/// classes; unread numbers among them or not; none of them timed, all, or some. One in four is
+/// damaged, and some are too long or have a line too many.
 pub fn counted_day(random: &mut Random) -> Vec<u8> {
     let count = match random.below(100) {
         0 => MOST_LINES - random.below(2),
@@ -812,6 +917,7 @@ pub fn counted_day(random: &mut Random) -> Vec<u8> {
     let (first_class, classes) = (random.pick(&[0, 1, 252]), random.pick(&[1, 2, 3]));
     let apart = random.pick(&[1, 1, 256, 4_096]);
     let (order, unread) = (random.below(3), random.once_in(2));
+    let timed = random.pick(&[0, 0, 1, 3, 4, 4]);
     let places = random.pick(&[1, 1, 2, 4]);
     let lines: Vec<Line> = (0..count)
         .map(|number| {
@@ -833,20 +939,31 @@ pub fn counted_day(random: &mut Random) -> Vec<u8> {
                 class: boat.class,
                 sail: boat.sail,
                 to: random.below(places) as u16,
+                time: (random.below(4) < timed).then(|| any_time(random)),
             }
         })
         .collect();
     let mut bytes = written(places as u16, &lines);
-    if random.once_in(4) {
+    if count + 1 >= MOST_LINES && random.once_in(2) {
+        overfill(random, &mut bytes, count);
+    } else if random.once_in(4) {
         for _ in 0..random.between(1, 3) {
             damage_record(random, &mut bytes);
         }
     }
     if random.once_in(200) {
-        bytes.resize(LONGEST + random.below(3) - 1, 0);
+        bytes.resize(around_the_longest(random), 0);
     }
     bytes
 }
+
+/// A length next to that of the longest record, or of the longest without times.
+fn around_the_longest(random: &mut Random) -> usize {
+    random.pick(&[LONGEST, LONGEST, LONGEST_UNTIMED]) + random.below(3) - 1
+}
+
+/// The length of a full record with no timed line.
+const LONGEST_UNTIMED: usize = 4 + 10 * MOST_LINES;
 
 /// Damages a pattern's bytes.
 pub fn damage_pattern(random: &mut Random, bytes: &mut Vec<u8>) {
@@ -903,7 +1020,7 @@ pub fn any_bytes(random: &mut Random) -> (Vec<u8>, Vec<u8>) {
             rec = vec![command, 0, random.pick(&[0, 1, 2])];
             for _ in 0..random.below(40) {
                 let byte = random.byte();
-                rec.push(random.pick(&[0, 1, 2, byte]));
+                rec.push(random.pick(&[0, 1, 2, 3, byte]));
             }
         }
         1 => {
@@ -912,8 +1029,7 @@ pub fn any_bytes(random: &mut Random) -> (Vec<u8>, Vec<u8>) {
             }
         }
         2 if random.once_in(50) => {
-            // Around the longest record.
-            rec.resize(LONGEST + random.below(3) - 1, 0);
+            rec.resize(around_the_longest(random), 0);
         }
         _ => {}
     }
@@ -1009,6 +1125,8 @@ pub fn request_of_several(random: &mut Random) -> Request {
 
 /// A request about a day and a pattern; some are damaged, or ask about places that are not there.
 fn asked_about(random: &mut Random, mut day: Day, mut pat: Vec<u8>) -> Request {
+    let options = any_options(random, &day);
+    give_times(random, &mut day, &Windows::of(options.as_deref()));
     let chain = checked_chain(random, &mut day);
     let (mut from, mut to) = (day.from, day.to);
     if random.once_in(12) {
@@ -1025,7 +1143,9 @@ fn asked_about(random: &mut Random, mut day: Day, mut pat: Vec<u8>) -> Request {
     }
     let mut rec = written(day.places, &day.lines);
     let needed = words(&rec, &pat);
-    if random.once_in(14) {
+    if day.lines.len() + 1 >= MOST_LINES && random.once_in(2) {
+        overfill(random, &mut rec, day.lines.len());
+    } else if random.once_in(14) {
         damage_record(random, &mut rec);
     }
     if random.once_in(14) {
@@ -1038,7 +1158,159 @@ fn asked_about(random: &mut Random, mut day: Day, mut pat: Vec<u8>) -> Request {
         pat,
         from,
         to,
+        options,
         chain,
+    }
+}
+
+// ---- windows and times
+
+/// The options of a question about a day: none; or a window for each kind, one of which may fail,
+/// of a kind that the day has or of any. The list may end early, or go on.
+fn any_options(random: &mut Random, day: &Day) -> Option<Vec<u32>> {
+    if random.once_in(4) {
+        return None;
+    }
+    let whole = random.once_in(6);
+    let mut windows: Vec<Window> = (0..KINDS)
+        .map(|_| if whole { WHOLE_DAY } else { any_window(random) })
+        .collect();
+    if random.once_in(10) {
+        let any = random.between(1, KINDS) as u8;
+        let used = match day.lines[..] {
+            [] => any,
+            _ => random.pick(&day.lines).kind,
+        };
+        let kind = random.pick(&[any, used]);
+        windows[kind as usize - 1] = bad_window(random);
+    }
+    let mut words: Vec<u32> = windows.iter().flat_map(|w| [w.open, w.close]).collect();
+    match random.below(6) {
+        0 => words.truncate(random.below(OPTIONS + 1)),
+        1 => words.truncate(random.pick(&[0, 1, 2, 3, 4, 5, 28, 29])),
+        2 => {
+            let more = random.between(1, 4);
+            words.extend(dirt(random, more));
+        }
+        _ => {}
+    }
+    Some(words)
+}
+
+/// A window that passes: the whole day, nearly the whole, a second, a few, or any.
+fn any_window(random: &mut Random) -> Window {
+    let day = DAY as usize;
+    let (open, close) = match random.below(8) {
+        0 => (0, day),
+        1 => random.pick(&[(0, day - 1), (1, day)]),
+        2 | 3 => {
+            let close = random.between(1, day - 1);
+            random.pick(&[(0, close), (close, day)])
+        }
+        4 => {
+            let any = random.below(day);
+            let open = random.pick(&[0, 5, day - 1, any]);
+            (open, open + 1)
+        }
+        5 => {
+            let open = random.below(6);
+            (open, open + random.between(1, 5))
+        }
+        _ => {
+            let open = random.below(day);
+            (open, random.between(open + 1, day))
+        }
+    };
+    Window {
+        open: open as u32,
+        close: close as u32,
+    }
+}
+
+/// A window that fails: it closes when it opens or before, or after the day.
+fn bad_window(random: &mut Random) -> Window {
+    let any = random.below(DAY as usize) as u32;
+    let (open, close) = random.pick(&[
+        (any, any),
+        (any + 1, any),
+        (0, 0),
+        (DAY, DAY),
+        (0, DAY + 1),
+        (0, DAY + 1),
+        (any, DAY + 1),
+        (0, u32::MAX),
+        (DAY, DAY + 1),
+        (u32::MAX, DAY),
+        (DAY, 0),
+    ]);
+    Window { open, close }
+}
+
+/// Any time of the day, its edges more often.
+fn any_time(random: &mut Random) -> u32 {
+    let any = random.below(DAY as usize) as u32;
+    random.pick(&[0, 1, DAY - 1, 65_535, 65_536, any, any, any])
+}
+
+/// A time at the edge of a window or near it, at that of the day, or any.
+fn time_near(random: &mut Random, window: Window) -> u32 {
+    let Window { open, close } = window;
+    let any = any_time(random);
+    let time = random.pick(&[
+        open.saturating_sub(1),
+        open,
+        open,
+        close.saturating_sub(1),
+        close.saturating_sub(1),
+        close,
+        0,
+        DAY - 1,
+        any,
+    ]);
+    time.min(DAY - 1)
+}
+
+/// A time inside a window, its first and last second more often; one that fails has none.
+fn time_inside(random: &mut Random, window: Window) -> u32 {
+    let Window { open, close } = window;
+    if !window.passes() {
+        return any_time(random);
+    }
+    let any = random.between(open as usize, close as usize - 1) as u32;
+    random.pick(&[open, close - 1, any, any])
+}
+
+/// Gives times to none of a day's lines, to all, or to some. Most often the planned chain's lines are
+/// inside their windows, and now and then nearly all lines are, or all but one, which is just
+/// outside.
+fn give_times(random: &mut Random, day: &mut Day, windows: &Windows) {
+    let timed = random.pick(&[0, 0, 1, 2, 3, 4]);
+    let (planned_inside, most_inside) = (!random.once_in(4), random.once_in(5));
+    let planned: BTreeSet<u16> = day.chain.iter().copied().collect();
+    for (number, line) in day.lines.iter_mut().enumerate() {
+        let window = windows.of_kind(line.kind);
+        if random.below(4) < timed {
+            line.time = Some(time_near(random, window));
+        }
+        let wanted = (planned_inside && planned.contains(&(number as u16)))
+            || (most_inside && !random.once_in(8));
+        if wanted && !window.has(line.time) {
+            line.time = Some(time_inside(random, window));
+        }
+    }
+    if !day.chain.is_empty() && random.once_in(5) {
+        let missed = random.pick(&day.chain) as usize;
+        just_outside(random, &mut day.lines[missed], windows);
+    }
+}
+
+/// Puts a line at the closing second of its window, or one before the opening one, if the day has
+/// such a second.
+fn just_outside(random: &mut Random, line: &mut Line, windows: &Windows) {
+    let Window { open, close } = windows.of_kind(line.kind);
+    let time = random.pick(&[close, close, open.wrapping_sub(1)]);
+    if time < DAY {
+        line.time = Some(time);
     }
 }
 
@@ -1267,17 +1539,23 @@ pub fn dirty_entries(random: &mut Random, entries: usize) -> Vec<u16> {
     (0..entries).map(|_| random.draw() as u16).collect()
 }
 
-/// A line to be added: most often a good one.
+/// A line to be added, timed or not: most often a good one, and some are bad in two ways.
 pub fn new_line(random: &mut Random, places: u16) -> Line {
     let pool = pool(random);
     let mut line = any_line(random, &pool, places.max(1));
-    match random.below(12) {
-        0 => line.from = random.pick(&[places, places.wrapping_sub(1), 65_535]),
-        1 => line.to = random.pick(&[places, places.wrapping_sub(1), 65_535]),
-        2 => line.kind = random.pick(&[0, 1, 15, 16, 255]),
-        3 => line.sail = random.pick(&[16_777_215, 16_777_216, u32::MAX, 0, 0x01_0203]),
-        4 => line.class = random.byte(),
-        _ => {}
+    if random.once_in(2) {
+        line.time = Some(any_time(random));
+    }
+    for _ in 0..random.pick(&[0, 0, 1, 1, 1, 2]) {
+        match random.below(9) {
+            0 => line.from = random.pick(&[places, places.wrapping_sub(1), 65_535]),
+            1 => line.to = random.pick(&[places, places.wrapping_sub(1), 65_535]),
+            2 => line.kind = random.pick(&[0, 1, 15, 16, 255]),
+            3 => line.sail = random.pick(&[16_777_215, 16_777_216, u32::MAX, 0, 0x01_0203]),
+            4 => line.class = random.byte(),
+            5 | 6 => line.time = Some(late_time(random)),
+            _ => {}
+        }
     }
     line
 }

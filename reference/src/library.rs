@@ -1,10 +1,14 @@
-//! The thirteen functions that scoring software calls, as a trait: the linked library is one
-//! of these, and this program is another.
+//! The eighteen functions that scoring software calls, as a trait: the linked library is one
+//! of these, and this program is another. Five methods stand for two functions each: a line is added
+//! by one function with a time and by another without, and checker, finder, starts and the begin of
+//! a search are asked by one with options and by another without.
 
 use crate::pattern::read_pattern;
 use crate::record::{self, Line};
-use crate::request::{self, refused, StartsReply};
+use crate::request::{self, refused};
 use crate::search;
+
+pub use crate::request::{Ask, Listed};
 
 /// Each reply is n · 2^32 + value: n is 0 or the number of the refused question, value
 /// the second number then.
@@ -24,48 +28,7 @@ pub trait Library {
     fn starts(&self, listed: Listed, work: &mut [u32], lengths: &mut [u32]) -> u64;
 }
 
-/// What checker, finder and the begin of a search are given.
-#[derive(Clone, Copy)]
-pub struct Ask<'a> {
-    pub rec: &'a [u8],
-    pub pat: &'a [u8],
-    pub from: u16,
-    pub to: u16,
-}
-
-/// What the lengths from a list of places are asked with.
-#[derive(Clone, Copy)]
-pub struct Listed<'a> {
-    pub rec: &'a [u8],
-    pub pat: &'a [u8],
-    pub starts: &'a [u16],
-    pub to: u16,
-}
-
-impl<'a> Listed<'a> {
-    /// The finder's question about one place alone.
-    pub fn alone(&self, from: u16) -> Ask<'a> {
-        Ask {
-            rec: self.rec,
-            pat: self.pat,
-            from,
-            to: self.to,
-        }
-    }
-
-    /// This program's reply, the lent lists having these lengths.
-    pub fn reply(&self, work_len: usize, lengths_len: usize) -> StartsReply {
-        let Listed {
-            rec,
-            pat,
-            starts,
-            to,
-        } = *self;
-        request::starts(rec, pat, starts, to, work_len, lengths_len)
-    }
-}
-
-/// This program behind the same thirteen functions.
+/// This program behind the same eighteen functions.
 pub struct Own;
 
 impl Library for Own {
@@ -100,13 +63,13 @@ impl Library for Own {
     }
 
     fn check(&self, ask: Ask, chain: &[u16], work: &mut [u32]) -> u64 {
-        let reply = request::check(ask.rec, ask.pat, ask.from, ask.to, chain, work.len());
+        let reply = request::check(ask, chain, work.len());
         work.copy_from_slice(&reply.work_after(work));
         reply.number()
     }
 
     fn find(&self, ask: Ask, work: &mut [u32], out: &mut [u16]) -> u64 {
-        let reply = request::find(ask.rec, ask.pat, ask.from, ask.to, work.len(), out.len());
+        let reply = request::find(ask, work.len(), out.len());
         work.copy_from_slice(&reply.work_after(work));
         out.copy_from_slice(&reply.out_after(out));
         reply.number()
@@ -117,7 +80,7 @@ impl Library for Own {
     }
 
     fn search_begin(&self, ask: Ask, work: &mut [u32]) -> u64 {
-        let (reply, after) = search::begin_values(ask.rec, ask.pat, ask.from, ask.to, work);
+        let (reply, after) = search::begin_values(ask, work);
         work.copy_from_slice(&after);
         reply
     }
@@ -136,7 +99,7 @@ impl Library for Own {
     }
 
     fn starts(&self, listed: Listed, work: &mut [u32], lengths: &mut [u32]) -> u64 {
-        let reply = listed.reply(work.len(), lengths.len());
+        let reply = request::starts(listed, work.len(), lengths.len());
         work.copy_from_slice(&reply.work_after(work));
         lengths.copy_from_slice(&reply.lengths_after(lengths));
         reply.number()
@@ -153,23 +116,29 @@ fn put(reply: Result<(usize, Vec<u8>), u8>, buf: &mut [u8]) -> u64 {
     }
 }
 
+/// The fields of a line: five, and the time as the sixth where there is one.
+pub fn fields_of(line: &Line) -> Vec<u32> {
+    let mut fields = vec![
+        line.from as u32,
+        line.kind as u32,
+        line.class as u32,
+        line.sail,
+        line.to as u32,
+    ];
+    fields.extend(line.time);
+    fields
+}
+
 /// The reply of reading a line back, and the fields after it. The questions come first,
-/// however many fields are lent; fewer than five words get nothing, and the value is 0.
-pub fn read_values(rec: &[u8], number: u16, fields: &[u32]) -> (u64, Vec<u32>) {
-    let mut after = fields.to_vec();
-    match record::read_line(rec, number) {
+/// however many fields are lent; fewer words than the line has get nothing, and the value is 0.
+pub fn read_values(rec: &[u8], number: u16, lent: &[u32]) -> (u64, Vec<u32>) {
+    let mut after = lent.to_vec();
+    match record::read_line(rec, number).map(|line| fields_of(&line)) {
         Err(number) => (refused(number, 0), after),
-        Ok(_) if fields.len() < 5 => (0, after),
-        Ok(line) => {
-            let values = [
-                line.from as u32,
-                line.kind as u32,
-                line.class as u32,
-                line.sail,
-                line.to as u32,
-            ];
-            after[..5].copy_from_slice(&values);
-            (5, after)
+        Ok(fields) if lent.len() < fields.len() => (0, after),
+        Ok(fields) => {
+            after[..fields.len()].copy_from_slice(&fields);
+            (fields.len() as u64, after)
         }
     }
 }

@@ -1,4 +1,4 @@
-//! The static library behind the thirteen functions. Nothing checks these declarations
+//! The static library behind the eighteen functions. Nothing checks these declarations
 //! against its source: the comparison does.
 
 use crate::library::{Ask, Library, Listed};
@@ -16,6 +16,17 @@ extern "C" {
         class_: u8,
         sail: u32,
         to: u16,
+    ) -> u64;
+    fn chains_add_timed(
+        buf: *mut u8,
+        buf_len: usize,
+        len: usize,
+        from: u16,
+        kind: u8,
+        class_: u8,
+        sail: u32,
+        to: u16,
+        time: u32,
     ) -> u64;
     fn chains_read(
         rec: *const u8,
@@ -39,6 +50,20 @@ extern "C" {
         work: *mut u32,
         work_len: usize,
     ) -> u64;
+    fn chains_check_with(
+        rec: *const u8,
+        rec_len: usize,
+        pat: *const u8,
+        pat_len: usize,
+        from: u16,
+        to: u16,
+        chain: *const u16,
+        chain_len: usize,
+        options: *const u32,
+        options_len: usize,
+        work: *mut u32,
+        work_len: usize,
+    ) -> u64;
     fn chains_find(
         rec: *const u8,
         rec_len: usize,
@@ -46,6 +71,20 @@ extern "C" {
         pat_len: usize,
         from: u16,
         to: u16,
+        work: *mut u32,
+        work_len: usize,
+        out: *mut u16,
+        out_len: usize,
+    ) -> u64;
+    fn chains_find_with(
+        rec: *const u8,
+        rec_len: usize,
+        pat: *const u8,
+        pat_len: usize,
+        from: u16,
+        to: u16,
+        options: *const u32,
+        options_len: usize,
         work: *mut u32,
         work_len: usize,
         out: *mut u16,
@@ -59,6 +98,18 @@ extern "C" {
         pat_len: usize,
         from: u16,
         to: u16,
+        work: *mut u32,
+        work_len: usize,
+    ) -> u64;
+    fn chains_search_begin_with(
+        rec: *const u8,
+        rec_len: usize,
+        pat: *const u8,
+        pat_len: usize,
+        from: u16,
+        to: u16,
+        options: *const u32,
+        options_len: usize,
         work: *mut u32,
         work_len: usize,
     ) -> u64;
@@ -77,6 +128,21 @@ extern "C" {
         lengths: *mut u32,
         lengths_len: usize,
     ) -> u64;
+    fn chains_starts_with(
+        rec: *const u8,
+        rec_len: usize,
+        pat: *const u8,
+        pat_len: usize,
+        starts: *const u16,
+        starts_len: usize,
+        to: u16,
+        options: *const u32,
+        options_len: usize,
+        work: *mut u32,
+        work_len: usize,
+        lengths: *mut u32,
+        lengths_len: usize,
+    ) -> u64;
 }
 
 /// The linked library.
@@ -90,17 +156,20 @@ impl Library for Linked {
     }
 
     fn add(&self, buf: &mut [u8], len: usize, line: Line) -> u64 {
-        unsafe {
-            chains_add(
-                buf.as_mut_ptr(),
-                buf.len(),
-                len,
-                line.from,
-                line.kind,
-                line.class,
-                line.sail,
-                line.to,
-            )
+        let (at, size) = (buf.as_mut_ptr(), buf.len());
+        let Line {
+            from,
+            kind,
+            class,
+            sail,
+            to,
+            time,
+        } = line;
+        match time {
+            None => unsafe { chains_add(at, size, len, from, kind, class, sail, to) },
+            Some(time) => unsafe {
+                chains_add_timed(at, size, len, from, kind, class, sail, to, time)
+            },
         }
     }
 
@@ -129,36 +198,74 @@ impl Library for Linked {
     }
 
     fn check(&self, ask: Ask, chain: &[u16], work: &mut [u32]) -> u64 {
-        unsafe {
-            chains_check(
-                ask.rec.as_ptr(),
-                ask.rec.len(),
-                ask.pat.as_ptr(),
-                ask.pat.len(),
-                ask.from,
-                ask.to,
-                chain.as_ptr(),
-                chain.len(),
-                work.as_mut_ptr(),
-                work.len(),
-            )
+        let (rec, pat, at) = (ask.rec, ask.pat, work.as_mut_ptr());
+        match ask.options {
+            None => unsafe {
+                chains_check(
+                    rec.as_ptr(),
+                    rec.len(),
+                    pat.as_ptr(),
+                    pat.len(),
+                    ask.from,
+                    ask.to,
+                    chain.as_ptr(),
+                    chain.len(),
+                    at,
+                    work.len(),
+                )
+            },
+            Some(options) => unsafe {
+                chains_check_with(
+                    rec.as_ptr(),
+                    rec.len(),
+                    pat.as_ptr(),
+                    pat.len(),
+                    ask.from,
+                    ask.to,
+                    chain.as_ptr(),
+                    chain.len(),
+                    options.as_ptr(),
+                    options.len(),
+                    at,
+                    work.len(),
+                )
+            },
         }
     }
 
     fn find(&self, ask: Ask, work: &mut [u32], out: &mut [u16]) -> u64 {
-        unsafe {
-            chains_find(
-                ask.rec.as_ptr(),
-                ask.rec.len(),
-                ask.pat.as_ptr(),
-                ask.pat.len(),
-                ask.from,
-                ask.to,
-                work.as_mut_ptr(),
-                work.len(),
-                out.as_mut_ptr(),
-                out.len(),
-            )
+        let (rec, pat, at) = (ask.rec, ask.pat, work.as_mut_ptr());
+        match ask.options {
+            None => unsafe {
+                chains_find(
+                    rec.as_ptr(),
+                    rec.len(),
+                    pat.as_ptr(),
+                    pat.len(),
+                    ask.from,
+                    ask.to,
+                    at,
+                    work.len(),
+                    out.as_mut_ptr(),
+                    out.len(),
+                )
+            },
+            Some(options) => unsafe {
+                chains_find_with(
+                    rec.as_ptr(),
+                    rec.len(),
+                    pat.as_ptr(),
+                    pat.len(),
+                    ask.from,
+                    ask.to,
+                    options.as_ptr(),
+                    options.len(),
+                    at,
+                    work.len(),
+                    out.as_mut_ptr(),
+                    out.len(),
+                )
+            },
         }
     }
 
@@ -167,17 +274,34 @@ impl Library for Linked {
     }
 
     fn search_begin(&self, ask: Ask, work: &mut [u32]) -> u64 {
-        unsafe {
-            chains_search_begin(
-                ask.rec.as_ptr(),
-                ask.rec.len(),
-                ask.pat.as_ptr(),
-                ask.pat.len(),
-                ask.from,
-                ask.to,
-                work.as_mut_ptr(),
-                work.len(),
-            )
+        let (rec, pat, at) = (ask.rec, ask.pat, work.as_mut_ptr());
+        match ask.options {
+            None => unsafe {
+                chains_search_begin(
+                    rec.as_ptr(),
+                    rec.len(),
+                    pat.as_ptr(),
+                    pat.len(),
+                    ask.from,
+                    ask.to,
+                    at,
+                    work.len(),
+                )
+            },
+            Some(options) => unsafe {
+                chains_search_begin_with(
+                    rec.as_ptr(),
+                    rec.len(),
+                    pat.as_ptr(),
+                    pat.len(),
+                    ask.from,
+                    ask.to,
+                    options.as_ptr(),
+                    options.len(),
+                    at,
+                    work.len(),
+                )
+            },
         }
     }
 
@@ -190,20 +314,41 @@ impl Library for Linked {
     }
 
     fn starts(&self, listed: Listed, work: &mut [u32], lengths: &mut [u32]) -> u64 {
-        unsafe {
-            chains_starts(
-                listed.rec.as_ptr(),
-                listed.rec.len(),
-                listed.pat.as_ptr(),
-                listed.pat.len(),
-                listed.starts.as_ptr(),
-                listed.starts.len(),
-                listed.to,
-                work.as_mut_ptr(),
-                work.len(),
-                lengths.as_mut_ptr(),
-                lengths.len(),
-            )
+        let (rec, pat, starts) = (listed.rec, listed.pat, listed.starts);
+        let at = work.as_mut_ptr();
+        match listed.options {
+            None => unsafe {
+                chains_starts(
+                    rec.as_ptr(),
+                    rec.len(),
+                    pat.as_ptr(),
+                    pat.len(),
+                    starts.as_ptr(),
+                    starts.len(),
+                    listed.to,
+                    at,
+                    work.len(),
+                    lengths.as_mut_ptr(),
+                    lengths.len(),
+                )
+            },
+            Some(options) => unsafe {
+                chains_starts_with(
+                    rec.as_ptr(),
+                    rec.len(),
+                    pat.as_ptr(),
+                    pat.len(),
+                    starts.as_ptr(),
+                    starts.len(),
+                    listed.to,
+                    options.as_ptr(),
+                    options.len(),
+                    at,
+                    work.len(),
+                    lengths.as_mut_ptr(),
+                    lengths.len(),
+                )
+            },
         }
     }
 }

@@ -1,6 +1,6 @@
 //! The line that the small program prints for its two files.
 
-use crate::request::{find, FindReply};
+use crate::request::{find, Ask, FindReply};
 
 /// The program's work area, in words.
 pub const WORK: usize = 16_384;
@@ -14,7 +14,14 @@ pub fn answer(day: &[u8], ask: &[u8]) -> String {
     }
     let from = u16::from_be_bytes([ask[0], ask[1]]);
     let to = u16::from_be_bytes([ask[2], ask[3]]);
-    match find(day, &ask[4..], from, to, WORK, OUT) {
+    let asked = Ask {
+        rec: day,
+        pat: &ask[4..],
+        from,
+        to,
+        options: None,
+    };
+    match find(asked, WORK, OUT) {
         FindReply::Found(chain) => {
             let mut text = format!("found {}:", chain.len());
             for number in chain {

@@ -1,4 +1,4 @@
-//! Requests: questions 15 to 19, the replies, and what becomes of the lent words.
+//! Requests: questions 15 to 19 and 27, the replies, and what becomes of the lent words.
 //!
 //! A reply depends on the lengths of the work area, the output and the list of lengths and never
 //! on what is in them; what they hold afterwards is a function of the reply and of what they held.
@@ -6,6 +6,7 @@
 use crate::chains::{search, try_all, Asked, Tried};
 use crate::pattern::{read_pattern, Pattern};
 use crate::record::{count_boats, read_record, Record};
+use crate::windows::Windows;
 use std::collections::BTreeMap;
 
 /// No search size is above this.
@@ -14,6 +15,40 @@ pub const LARGEST: u128 = 1_048_576;
 pub const SHORT: usize = 8;
 /// So many chains at most are tried one by one before the search is believed by itself.
 pub const TRIED: usize = 30;
+
+/// What checker, finder and the begin of a search are given.
+#[derive(Clone, Copy)]
+pub struct Ask<'a> {
+    pub rec: &'a [u8],
+    pub pat: &'a [u8],
+    pub from: u16,
+    pub to: u16,
+    /// The words that say the windows; `None` where the question has none.
+    pub options: Option<&'a [u32]>,
+}
+
+/// What the lengths from a list of places are asked with.
+#[derive(Clone, Copy)]
+pub struct Listed<'a> {
+    pub rec: &'a [u8],
+    pub pat: &'a [u8],
+    pub starts: &'a [u16],
+    pub to: u16,
+    pub options: Option<&'a [u32]>,
+}
+
+impl<'a> Listed<'a> {
+    /// The finder's question about one place alone.
+    pub fn alone(&self, from: u16) -> Ask<'a> {
+        Ask {
+            rec: self.rec,
+            pat: self.pat,
+            from,
+            to: self.to,
+            options: self.options,
+        }
+    }
+}
 
 #[derive(Clone, PartialEq, Eq, Debug)]
 pub enum CheckReply {
@@ -64,17 +99,22 @@ pub fn words(record: &[u8], pattern: &[u8]) -> Result<u64, u8> {
     Ok(words_for(size) as u64)
 }
 
-/// Questions 1 to 17, 24 and 25, 15 being asked of each of these places.
+/// Questions 1 to 17, 22, 24, 25, 27 and 28, 15 being asked of each of these places. All of them go
+/// by the whole record, whatever the windows.
 fn ask_about(
-    record: &[u8],
-    pattern: &[u8],
+    rec: &[u8],
+    pat: &[u8],
     places: &[u16],
+    windows: &Windows,
     work_len: usize,
 ) -> Result<(Record, Pattern), u8> {
-    let record = read_record(record)?;
-    let pattern = read_pattern(pattern)?;
+    let record = read_record(rec)?;
+    let pattern = read_pattern(pat)?;
     if places.iter().any(|&place| place >= record.places) {
         return Err(15);
+    }
+    if !windows.pass() {
+        return Err(27);
     }
     let size = search_size(&record, &pattern);
     if size > LARGEST {
@@ -87,32 +127,22 @@ fn ask_about(
 }
 
 /// The questions of checker and finder up to 17.
-pub fn ask(
-    record: &[u8],
-    pattern: &[u8],
-    from: u16,
-    to: u16,
-    work_len: usize,
-) -> Result<Asked, u8> {
-    let (record, pattern) = ask_about(record, pattern, &[from, to], work_len)?;
+pub fn ask(ask: Ask, work_len: usize) -> Result<Asked, u8> {
+    let windows = Windows::of(ask.options);
+    let places = [ask.from, ask.to];
+    let (record, pattern) = ask_about(ask.rec, ask.pat, &places, &windows, work_len)?;
     Ok(Asked {
+        inside: windows.inside(&record.lines),
         record,
         pattern,
-        from,
-        to,
+        from: ask.from,
+        to: ask.to,
     })
 }
 
-/// The checker.
-pub fn check(
-    record: &[u8],
-    pattern: &[u8],
-    from: u16,
-    to: u16,
-    chain: &[u16],
-    work_len: usize,
-) -> CheckReply {
-    let asked = match ask(record, pattern, from, to, work_len) {
+/// The checker. A line outside its kind's window exists, so 18 does not ask about it.
+pub fn check(asking: Ask, chain: &[u16], work_len: usize) -> CheckReply {
+    let asked = match ask(asking, work_len) {
         Ok(asked) => asked,
         Err(number) => return CheckReply::Refused(number),
     };
@@ -147,15 +177,9 @@ pub fn first_chain(asked: &Asked) -> Option<Vec<u16>> {
     searched
 }
 
-/// Questions 1 to 17, 24 and 25, and the search, the output being left aside.
-pub fn shortest(
-    record: &[u8],
-    pattern: &[u8],
-    from: u16,
-    to: u16,
-    work_len: usize,
-) -> Result<Option<Vec<u16>>, u8> {
-    ask(record, pattern, from, to, work_len).map(|asked| first_chain(&asked))
+/// The questions up to 17 and the search, the output being left aside.
+pub fn shortest(asking: Ask, work_len: usize) -> Result<Option<Vec<u16>>, u8> {
+    ask(asking, work_len).map(|asked| first_chain(&asked))
 }
 
 /// The finder's reply, given what `shortest` says and the output's length.
@@ -169,30 +193,18 @@ pub fn fitted(shortest: Result<Option<Vec<u16>>, u8>, out_len: usize) -> FindRep
 }
 
 /// The finder.
-pub fn find(
-    record: &[u8],
-    pattern: &[u8],
-    from: u16,
-    to: u16,
-    work_len: usize,
-    out_len: usize,
-) -> FindReply {
-    fitted(shortest(record, pattern, from, to, work_len), out_len)
+pub fn find(asking: Ask, work_len: usize, out_len: usize) -> FindReply {
+    fitted(shortest(asking, work_len), out_len)
 }
 
 /// The lengths from all listed places to one: each is that of the chain that the finder would find
 /// from the place alone, with an output long enough. Here 19 asks whether the list of lengths holds
 /// one for each listed place, and is asked before anything is searched.
-pub fn starts(
-    record: &[u8],
-    pattern: &[u8],
-    starts: &[u16],
-    to: u16,
-    work_len: usize,
-    lengths_len: usize,
-) -> StartsReply {
+pub fn starts(listed: Listed, work_len: usize, lengths_len: usize) -> StartsReply {
+    let (starts, to) = (listed.starts, listed.to);
+    let windows = Windows::of(listed.options);
     let all = [starts, &[to]].concat();
-    let (record, pattern) = match ask_about(record, pattern, &all, work_len) {
+    let (record, pattern) = match ask_about(listed.rec, listed.pat, &all, &windows, work_len) {
         Ok(both) => both,
         Err(number) => return StartsReply::Refused(number, 0),
     };
@@ -200,6 +212,7 @@ pub fn starts(
         return StartsReply::Refused(19, starts.len());
     }
     let mut asked = Asked {
+        inside: windows.inside(&record.lines),
         record,
         pattern,
         from: to,

@@ -6,10 +6,10 @@ use crate::generator::{
     altered, amount, any_bytes, counted_day, damage_record, dirt, dirty_bytes, dirty_entries,
     list_of_starts, new_line, request, request_of_several, search_len,
 };
-use crate::library::{Ask, Library, Listed};
+use crate::library::Library;
 use crate::random::Random;
-use crate::record::{read_record, written, Line, MOST_LINES};
-use crate::request::{fitted, shortest, words, StartsReply};
+use crate::record::{read_record, written, Line, DAY, LONGEST, MOST_LINES};
+use crate::request::{self, fitted, shortest, words, StartsReply};
 
 pub type Replies = Result<Vec<u64>, String>;
 pub type Round = fn(&dyn Library, &mut Random) -> Replies;
@@ -29,7 +29,7 @@ pub const SORTS: [(&str, Round); 7] = [
 pub fn bytes(library: &dyn Library, random: &mut Random) -> Replies {
     let (rec, pat) = any_bytes(random);
     let number = random.pick(&[0, 1, 2, 7, 65_535]);
-    let lent = random.pick(&[5, 5, 5, 4, 0, 6, 9]);
+    let lent = random.pick(&[5, 5, 5, 6, 6, 6, 4, 0, 9]);
     let fields = dirt(random, lent);
     let lent = random.pick(&[2, 2, 1, 0, 3, 5]);
     let counts = dirt(random, lent);
@@ -43,7 +43,9 @@ pub fn bytes(library: &dyn Library, random: &mut Random) -> Replies {
 /// A record begun, lines added to it, and some of them read back.
 pub fn writes(library: &dyn Library, random: &mut Random) -> Replies {
     let places = random.pick(&[0, 1, 2, 2, 4, 300, 1_023, 1_024, 1_025, 65_535]);
-    let room = random.pick(&[0, 3, 4, 5, 13, 14, 15, 24, 33, 34, 44, 60, 64]);
+    let room = random.pick(&[
+        0, 3, 4, 5, 13, 14, 15, 17, 18, 19, 24, 28, 32, 33, 34, 44, 60, 64, 74,
+    ]);
     let mut buf = dirty_bytes(random, room);
     let reply = compare::begin(library, &buf, places)?;
     let mut replies = vec![reply];
@@ -59,8 +61,8 @@ pub fn writes(library: &dyn Library, random: &mut Random) -> Replies {
         let line = new_line(random, places.clamp(1, 1_024));
         let claimed = match random.below(10) {
             0 => random.pick(&[len + 1, len.wrapping_sub(1), buf.len(), buf.len() + 1]),
-            1 => random.pick(&[usize::MAX, usize::MAX - 9, 40_965, 3, 0]),
-            2 => len.saturating_sub(random.between(1, 11)),
+            1 => random.pick(&[usize::MAX, usize::MAX - 9, LONGEST + 1, 3, 0]),
+            2 => len.saturating_sub(random.between(1, 15)),
             _ => len,
         };
         if random.once_in(10) {
@@ -71,9 +73,10 @@ pub fn writes(library: &dyn Library, random: &mut Random) -> Replies {
         buf = after;
         if reply >> 32 == 0 {
             len = reply as usize;
-            let last = ((len - 4) / 10 - 1) as u16;
+            let lines = read_record(&buf[..len]).map_or(1, |record| record.lines.len());
+            let last = lines as u16 - 1;
             let number = random.pick(&[last, last, last.wrapping_sub(1), 0, last + 1]);
-            let lent = random.pick(&[5, 5, 8, 4]);
+            let lent = random.pick(&[5, 5, 6, 6, 8, 4]);
             let fields = dirt(random, lent);
             replies.push(compare::read(library, &buf[..len], number, &fields)?);
         }
@@ -81,7 +84,8 @@ pub fn writes(library: &dyn Library, random: &mut Random) -> Replies {
     Ok(replies)
 }
 
-/// A buffer with a record that is full, or has room for one line, and the record's length.
+/// A buffer with a record that is full, or has room for one line, and the record's length. Its lines
+/// are untimed, timed, or in turns the one and the other. One in five has a line too many.
 fn nearly_full(random: &mut Random) -> (Vec<u8>, usize) {
     let line = Line {
         from: 0,
@@ -89,11 +93,15 @@ fn nearly_full(random: &mut Random) -> (Vec<u8>, usize) {
         class: random.byte(),
         sail: random.below(16_777_216) as u32,
         to: 0,
+        time: None,
     };
-    let count = MOST_LINES - random.below(2);
-    let mut buf = written(1, &vec![line; count]);
+    let timed = line.at(random.below(DAY as usize) as u32);
+    let turns = random.pick(&[[line, line], [timed, timed], [line, timed]]);
+    let count = MOST_LINES + 1 - random.pick(&[0, 1, 1, 2, 2]);
+    let lines: Vec<Line> = turns.into_iter().cycle().take(count).collect();
+    let mut buf = written(1, &lines);
     let len = buf.len();
-    let more = random.pick(&[0, 9, 10, 11]);
+    let more = random.pick(&[0, 9, 10, 11, 13, 14, 15]);
     buf.extend(dirty_bytes(random, more));
     (buf, len)
 }
@@ -101,12 +109,7 @@ fn nearly_full(random: &mut Random) -> (Vec<u8>, usize) {
 /// One request to the checker.
 pub fn check(library: &dyn Library, random: &mut Random) -> Replies {
     let asked = request(random);
-    let ask = Ask {
-        rec: &asked.rec,
-        pat: &asked.pat,
-        from: asked.from,
-        to: asked.to,
-    };
+    let ask = asked.ask();
     let work = dirt(random, asked.work_len);
     Ok(vec![compare::check(library, ask, &asked.chain, &work)?])
 }
@@ -114,13 +117,8 @@ pub fn check(library: &dyn Library, random: &mut Random) -> Replies {
 /// One request to the finder; a chain that is found is given to the checker too.
 pub fn find(library: &dyn Library, random: &mut Random) -> Replies {
     let asked = request(random);
-    let ask = Ask {
-        rec: &asked.rec,
-        pat: &asked.pat,
-        from: asked.from,
-        to: asked.to,
-    };
-    let first = shortest(ask.rec, ask.pat, ask.from, ask.to, asked.work_len);
+    let ask = asked.ask();
+    let first = shortest(ask, asked.work_len);
     let chain = match &first {
         Ok(Some(chain)) => chain.clone(),
         _ => Vec::new(),
@@ -157,12 +155,7 @@ const MOST_ONES: usize = 300;
 /// were altered.
 pub fn search(library: &dyn Library, random: &mut Random) -> Replies {
     let asked = request(random);
-    let ask = Ask {
-        rec: &asked.rec,
-        pat: &asked.pat,
-        from: asked.from,
-        to: asked.to,
-    };
+    let ask = asked.ask();
     let needed = compare::search_words(library, ask.rec, ask.pat)?;
     let finders = words(ask.rec, ask.pat).unwrap_or(0);
     let work_len = match needed >> 32 {
@@ -259,15 +252,10 @@ pub fn starts(library: &dyn Library, random: &mut Random) -> Replies {
     };
     let places = read_record(&asked.rec).map_or(4, |record| record.places);
     let starts = list_of_starts(random, places, asked.from);
-    let listed = Listed {
-        rec: &asked.rec,
-        pat: &asked.pat,
-        starts: &starts,
-        to: asked.to,
-    };
+    let listed = asked.listed(&starts);
     let work = dirt(random, asked.work_len);
     let lengths = dirt(random, asked.room.entries(starts.len()));
-    let expected = listed.reply(work.len(), lengths.len());
+    let expected = request::starts(listed, work.len(), lengths.len());
     let mut replies = vec![compare::starts_against(
         library, listed, &work, &lengths, &expected,
     )?];

@@ -9,7 +9,7 @@ use crate::generator::request;
 use crate::program::{OUT, WORK};
 use crate::random::Random;
 use crate::record::read_record;
-use crate::request::{fitted, shortest, FindReply};
+use crate::request::{fitted, shortest, Ask, FindReply};
 use std::collections::BTreeMap;
 
 /// The program's buffer for the file.
@@ -38,17 +38,17 @@ fn sort(reply: &FindReply, places: usize) -> (String, usize) {
         FindReply::NoChain => ("none".to_string(), 60),
         FindReply::Refused(19, _) => ("refused 19".to_string(), 40),
         FindReply::Refused(17, _) => ("refused 17".to_string(), 12),
-        // A record of 40,965 bytes is too long for the file.
-        FindReply::Refused(1, _) => ("refused 1".to_string(), 0),
+        // Records that are too long or too full for these are too long for the file.
+        FindReply::Refused(number @ (1 | 22), _) => (format!("refused {number}"), 0),
         FindReply::Refused(16, _) => ("refused 16".to_string(), 5),
         FindReply::Refused(number, _) => (format!("refused {number}"), 8),
     }
 }
 
-/// All sorts, the refusals 2 to 17, 19, 24 and 25 among them, have their number of rows.
+/// All sorts, the refusals 2 to 17, 19, 24, 25 and 28 among them, have their number of rows.
 fn complete(counts: &BTreeMap<String, usize>) -> bool {
     let refusals = (2..=17)
-        .chain([19, 24, 25])
+        .chain([19, 24, 25, 28])
         .map(|number| FindReply::Refused(number, 0));
     refusals
         .chain([FindReply::NoChain, FindReply::Found(vec![])])
@@ -105,7 +105,12 @@ pub fn rows(seed: u64) -> Rows {
         {
             continue;
         }
-        let first = shortest(&asked.rec, &asked.pat, asked.from, asked.to, asked.work_len);
+        // The program asks without windows, so that every line is inside.
+        let ask = Ask {
+            options: None,
+            ..asked.ask()
+        };
+        let first = shortest(ask, asked.work_len);
         let length = match &first {
             Ok(Some(chain)) => chain.len(),
             _ => 0,

@@ -6,13 +6,16 @@
 //! from which a line leads to it. As soon as a first state is as near as what waits, the states
 //! found are taken up once more, the last one first: a state in front looks for the least line that
 //! leads nearer, and the marks that this leaves say the chain. What is taken up in either way counts.
+//!
+//! A line outside its kind's window stands in the area with the kind 0, which no pattern takes: its
+//! number, its places and its boat are there as if it were inside.
 
 use crate::chains::Asked;
 use crate::machine::{boat_words, meets, Word};
 use crate::pattern::read_pattern;
 use crate::positions::{Position, Positions};
 use crate::record::{read_record, MOST_LINES, MOST_PLACES};
-use crate::request::{self, fitted, refused, FindReply, LARGEST};
+use crate::request::{self, fitted, refused, Ask, FindReply, LARGEST};
 
 /// The number of a move or a finish where no search is under way.
 pub const NO_SEARCH: u8 = 26;
@@ -23,6 +26,8 @@ const NUMBERS: usize = 16;
 const PATTERN: usize = 192;
 /// Where the boats begin, or the lines where no boat is kept.
 pub(crate) const LOADED: usize = 1 + NUMBERS + PATTERN;
+/// The kind of a line outside its window.
+pub(crate) const OUTSIDE: u8 = 0;
 
 // ---- states
 
@@ -108,10 +113,11 @@ impl Course {
             }
         }
         let number = |boat| 1 + boats[1..].iter().position(|b| *b == boat).expect("noted");
-        let ways = record.lines.iter().zip(&words).map(|(line, &boat)| Way {
+        let lines = record.lines.iter().zip(&words).zip(&asked.inside);
+        let ways = lines.map(|((line, &boat), &inside)| Way {
             from: line.from as usize,
             to: line.to as usize,
-            kind: line.kind,
+            kind: if inside { line.kind } else { OUTSIDE },
             boat: number(boat),
         });
         let (ways, radix) = (ways.collect(), boats.len());
@@ -596,18 +602,12 @@ pub fn words(record: &[u8], pattern: &[u8]) -> Result<u64, u8> {
 
 /// The area after begin, of which there are so many words; or the number of the refused question.
 /// The questions are the finder's, but 17 asks for more.
-pub fn begin(
-    record: &[u8],
-    pattern: &[u8],
-    from: u16,
-    to: u16,
-    work_len: usize,
-) -> Result<Vec<u32>, u8> {
-    let asked = request::ask(record, pattern, from, to, usize::MAX)?;
-    if (work_len as u64) < words(record, pattern)? {
+pub fn begin(ask: Ask, work_len: usize) -> Result<Vec<u32>, u8> {
+    let asked = request::ask(ask, usize::MAX)?;
+    if (work_len as u64) < words(ask.rec, ask.pat)? {
         return Err(17);
     }
-    let mut search = Search::new(Course::of(&asked, pattern), to);
+    let mut search = Search::new(Course::of(&asked, ask.pat), ask.to);
     search.settle();
     Ok(search.put_back(work_len))
 }
@@ -654,14 +654,8 @@ pub fn move_values(work: &[u32], amount: usize) -> (u64, Vec<u32>) {
 }
 
 /// The reply of begin, and the area after it.
-pub fn begin_values(
-    record: &[u8],
-    pattern: &[u8],
-    from: u16,
-    to: u16,
-    work: &[u32],
-) -> (u64, Vec<u32>) {
-    match begin(record, pattern, from, to, work.len()) {
+pub fn begin_values(ask: Ask, work: &[u32]) -> (u64, Vec<u32>) {
+    match begin(ask, work.len()) {
         Ok(after) => (0, after),
         Err(number) => (refused(number, 0), work.to_vec()),
     }

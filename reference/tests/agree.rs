@@ -16,7 +16,7 @@ fn requests(seed: u64, count: usize) -> impl Iterator<Item = Request> {
 fn clauses_and_machine() {
     let (mut yes, mut no) = (0, 0);
     for r in requests(11, 20_000) {
-        let Ok(asked) = ask(&r.rec, &r.pat, r.from, r.to, ENOUGH) else {
+        let Ok(asked) = ask(r.ask(), ENOUGH) else {
             continue;
         };
         let lines = asked.record.lines.len();
@@ -42,7 +42,7 @@ fn clauses_and_machine() {
 fn clauses_and_machine_on_all_chains() {
     let mut compared = 0;
     for r in requests(12, 1_500) {
-        let Ok(asked) = ask(&r.rec, &r.pat, r.from, r.to, ENOUGH) else {
+        let Ok(asked) = ask(r.ask(), ENOUGH) else {
             continue;
         };
         let lines = asked.record.lines.len() as u16;
@@ -70,7 +70,7 @@ fn clauses_and_machine_on_all_chains() {
 fn trying_all_and_search() {
     let (mut first, mut none, mut open, mut longest) = (0, 0, 0, 0);
     for r in requests(13, 8_000) {
-        let Ok(asked) = ask(&r.rec, &r.pat, r.from, r.to, ENOUGH) else {
+        let Ok(asked) = ask(r.ask(), ENOUGH) else {
             continue;
         };
         let searched = search(&asked);
@@ -98,7 +98,7 @@ fn trying_all_and_search() {
 #[test]
 fn found_is_accepted() {
     for r in requests(14, 4_000) {
-        let Ok(asked) = ask(&r.rec, &r.pat, r.from, r.to, ENOUGH) else {
+        let Ok(asked) = ask(r.ask(), ENOUGH) else {
             continue;
         };
         if let Some(chain) = search(&asked) {

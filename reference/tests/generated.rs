@@ -6,9 +6,10 @@ use reference::library::{Ask, Library, Listed, Own};
 use reference::membership::compared;
 use reference::pattern::{Node, Rule};
 use reference::random::Random;
-use reference::record::{count_boats, read_record, written, Boat, Line, UNREAD};
+use reference::record::{count_boats, read_record, written, Boat, Line, DAY, UNREAD};
 use reference::request::{ask, shortest, NO_CHAIN};
 use reference::rounds::{self, Round};
+use reference::windows::{Window, Windows, WHOLE_DAY};
 use std::cell::RefCell;
 use std::collections::{BTreeMap, BTreeSet};
 
@@ -31,20 +32,20 @@ fn all_met(seen: &BTreeMap<u64, usize>, questions: impl IntoIterator<Item = u64>
 
 #[test]
 fn every_question_is_met() {
-    let of_both = (0..=14).chain([16, 18, 24, 25]);
+    let of_both = (0..=14).chain([16, 18, 22, 24, 25, 28]);
     all_met(&tally(rounds::bytes, 1, 15_000), of_both);
     all_met(
         &tally(rounds::writes, 2, 8_000),
-        [0, 1, 2, 3, 4, 5, 6, 7, 18, 20, 21, 22, 23],
+        [0, 1, 2, 3, 4, 5, 6, 7, 18, 20, 21, 22, 23, 28],
     );
-    let of_check = (2..=18).chain([0, 24, 25]);
+    let of_check = (2..=18).chain([0, 22, 24, 25, 27, 28]);
     all_met(&tally(rounds::check, 3, 20_000), of_check);
-    let of_find = (2..=17).chain([0, 19, 24, 25]);
+    let of_find = (2..=17).chain([0, 19, 22, 24, 25, 27, 28]);
     all_met(&tally(rounds::find, 4, 20_000), of_find);
-    all_met(&tally(rounds::boats, 5, 4_000), 0..=7);
-    let of_search = (2..=17).chain([0, 19, 24, 25, 26]);
+    all_met(&tally(rounds::boats, 5, 4_000), (0..=7).chain([22, 28]));
+    let of_search = (2..=17).chain([0, 19, 22, 24, 25, 26, 27, 28]);
     all_met(&tally(rounds::search, 6, 10_000), of_search);
-    let of_starts = (2..=17).chain([0, 19, 24, 25]);
+    let of_starts = (2..=17).chain([0, 19, 22, 24, 25, 27, 28]);
     all_met(&tally(rounds::starts, 7, 15_000), of_starts);
 }
 
@@ -74,7 +75,7 @@ fn chains_are_long_and_outputs_tight() {
     let (mut beyond_places, mut exact, mut short, mut again) = (0, 0, 0, 0);
     for _ in 0..6_000 {
         let r = request(&mut random);
-        let Ok(Some(chain)) = shortest(&r.rec, &r.pat, r.from, r.to, r.work_len) else {
+        let Ok(Some(chain)) = shortest(r.ask(), r.work_len) else {
             continue;
         };
         let record = read_record(&r.rec).expect("it passed");
@@ -97,7 +98,7 @@ fn unread_numbers_are_met() {
     let mut random = Random::new(8);
     let (mut with, mut without, mut lines, mut unread) = (0, 0, 0, 0);
     let (mut class_0, mut number_0, mut changed) = (0, 0, 0);
-    for _ in 0..10_000 {
+    for _ in 0..12_000 {
         let r = request(&mut random);
         let Ok(mut record) = read_record(&r.rec) else {
             continue;
@@ -117,7 +118,7 @@ fn unread_numbers_are_met() {
             (line.class, line.sail) = (9, 9);
         }
         let renamed = written(record.places, &record.lines);
-        let first = |rec: &[u8]| shortest(rec, &r.pat, r.from, r.to, r.work_len);
+        let first = |rec: &[u8]| shortest(Ask { rec, ..r.ask() }, r.work_len);
         changed += (first(&r.rec) != first(&renamed)) as usize;
     }
     println!("{with} days with {unread} unread of {lines} lines, {without} without; {class_0} with class 0, {number_0} with number 0; {changed} replies changed");
@@ -384,6 +385,110 @@ fn lists_are_met() {
     }
 }
 
+/// Days have timed lines, others, and both; questions have options of every length and none; times
+/// are at every edge of their windows, and both edges decide replies; windows fail that are used and
+/// that are not; and untimed lines are inside and outside.
+#[test]
+fn windows_are_met() {
+    let mut random = Random::new(13);
+    let mut seen: BTreeMap<&str, usize> = BTreeMap::new();
+    let mut lengths = BTreeSet::new();
+    for _ in 0..12_000 {
+        let r = request(&mut random);
+        lengths.extend(r.options.as_ref().map(Vec::len));
+        let mut met = |what: &'static str, is: bool| *seen.entry(what).or_insert(0) += is as usize;
+        met("no options", r.options.is_none());
+        let windows = Windows::of(r.options.as_deref());
+        let Ok(record) = read_record(&r.rec) else {
+            continue;
+        };
+        let times = || record.lines.iter().map(|line| line.time);
+        met("all timed", times().all(|time| time.is_some()));
+        met("none timed", times().all(|time| time.is_none()));
+        met(
+            "some timed",
+            times().any(|t| t.is_some()) && times().any(|t| t.is_none()),
+        );
+        if !windows.pass() {
+            let fails = |line: &Line| !windows.of_kind(line.kind).passes();
+            let used = record.lines.iter().any(fails);
+            met("27 of a kind of the record", used);
+            met("27 of another kind", !used);
+            continue;
+        }
+        for line in record.lines.iter().take(60) {
+            let Window { open, close } = windows.of_kind(line.kind);
+            let whole = windows.of_kind(line.kind) == WHOLE_DAY;
+            let Some(time) = line.time else {
+                met("untimed, inside", whole);
+                met("untimed, outside", !whole);
+                continue;
+            };
+            met("one before it opens", time + 1 == open);
+            met("as it opens", time == open && open > 0);
+            met("one before it closes", time + 1 == close && close < DAY);
+            met("as it closes", time == close);
+            met("at 0", time == 0);
+            met("at the end of the day", time == DAY - 1);
+        }
+        let Ok(mut asked) = ask(r.ask(), r.work_len) else {
+            continue;
+        };
+        let first = search(&asked);
+        let outside = asked.inside.iter().filter(|&&inside| !inside).count();
+        met("lines outside", outside > 0);
+        met("found beside lines outside", outside > 0 && first.is_some());
+        let moved = |open: u32, close: u32| -> Vec<bool> {
+            let lines = record.lines.iter();
+            lines
+                .map(|line| {
+                    let window = windows.of_kind(line.kind);
+                    let other = Window {
+                        open: window.open + open,
+                        close: window.close + close,
+                    };
+                    match line.time {
+                        Some(_) => other.has(line.time),
+                        None => window.has(None),
+                    }
+                })
+                .collect()
+        };
+        let mut decides = |what: &'static str, inside: Vec<bool>| {
+            asked.inside = inside;
+            met(what, search(&asked) != first);
+        };
+        decides("the windows decide", vec![true; record.lines.len()]);
+        decides("the opening second decides", moved(1, 0));
+        decides("the closing second decides", moved(0, 1));
+    }
+    println!("{seen:?}");
+    assert_eq!(lengths, (0..=34).collect());
+    for (what, least) in [
+        ("no options", 2_000),
+        ("all timed", 1_000),
+        ("none timed", 2_000),
+        ("some timed", 4_000),
+        ("27 of a kind of the record", 150),
+        ("27 of another kind", 100),
+        ("untimed, inside", 10_000),
+        ("untimed, outside", 10_000),
+        ("one before it opens", 500),
+        ("as it opens", 1_000),
+        ("one before it closes", 1_000),
+        ("as it closes", 500),
+        ("at 0", 3_000),
+        ("at the end of the day", 3_000),
+        ("lines outside", 2_500),
+        ("found beside lines outside", 1_500),
+        ("the windows decide", 800),
+        ("the opening second decides", 300),
+        ("the closing second decides", 120),
+    ] {
+        assert!(seen[what] > least, "{what}: {}", seen[what]);
+    }
+}
+
 /// The pattern with one of its tests in place of another.
 fn retested(node: &Node, from: Rule, to: Rule) -> Node {
     let inside = |node: &Node| Box::new(retested(node, from, to));
@@ -425,7 +530,7 @@ fn outcomes_are_met() {
     let mut changed = BTreeMap::new();
     for _ in 0..25_000 {
         let r = request(&mut random);
-        let Ok(mut asked) = ask(&r.rec, &r.pat, r.from, r.to, r.work_len) else {
+        let Ok(mut asked) = ask(r.ask(), r.work_len) else {
             continue;
         };
         // Full days have more such lines than all others together.
@@ -532,7 +637,7 @@ fn rounds_are_met() {
     let mut changed = BTreeMap::new();
     for _ in 0..10_000 {
         let r = request(&mut random);
-        let mut asked = match ask(&r.rec, &r.pat, r.from, r.to, r.work_len) {
+        let mut asked = match ask(r.ask(), r.work_len) {
             Ok(asked) => asked,
             Err(number) => {
                 *refused.entry(number).or_insert(0) += 1;
@@ -572,8 +677,8 @@ fn a_seed_gives_the_same_requests() {
     for _ in 0..50 {
         let (a, b) = (request(&mut one), request(&mut two));
         assert_eq!(
-            (a.rec, a.pat, a.chain, a.work_len),
-            (b.rec, b.pat, b.chain, b.work_len)
+            (a.rec, a.pat, a.chain, a.work_len, a.options),
+            (b.rec, b.pat, b.chain, b.work_len, b.options)
         );
     }
 }

@@ -2,7 +2,7 @@
 
 use reference::cases::{lines_of_r, r, E, P};
 use reference::program::answer;
-use reference::record::written;
+use reference::record::{written, Line};
 
 fn asked(from: u16, to: u16, pattern: &[u8]) -> Vec<u8> {
     [&from.to_be_bytes()[..], &to.to_be_bytes(), pattern].concat()
@@ -27,7 +27,28 @@ fn short_and_missing_files() {
     }
     assert_eq!(answer(&r(), &[0, 0, 0, 3]), "refused 8");
     assert_eq!(answer(&[], &asked(0, 0, &[0x20])), "refused 2");
-    assert_eq!(answer(&[1; 40_965], &asked(0, 0, &[0x20])), "refused 1");
+    assert_eq!(answer(&[1; 57_349], &asked(0, 0, &[0x20])), "refused 1");
+    assert_eq!(answer(&[1; 57_348], &asked(0, 0, &[0x20])), "refused 3");
+}
+
+/// The program gives no windows, so that lines are inside at every time.
+#[test]
+fn timed_lines() {
+    let lines: Vec<Line> = lines_of_r()
+        .into_iter()
+        .zip([0, 1, 5, 36_000, 65_536, 86_398, 86_399])
+        .map(|(line, time)| line.at(time))
+        .collect();
+    assert_eq!(
+        answer(&written(4, &lines), &asked(0, 3, &P)),
+        "found 3: 1 2 5"
+    );
+    let late = [lines[0].at(86_400)];
+    assert_eq!(answer(&written(4, &late), &asked(0, 3, &P)), "refused 28");
+    let over = vec![lines[0]; 4_096];
+    let mut over = written(4, &over);
+    *over.last_mut().expect("not empty") = 3;
+    assert_eq!(answer(&over, &asked(0, 3, &P)), "refused 22");
 }
 
 #[test]

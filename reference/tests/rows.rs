@@ -6,7 +6,7 @@ use reference::rows::{rows, LONGEST_FILE};
 fn every_sort_of_reply() {
     let made = rows(1);
     assert!(made.file.len() < LONGEST_FILE, "{} bytes", made.file.len());
-    for number in (2..=17).chain([19, 24, 25]) {
+    for number in (2..=17).chain([19, 24, 25, 28]) {
         let name = format!("refused {number}");
         assert!(made.counts.get(&name) > Some(&0), "no {name}");
     }

@@ -17,14 +17,14 @@ fn requests(seed: u64, count: usize, largest: usize) -> impl Iterator<Item = Req
 }
 
 fn size(r: &Request) -> Option<usize> {
-    let asked = ask(&r.rec, &r.pat, r.from, r.to, ENOUGH).ok()?;
+    let asked = ask(r.ask(), ENOUGH).ok()?;
     Some(search_size(&asked.record, &asked.pattern) as usize)
 }
 
 /// The area that begin leaves, with just the words that it needs.
 fn begun(r: &Request) -> Vec<u32> {
     let needed = words(&r.rec, &r.pat).expect("it passes") as usize;
-    begin(&r.rec, &r.pat, r.from, r.to, needed).expect("it passes")
+    begin(r.ask(), needed).expect("it passes")
 }
 
 /// Every area from begin to the end, by moves of 1.
@@ -45,7 +45,7 @@ fn areas(r: &Request) -> Vec<Vec<u32>> {
 fn finish_says_what_find_says() {
     let (mut found, mut none, mut counts) = (0, 0, 0);
     for r in requests(21, 6_000, 300) {
-        let first = shortest(&r.rec, &r.pat, r.from, r.to, ENOUGH);
+        let first = shortest(r.ask(), ENOUGH);
         let length = match &first {
             Ok(Some(chain)) => chain.len(),
             _ => 0,
@@ -68,8 +68,8 @@ fn finish_says_what_find_says() {
 #[test]
 fn larger_searches_too() {
     let mut long = 0;
-    for r in requests(22, 3_000, 40_000) {
-        let first = shortest(&r.rec, &r.pat, r.from, r.to, ENOUGH);
+    for r in requests(22, 4_000, 40_000) {
+        let first = shortest(r.ask(), ENOUGH);
         let area = begun(&r);
         let (taken, half) = moved(&area, 40).expect("under way");
         let (_, end) = moved(&half, usize::MAX).expect("under way");
@@ -155,7 +155,7 @@ fn states_were_reached() {
 }
 
 fn keeps(r: &Request) -> bool {
-    ask(&r.rec, &r.pat, r.from, r.to, ENOUGH).is_ok_and(|asked| asked.pattern.keeps > 0)
+    ask(r.ask(), ENOUGH).is_ok_and(|asked| asked.pattern.keeps > 0)
 }
 
 /// An altered area is left with 26, or moved on by no more than the amount.

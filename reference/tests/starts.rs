@@ -33,7 +33,7 @@ fn requests(seed: u64, count: usize) -> impl Iterator<Item = (Request, Vec<u16>)
 }
 
 fn lengths(r: &Request, list: &[u16]) -> Option<Vec<Option<usize>>> {
-    match starts(&r.rec, &r.pat, list, r.to, ENOUGH, list.len()) {
+    match starts(r.listed(list), ENOUGH, list.len()) {
         StartsReply::Lengths(lengths) => Some(lengths),
         StartsReply::Refused(..) => None,
     }
@@ -41,7 +41,7 @@ fn lengths(r: &Request, list: &[u16]) -> Option<Vec<Option<usize>>> {
 
 /// What the finder says of one place, with an output long enough.
 fn alone(r: &Request, place: u16) -> FindReply {
-    find(&r.rec, &r.pat, place, r.to, ENOUGH, usize::MAX)
+    find(r.listed(&[]).alone(place), ENOUGH, usize::MAX)
 }
 
 #[test]
@@ -86,9 +86,10 @@ fn backward(asked: &Asked) -> Vec<Option<usize>> {
     let mut met: HashSet<Standing> = begin.iter().copied().collect();
     let mut waiting = begin.clone();
     while let Some((place, state)) = waiting.pop() {
-        for (line, &boat) in asked.record.lines.iter().zip(&boats) {
+        let lines = asked.record.lines.iter().zip(&boats).zip(&asked.inside);
+        for ((line, &boat), &inside) in lines {
             let mut after = Vec::new();
-            if line.from == place {
+            if line.from == place && inside {
                 machine.take(state, line, boat, &mut after);
             }
             for next in after.into_iter().map(|after| (line.to, after)) {
@@ -124,7 +125,7 @@ fn backward(asked: &Asked) -> Vec<Option<usize>> {
 fn one_search_backward_says_the_same() {
     let (mut found, mut none, mut longest) = (0, 0, 0);
     for (r, _) in requests(32, 6_000) {
-        let Ok(asked) = ask(&r.rec, &r.pat, r.to, r.to, ENOUGH) else {
+        let Ok(asked) = ask(r.listed(&[]).alone(r.to), ENOUGH) else {
             continue;
         };
         if search_size(&asked.record, &asked.pattern) > 40_000 {
@@ -166,11 +167,11 @@ fn entries_follow_the_list() {
 fn a_list_is_refused_like_its_places() {
     let (mut by_one, mut by_finish, mut others, mut short, mut passed) = (0, 0, 0, 0, 0);
     let mut random = Random::new(34);
-    for (r, list) in requests(34, 8_000) {
+    for (r, list) in requests(34, 12_000) {
         let room = r.room.entries(list.len());
-        let reply = starts(&r.rec, &r.pat, &list, r.to, r.work_len, room);
-        let refusal = |&place: &u16| match find(&r.rec, &r.pat, place, r.to, r.work_len, usize::MAX)
-        {
+        let reply = starts(r.listed(&list), r.work_len, room);
+        let alone = |place: u16| r.listed(&[]).alone(place);
+        let refusal = |&place: &u16| match find(alone(place), r.work_len, usize::MAX) {
             FindReply::Refused(number, _) => Some(number),
             _ => None,
         };
@@ -220,6 +221,7 @@ fn lent_lists() {
             pat: &P,
             starts: list,
             to,
+            options: None,
         };
         let (mut work, mut lengths) = (vec![7; words], vec![9; room]);
         let reply = Own.starts(listed, &mut work, &mut lengths);

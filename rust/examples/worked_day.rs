@@ -46,7 +46,7 @@ fn answer(day: Vec<u8>, question: &[u8]) -> Result<String, Refusal> {
     let numbers: String = chain.iter().map(|number| format!(" {number}")).collect();
     let mut text = format!("found {}:{numbers}\n", chain.len());
     for &number in chain {
-        text += &format!("line {number}: {}\n", day.line(number)?);
+        text += &format!("line {number}: {}\n", day.written_line(number)?);
     }
     Ok(text)
 }

@@ -1,7 +1,7 @@
 //! Finding and checking, with buffers that are kept from one request to the next.
 
 use crate::lent::{self, CheckReply, FindReply, StartsReply, WordsReply};
-use crate::Refusal;
+use crate::{Options, Refusal};
 
 /// What is asked: a record and a pattern, as bytes, and two places.
 #[derive(Clone, Copy, PartialEq, Eq, Debug)]
@@ -116,18 +116,45 @@ impl Finder {
     /// several, the one with the lower number at the first difference. `None` says that no
     /// chain, of any length, is accepted.
     ///
-    /// Refusals: 1 to 16, 24 and 25. Question 17 never fails here, since the work area is as large as
-    /// [`lent::words`] says. Nor does 19: where the output is too short for the chain, it is
+    /// Refusals: 1 to 16, 22, 24, 25 and 28. Question 17 never fails here, since the work area is as
+    /// large as [`lent::words`] says. Nor does 19: where the output is too short for the chain, it is
     /// made long enough and the library is asked once more. A `Finder` that meets a chain
     /// longer than any before thus searches twice.
     ///
     /// The chain is lent from the finder's own output, until the finder is used again;
     /// [`Finder::find_owned`] gives one to keep.
     pub fn find(&mut self, question: &Question) -> Result<Option<&[u16]>, Refusal> {
-        let mut reply = self.find_once(question);
+        self.find_with(question, &Options::new())
+    }
+
+    /// As [`Finder::find`], with options: the chain has no line that is outside the window of its
+    /// kind. Refusals: those of [`Finder::find`], and 27.
+    ///
+    /// ```
+    /// use chains::{Finder, Line, Options, Question, Record};
+    ///
+    /// let mut day = Record::begin(2)?;
+    /// let entered = Line { from: 0, kind: 1, class: 2, sail: 150, to: 1 };
+    /// day.add_timed(entered, 5)?;
+    /// day.add_timed(entered, 6)?;
+    /// let question = Question::about(&day, &[0x21, 1], 0, 1);
+    /// let mut finder = Finder::new();
+    /// // Open until second 6, from it on, and until second 5.
+    /// let (early, late) = (Options::new().window(1, 0, 6), Options::new().window(1, 6, 9));
+    /// assert_eq!(finder.find_with(&question, &early)?, Some(&[0][..]));
+    /// assert_eq!(finder.find_with(&question, &late)?, Some(&[1][..]));
+    /// assert_eq!(finder.find_with(&question, &early.window(1, 0, 5))?, None);
+    /// # Ok::<(), chains::Refusal>(())
+    /// ```
+    pub fn find_with(
+        &mut self,
+        question: &Question,
+        options: &Options,
+    ) -> Result<Option<&[u16]>, Refusal> {
+        let mut reply = self.find_once(question, options);
         if let FindReply::Refused(Refusal::OutputTooSmall { length }) = reply {
             self.out.resize(length, 0);
-            reply = self.find_once(question);
+            reply = self.find_once(question, options);
         }
         match reply {
             FindReply::Found(length) => Ok(Some(&self.out[..length])),
@@ -151,10 +178,19 @@ impl Finder {
     /// # Ok::<(), chains::Refusal>(())
     /// ```
     pub fn find_owned(&mut self, question: &Question) -> Result<Option<Vec<u16>>, Refusal> {
-        Ok(self.find(question)?.map(<[u16]>::to_vec))
+        self.find_owned_with(question, &Options::new())
     }
 
-    fn find_once(&mut self, question: &Question) -> FindReply {
+    /// As [`Finder::find_with`], with a chain of the caller's own.
+    pub fn find_owned_with(
+        &mut self,
+        question: &Question,
+        options: &Options,
+    ) -> Result<Option<Vec<u16>>, Refusal> {
+        Ok(self.find_with(question, options)?.map(<[u16]>::to_vec))
+    }
+
+    fn find_once(&mut self, question: &Question, options: &Options) -> FindReply {
         let Question {
             record,
             pattern,
@@ -162,13 +198,24 @@ impl Finder {
             to,
         } = *question;
         let work = area(&mut self.work, record, pattern);
-        lent::find(record, pattern, from, to, work, &mut self.out)
+        lent::find_with(record, pattern, from, to, options, work, &mut self.out)
     }
 
     /// Does the chain lead from the first place to the second, and does the pattern accept it?
     ///
-    /// Refusals: 1 to 16, 18, 24 and 25.
+    /// Refusals: 1 to 16, 18, 22, 24, 25 and 28.
     pub fn check(&mut self, question: &Question, chain: &[u16]) -> Result<bool, Refusal> {
+        self.check_with(question, chain, &Options::new())
+    }
+
+    /// As [`Finder::check`], with options: no also where a line of the chain is outside the window of
+    /// its kind. Refusals: those of [`Finder::check`], and 27.
+    pub fn check_with(
+        &mut self,
+        question: &Question,
+        chain: &[u16],
+        options: &Options,
+    ) -> Result<bool, Refusal> {
         let Question {
             record,
             pattern,
@@ -176,7 +223,7 @@ impl Finder {
             to,
         } = *question;
         let work = area(&mut self.work, record, pattern);
-        match lent::check(record, pattern, from, to, chain, work) {
+        match lent::check_with(record, pattern, from, to, chain, options, work) {
             CheckReply::Yes => Ok(true),
             CheckReply::No => Ok(false),
             CheckReply::Refused(refusal) => Err(refusal),
@@ -187,9 +234,9 @@ impl Finder {
     /// chain, of any length, is accepted: what [`Finder::find`] finds for each, out of one search. The
     /// lengths are in the order of the places; a place may come more than once.
     ///
-    /// Refusals: 1 to 16, 24 and 25; 15 asks about every one of the places, and about the one that
-    /// chains lead to. Questions 17 and 19 never fail here, since the work area and the words for
-    /// lengths are as many as are needed.
+    /// Refusals: 1 to 16, 22, 24, 25 and 28; 15 asks about every one of the places, and about the one
+    /// that chains lead to. Questions 17 and 19 never fail here, since the work area and the words
+    /// for lengths are as many as are needed.
     ///
     /// ```
     /// use chains::{Finder, Line, Record, StartsQuestion};
@@ -209,6 +256,17 @@ impl Finder {
         question: &StartsQuestion,
         places: &[u16],
     ) -> Result<Vec<Option<u32>>, Refusal> {
+        self.starts_with(question, places, &Options::new())
+    }
+
+    /// As [`Finder::starts`], with options: what [`Finder::find_with`] finds for each place. Refusals:
+    /// those of [`Finder::starts`], and 27.
+    pub fn starts_with(
+        &mut self,
+        question: &StartsQuestion,
+        places: &[u16],
+        options: &Options,
+    ) -> Result<Vec<Option<u32>>, Refusal> {
         let StartsQuestion {
             record,
             pattern,
@@ -218,7 +276,8 @@ impl Finder {
         if self.lengths.len() < places.len() {
             self.lengths.resize(places.len(), 0);
         }
-        match lent::starts(record, pattern, places, to, work, &mut self.lengths) {
+        let lengths = &mut self.lengths;
+        match lent::starts_with(record, pattern, places, to, options, work, lengths) {
             StartsReply::Lengths(count) => Ok(self.lengths[..count].iter().map(known).collect()),
             StartsReply::Refused(refusal) => Err(refusal),
         }

@@ -5,6 +5,10 @@
 //! [`Finder`](crate::Finder) and [`Search`](crate::Search) do the lending for you. A later version
 //! may add cases to a reply, so a `match` needs an arm for the rest.
 //!
+//! The questions about a record are 1 and 2, then at each line 3, 22, 4, 5, 6 and, where it has a
+//! time, 28, and at the end 3 and 7. Those about a pattern are 8, 9, 10, 11, 24, 12 and 13 at each
+//! command, then 14, then 25.
+//!
 //! ```
 //! use chains::lent::{self, FindReply, PatternReply, WordsReply};
 //!
@@ -22,9 +26,9 @@
 //! }
 //! ```
 
-use crate::{linked, BoatCount, Counts, Line, Refusal};
+use crate::{linked, BoatCount, Counts, Line, Options, Refusal};
 
-/// The reply of [`begin`] and [`add`].
+/// The reply of [`begin`], [`add`] and [`add_timed`].
 #[derive(Clone, Copy, PartialEq, Eq, Debug)]
 #[must_use]
 #[non_exhaustive]
@@ -40,8 +44,10 @@ pub enum WriteReply {
 #[must_use]
 #[non_exhaustive]
 pub enum LineReply {
-    /// The line.
+    /// The line, which has no time.
     Line(Line),
+    /// The line, and its time in seconds since midnight.
+    Timed(Line, u32),
     /// A question was answered no.
     Refused(Refusal),
 }
@@ -79,7 +85,7 @@ pub enum WordsReply {
     Refused(Refusal),
 }
 
-/// The reply of [`check`].
+/// The reply of [`check`] and [`check_with`].
 #[derive(Clone, Copy, PartialEq, Eq, Debug)]
 #[must_use]
 #[non_exhaustive]
@@ -92,7 +98,7 @@ pub enum CheckReply {
     Refused(Refusal),
 }
 
-/// The reply of [`find`] and [`search_finish`].
+/// The reply of [`find`], [`find_with`] and [`search_finish`].
 #[derive(Clone, Copy, PartialEq, Eq, Debug)]
 #[must_use]
 #[non_exhaustive]
@@ -105,7 +111,7 @@ pub enum FindReply {
     Refused(Refusal),
 }
 
-/// The reply of [`starts`].
+/// The reply of [`starts`] and [`starts_with`].
 #[derive(Clone, Copy, PartialEq, Eq, Debug)]
 #[must_use]
 #[non_exhaustive]
@@ -116,7 +122,7 @@ pub enum StartsReply {
     Refused(Refusal),
 }
 
-/// The reply of [`search_begin`].
+/// The reply of [`search_begin`] and [`search_begin_with`].
 #[derive(Clone, Copy, PartialEq, Eq, Debug)]
 #[must_use]
 #[non_exhaustive]
@@ -166,30 +172,58 @@ pub fn begin(buf: &mut [u8], places: u16) -> WriteReply {
     write_reply(linked::begin(buf, places))
 }
 
-/// Adds a line to the record that is the first `len` bytes of the buffer.
+/// Adds a line without a time to the record that is the first `len` bytes of the buffer.
 ///
-/// Refusals: 20, then 1 to 7 of the record, 5 and 6 of the line, 21, 22, 23. The line's ten
+/// Refusals: 20, then those of a record, 5 and 6 of the line, 21, 22, 23. The line's ten
 /// bytes are written from the old end byte on, and a new end byte; all others stay.
 pub fn add(buf: &mut [u8], len: usize, line: Line) -> WriteReply {
     write_reply(linked::add(buf, len, line))
 }
 
+/// Adds a line with a time, in seconds since midnight, to the record that is the first `len` bytes
+/// of the buffer.
+///
+/// Refusals: 20, then those of a record, 5, 6 and 28 of the line, 21, 22, 23. The line's fourteen
+/// bytes are written from the old end byte on, and a new end byte; all others stay.
+///
+/// ```
+/// use chains::lent::{self, LineReply, WriteReply};
+/// use chains::Line;
+///
+/// let mut day = [0; 18];
+/// assert_eq!(lent::begin(&mut day, 2), WriteReply::Length(4));
+/// let line = Line { from: 0, kind: 4, class: 2, sail: 150, to: 1 };
+/// assert_eq!(lent::add_timed(&mut day, 4, line, 53_400), WriteReply::Length(18));
+/// assert_eq!(lent::read(&day, 0), LineReply::Timed(line, 53_400));
+/// ```
+pub fn add_timed(buf: &mut [u8], len: usize, line: Line, time: u32) -> WriteReply {
+    write_reply(linked::add_timed(buf, len, line, time))
+}
+
+/// How many words the library writes of a line with a time: the five of any line, and the time.
+const TIMED: u32 = 6;
+
 /// Reads a line back.
 ///
-/// Refusals: 1 to 7 of the whole record, then 18.
+/// Refusals: those of the whole record, then 18.
 pub fn read(record: &[u8], number: u16) -> LineReply {
-    let mut fields = [0u32; 5];
+    let mut fields = [0u32; TIMED as usize];
     match taken_apart(linked::read(record, number, &mut fields)) {
-        Ok(_) => {
-            let [from, kind, class, sail, to] = fields;
+        Ok(written) => {
+            let [from, kind, class, sail, to, time] = fields;
             // The library widens the fields to 32 bits and no further.
-            LineReply::Line(Line {
+            let line = Line {
                 from: from as u16,
                 kind: kind as u8,
                 class: class as u8,
                 sail,
                 to: to as u16,
-            })
+            };
+            if written == TIMED {
+                LineReply::Timed(line, time)
+            } else {
+                LineReply::Line(line)
+            }
         }
         Err(refusal) => LineReply::Refused(refusal),
     }
@@ -197,7 +231,7 @@ pub fn read(record: &[u8], number: u16) -> LineReply {
 
 /// Reads a pattern: the count of its commands, its deepest nesting of keeps, and its unfolded count.
 ///
-/// Refusals: 8 to 13 and 24 at each command, then 14, then 25.
+/// Refusals: those of a pattern.
 pub fn pattern(pattern: &[u8]) -> PatternReply {
     let mut counts = [0u32; 3];
     match taken_apart(linked::pattern(pattern, &mut counts)) {
@@ -215,7 +249,7 @@ pub fn pattern(pattern: &[u8]) -> PatternReply {
 
 /// Counts the different boats of a record, and the earlier lines that are read to tell.
 ///
-/// Refusals: 1 to 7.
+/// Refusals: those of a record.
 pub fn boats(record: &[u8]) -> BoatsReply {
     let mut counts = [0u32; 2];
     match taken_apart(linked::boats(record, &mut counts)) {
@@ -234,17 +268,19 @@ fn words_reply(reply: u64) -> WordsReply {
     }
 }
 
-/// How many words of work area [`check`], [`find`] and [`starts`] need, for this record and pattern.
+/// How many words of work area [`check`], [`find`] and [`starts`] need, for this record and pattern,
+/// with options and without.
 ///
-/// Refusals: 1 to 14, 24 and 25, then 16.
+/// Refusals: those of a record and a pattern, then 16.
 pub fn words(record: &[u8], pattern: &[u8]) -> WordsReply {
     words_reply(linked::words(record, pattern))
 }
 
 /// Does the chain lead from the first place to the second, and does the pattern accept it?
 ///
-/// Refusals: 1 to 14, 24 and 25, then 15 to 18. The work area may hold anything before; 18 and
-/// every reply that is no refusal leave all of it zeros, and every other refusal leaves it untouched.
+/// Refusals: those of a record and a pattern, then 15 to 18. The work area may hold anything before;
+/// 18 and every reply that is no refusal leave all of it zeros, and every other refusal leaves it
+/// untouched.
 pub fn check(
     record: &[u8],
     pattern: &[u8],
@@ -253,7 +289,30 @@ pub fn check(
     chain: &[u16],
     work: &mut [u32],
 ) -> CheckReply {
-    match taken_apart(linked::check(record, pattern, from, to, chain, work)) {
+    check_reply(linked::check(record, pattern, from, to, chain, work))
+}
+
+/// As [`check`], with a window of the day for each kind: no also where a line of the chain is outside.
+///
+/// Refusals: those of a record and a pattern, then 15, 27, 16, 17, 18. The work area is left as with
+/// [`check`].
+pub fn check_with(
+    record: &[u8],
+    pattern: &[u8],
+    from: u16,
+    to: u16,
+    chain: &[u16],
+    options: &Options,
+    work: &mut [u32],
+) -> CheckReply {
+    let options = options.words();
+    check_reply(linked::check_with(
+        record, pattern, from, to, chain, options, work,
+    ))
+}
+
+fn check_reply(reply: u64) -> CheckReply {
+    match taken_apart(reply) {
         Ok(0) => CheckReply::No,
         Ok(_) => CheckReply::Yes,
         Err(refusal) => CheckReply::Refused(refusal),
@@ -285,12 +344,51 @@ pub fn find(
     find_reply(linked::find(record, pattern, from, to, work, out))
 }
 
+/// As [`find`], with a window of the day for each kind: the chain has no line that is outside.
+///
+/// Refusals: those of a record and a pattern, then 15, 27, 16, 17, then 19 with the shortest length.
+/// The work area and the output are left as with [`find`].
+///
+/// ```
+/// use chains::lent::{self, FindReply, WordsReply};
+/// use chains::Options;
+///
+/// // Two places, and one line at second 5.
+/// let day = [1, 0, 2, 3, 0, 0, 1, 2, 0, 0, 150, 0, 1, 0, 0, 0, 5, 0];
+/// let pattern = [0x21, 1];
+/// let WordsReply::Words(words) = lent::words(&day, &pattern) else { panic!("refused") };
+/// let (mut work, mut out) = (vec![0; words], [0; 8]);
+/// for (open, close, expected) in [
+///     (5, 6, FindReply::Found(1)),
+///     (0, 5, FindReply::NoChain),
+///     (6, 7, FindReply::NoChain),
+/// ] {
+///     let options = Options::new().window(1, open, close);
+///     let reply = lent::find_with(&day, &pattern, 0, 1, &options, &mut work, &mut out);
+///     assert_eq!(reply, expected);
+/// }
+/// ```
+pub fn find_with(
+    record: &[u8],
+    pattern: &[u8],
+    from: u16,
+    to: u16,
+    options: &Options,
+    work: &mut [u32],
+    out: &mut [u16],
+) -> FindReply {
+    let options = options.words();
+    find_reply(linked::find_with(
+        record, pattern, from, to, options, work, out,
+    ))
+}
+
 /// The shortest lengths from many places to one, out of one search: for each place of the list
 /// what [`find`] would say of it, with an output that is long enough.
 ///
-/// Refusals: 1 to 14, 24 and 25, then 15 to 17, then 19 where there are fewer words for lengths
-/// than places in the list, with the length of the list. 15 asks about every place of the list and
-/// about `to`. The work area may hold anything before; 19 and every reply that is no refusal leave
+/// Refusals: those of a record and a pattern, then 15 to 17, then 19 where there are fewer words for
+/// lengths than places in the list, with the length of the list. 15 asks about every place of the
+/// list and about `to`. The work area may hold anything before; 19 and every reply that is no refusal leave
 /// all of it zeros, and every other refusal leaves it untouched. At the front of `lengths` stands
 /// afterwards for each place, in the list's order and each time that it is listed, its length, or
 /// [`NO_CHAIN`] where no chain is accepted; the rest, and all of it after a refusal, is untouched.
@@ -318,6 +416,25 @@ pub fn starts(
     starts_reply(reply, starts.len())
 }
 
+/// As [`starts`], with a window of the day for each kind: for each place of the list what
+/// [`find_with`] would say of it.
+///
+/// Refusals: those of a record and a pattern, then 15, 27, 16, 17, then 19 as with [`starts`]. The
+/// work area and the lengths are left as with [`starts`].
+pub fn starts_with(
+    record: &[u8],
+    pattern: &[u8],
+    starts: &[u16],
+    to: u16,
+    options: &Options,
+    work: &mut [u32],
+    lengths: &mut [u32],
+) -> StartsReply {
+    let options = options.words();
+    let reply = linked::starts_with(record, pattern, starts, to, options, work, lengths);
+    starts_reply(reply, starts.len())
+}
+
 /// The reply about a list of so many places. A number that is the highest of 32 bits stands for all
 /// longer lists too, so it is the list that tells.
 fn starts_reply(reply: u64, listed: usize) -> StartsReply {
@@ -331,18 +448,18 @@ fn starts_reply(reply: u64, listed: usize) -> StartsReply {
     }
 }
 
-/// How many words of work area [`search_begin`] needs, for this record and pattern: three for
-/// each line of the record more than [`words`] says.
+/// How many words of work area [`search_begin`] needs, for this record and pattern, with options and
+/// without: three for each line of the record more than [`words`] says.
 ///
-/// Refusals: 1 to 14, 24 and 25, then 16.
+/// Refusals: those of a record and a pattern, then 16.
 pub fn search_words(record: &[u8], pattern: &[u8]) -> WordsReply {
     words_reply(linked::search_words(record, pattern))
 }
 
 /// Begins a search in steps for the chain that [`find`] finds, and takes up no state of it.
 ///
-/// Refusals: 1 to 14, 24 and 25, then 15 to 17, which asks for what [`search_words`] says. The
-/// work area may hold anything before; it holds the search afterwards, until it is finished, and
+/// Refusals: those of a record and a pattern, then 15 to 17, which asks for what [`search_words`]
+/// says. The work area may hold anything before; it holds the search afterwards, until it is finished, and
 /// its first word is not 0. A refusal leaves it untouched. Neither the record nor the pattern is
 /// looked at again.
 ///
@@ -366,7 +483,30 @@ pub fn search_begin(
     to: u16,
     work: &mut [u32],
 ) -> BeginReply {
-    match taken_apart(linked::search_begin(record, pattern, from, to, work)) {
+    begin_reply(linked::search_begin(record, pattern, from, to, work))
+}
+
+/// As [`search_begin`], with a window of the day for each kind: the search is for the chain that
+/// [`find_with`] finds. The windows are in the area then.
+///
+/// Refusals: those of a record and a pattern, then 15, 27, 16, 17. The work area is left as with
+/// [`search_begin`].
+pub fn search_begin_with(
+    record: &[u8],
+    pattern: &[u8],
+    from: u16,
+    to: u16,
+    options: &Options,
+    work: &mut [u32],
+) -> BeginReply {
+    let options = options.words();
+    begin_reply(linked::search_begin_with(
+        record, pattern, from, to, options, work,
+    ))
+}
+
+fn begin_reply(reply: u64) -> BeginReply {
+    match taken_apart(reply) {
         Ok(_) => BeginReply::Begun,
         Err(refusal) => BeginReply::Refused(refusal),
     }
@@ -387,7 +527,8 @@ pub fn search_move(work: &mut [u32], amount: usize) -> MoveReply {
 }
 
 /// Finishes a search: takes up all that remains, and replies as [`find`] does for the record and
-/// the pattern that were given to [`search_begin`].
+/// the pattern that were given to [`search_begin`], or as [`find_with`] for what was given to
+/// [`search_begin_with`].
 ///
 /// Refusals: 26 as with [`search_move`], which leaves area and output untouched, then 19 with the
 /// shortest length. 19 and every reply that is no refusal leave all of the area zeros: the search

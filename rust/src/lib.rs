@@ -1,8 +1,8 @@
 //! The chain finder for a sailing day's record, in safe Rust over the proved library.
 //!
-//! A day's record has lines; a line has a kind and a boat (class and sail number) and leads
-//! from a place to a place. A pattern says which chains of lines are accepted. The finder
-//! gives the shortest accepted chain between two places: the grounds for a place in the
+//! A day's record has lines; a line has a kind and a boat (class and sail number), leads from a
+//! place to a place, and may have a time. A pattern says which chains of lines are accepted. The
+//! finder gives the shortest accepted chain between two places: the grounds for a place in the
 //! results. The repository's README explains the bytes of records and patterns.
 //!
 //! A pattern compares a line's boat with one that it has kept: the same (22) or another (23), and of
@@ -16,6 +16,10 @@
 //! known in that round only. The search goes by the unfolded count of a pattern, in which a command
 //! counts as often as it may come.
 //!
+//! A line's time is in seconds since midnight. A question can have a window of the day for each
+//! kind, and is then answered as for the record with only the lines inside; without, times have no
+//! say.
+//!
 //! - [`Record`] grows with its lines and can be asked directly; [`RecordIn`] stands in a buffer
 //!   that is given.
 //! - [`read_pattern`] tests a pattern before there is a record.
@@ -23,6 +27,8 @@
 //! - [`Finder`] finds and checks chains, and keeps its buffers between requests. Of many places at
 //!   once it tells the lengths of their shortest chains to one place, out of one search.
 //! - [`Search`] finds a chain in steps, while lines are added to the record.
+//! - [`Options`] has the windows that a question can be asked with, by `find_with`, `check_with`,
+//!   `starts_with`, `search_with` and [`Search::begin_with`].
 //! - [`Refusal`] says why a request was refused, in words.
 //! - [`lent`] has the library's functions as they are, on buffers that you lend.
 //!
@@ -43,9 +49,10 @@
 //! # Ok::<(), chains::Refusal>(())
 //! ```
 //!
-//! What the library replies is proved. This crate adds one answer of its own: `lines` of a record
-//! that has passed the library's questions takes the lines' bytes apart in Rust. Everything else
-//! lends buffers of the right size and takes replies apart. All `unsafe` stands in one module.
+//! What the library replies is proved. This crate adds answers of its own about a record that has
+//! passed the library's questions: `lines` and `written_lines` take the lines' bytes apart in Rust,
+//! and `line_count` counts them. Everything else lends buffers of the right size and takes replies
+//! apart. All `unsafe` stands in one module.
 //!
 //! `cargo run --example worked_day -- ../examples/day` prints the grounds that README's worked
 //! day has, and `cargo run --example in_steps -- ../examples/day/day.rec` adds a line to that day
@@ -55,14 +62,16 @@
 mod finder;
 pub mod lent;
 mod linked;
+mod options;
 mod pattern;
 mod record;
 mod refusal;
 mod search;
 
 pub use finder::{Finder, Question, StartsQuestion};
+pub use options::{Options, DAY};
 pub use pattern::{read_pattern, Counts};
-pub use record::{count_boats, BoatCount, Line, Lines, Record, RecordIn};
+pub use record::{count_boats, BoatCount, Line, Lines, Record, RecordIn, Written, WrittenLines};
 pub use refusal::Refusal;
 pub use search::Search;
 

@@ -21,6 +21,17 @@ extern "C" {
         sail: u32,
         to: u16,
     ) -> u64;
+    fn chains_add_timed(
+        buf: *mut u8,
+        buf_len: usize,
+        len: usize,
+        from: u16,
+        kind: u8,
+        class_: u8,
+        sail: u32,
+        to: u16,
+        time: u32,
+    ) -> u64;
     fn chains_read(
         rec: *const u8,
         rec_len: usize,
@@ -43,6 +54,20 @@ extern "C" {
         work: *mut u32,
         work_len: usize,
     ) -> u64;
+    fn chains_check_with(
+        rec: *const u8,
+        rec_len: usize,
+        pat: *const u8,
+        pat_len: usize,
+        from: u16,
+        to: u16,
+        chain: *const u16,
+        chain_len: usize,
+        options: *const u32,
+        options_len: usize,
+        work: *mut u32,
+        work_len: usize,
+    ) -> u64;
     fn chains_find(
         rec: *const u8,
         rec_len: usize,
@@ -50,6 +75,20 @@ extern "C" {
         pat_len: usize,
         from: u16,
         to: u16,
+        work: *mut u32,
+        work_len: usize,
+        out: *mut u16,
+        out_len: usize,
+    ) -> u64;
+    fn chains_find_with(
+        rec: *const u8,
+        rec_len: usize,
+        pat: *const u8,
+        pat_len: usize,
+        from: u16,
+        to: u16,
+        options: *const u32,
+        options_len: usize,
         work: *mut u32,
         work_len: usize,
         out: *mut u16,
@@ -68,6 +107,21 @@ extern "C" {
         lengths: *mut u32,
         lengths_len: usize,
     ) -> u64;
+    fn chains_starts_with(
+        rec: *const u8,
+        rec_len: usize,
+        pat: *const u8,
+        pat_len: usize,
+        starts: *const u16,
+        starts_len: usize,
+        to: u16,
+        options: *const u32,
+        options_len: usize,
+        work: *mut u32,
+        work_len: usize,
+        lengths: *mut u32,
+        lengths_len: usize,
+    ) -> u64;
     fn chains_search_words(rec: *const u8, rec_len: usize, pat: *const u8, pat_len: usize) -> u64;
     fn chains_search_begin(
         rec: *const u8,
@@ -76,6 +130,18 @@ extern "C" {
         pat_len: usize,
         from: u16,
         to: u16,
+        work: *mut u32,
+        work_len: usize,
+    ) -> u64;
+    fn chains_search_begin_with(
+        rec: *const u8,
+        rec_len: usize,
+        pat: *const u8,
+        pat_len: usize,
+        from: u16,
+        to: u16,
+        options: *const u32,
+        options_len: usize,
         work: *mut u32,
         work_len: usize,
     ) -> u64;
@@ -111,6 +177,33 @@ pub fn add(buf: &mut [u8], len: usize, line: Line) -> u64 {
             class,
             sail,
             to,
+        )
+    }
+}
+
+pub fn add_timed(buf: &mut [u8], len: usize, line: Line, time: u32) -> u64 {
+    #[cfg(test)]
+    counted::one_more();
+    let Line {
+        from,
+        kind,
+        class,
+        sail,
+        to,
+    } = line;
+    // SAFETY: pointer and length of a slice that is borrowed for writing; `len` and `time` may be
+    // any numbers.
+    unsafe {
+        chains_add_timed(
+            buf.as_mut_ptr(),
+            buf.len(),
+            len,
+            from,
+            kind,
+            class,
+            sail,
+            to,
+            time,
         )
     }
 }
@@ -191,6 +284,34 @@ pub fn check(
     }
 }
 
+pub fn check_with(
+    record: &[u8],
+    pattern: &[u8],
+    from: u16,
+    to: u16,
+    chain: &[u16],
+    options: &[u32],
+    work: &mut [u32],
+) -> u64 {
+    // SAFETY: pointers and lengths of slices, the last borrowed for writing.
+    unsafe {
+        chains_check_with(
+            record.as_ptr(),
+            record.len(),
+            pattern.as_ptr(),
+            pattern.len(),
+            from,
+            to,
+            chain.as_ptr(),
+            chain.len(),
+            options.as_ptr(),
+            options.len(),
+            work.as_mut_ptr(),
+            work.len(),
+        )
+    }
+}
+
 pub fn find(
     record: &[u8],
     pattern: &[u8],
@@ -208,6 +329,34 @@ pub fn find(
             pattern.len(),
             from,
             to,
+            work.as_mut_ptr(),
+            work.len(),
+            out.as_mut_ptr(),
+            out.len(),
+        )
+    }
+}
+
+pub fn find_with(
+    record: &[u8],
+    pattern: &[u8],
+    from: u16,
+    to: u16,
+    options: &[u32],
+    work: &mut [u32],
+    out: &mut [u16],
+) -> u64 {
+    // SAFETY: pointers and lengths of slices, the last two borrowed for writing and so apart.
+    unsafe {
+        chains_find_with(
+            record.as_ptr(),
+            record.len(),
+            pattern.as_ptr(),
+            pattern.len(),
+            from,
+            to,
+            options.as_ptr(),
+            options.len(),
             work.as_mut_ptr(),
             work.len(),
             out.as_mut_ptr(),
@@ -234,6 +383,35 @@ pub fn starts(
             starts.as_ptr(),
             starts.len(),
             to,
+            work.as_mut_ptr(),
+            work.len(),
+            lengths.as_mut_ptr(),
+            lengths.len(),
+        )
+    }
+}
+
+pub fn starts_with(
+    record: &[u8],
+    pattern: &[u8],
+    starts: &[u16],
+    to: u16,
+    options: &[u32],
+    work: &mut [u32],
+    lengths: &mut [u32],
+) -> u64 {
+    // SAFETY: pointers and lengths of slices, the last two borrowed for writing and so apart.
+    unsafe {
+        chains_starts_with(
+            record.as_ptr(),
+            record.len(),
+            pattern.as_ptr(),
+            pattern.len(),
+            starts.as_ptr(),
+            starts.len(),
+            to,
+            options.as_ptr(),
+            options.len(),
             work.as_mut_ptr(),
             work.len(),
             lengths.as_mut_ptr(),
@@ -270,6 +448,31 @@ pub fn search_begin(record: &[u8], pattern: &[u8], from: u16, to: u16, work: &mu
     }
 }
 
+pub fn search_begin_with(
+    record: &[u8],
+    pattern: &[u8],
+    from: u16,
+    to: u16,
+    options: &[u32],
+    work: &mut [u32],
+) -> u64 {
+    // SAFETY: pointers and lengths of slices, the last borrowed for writing.
+    unsafe {
+        chains_search_begin_with(
+            record.as_ptr(),
+            record.len(),
+            pattern.as_ptr(),
+            pattern.len(),
+            from,
+            to,
+            options.as_ptr(),
+            options.len(),
+            work.as_mut_ptr(),
+            work.len(),
+        )
+    }
+}
+
 pub fn search_move(work: &mut [u32], amount: usize) -> u64 {
     // SAFETY: pointer and length of a slice that is borrowed for writing; what it holds and
     // `amount` may be anything.
@@ -296,7 +499,8 @@ pub mod counted {
         static CALLS: Cell<usize> = const { Cell::new(0) };
     }
 
-    /// How many times this thread has called [`super::read`] and [`super::add`].
+    /// How many times this thread has called [`super::read`], [`super::add`] and
+    /// [`super::add_timed`].
     pub fn calls() -> usize {
         CALLS.get()
     }

@@ -20,13 +20,13 @@ use std::fmt;
 #[derive(Clone, Copy, PartialEq, Eq, Hash, Debug)]
 #[non_exhaustive]
 pub enum Refusal {
-    /// 1: the record has more than 40,964 bytes.
+    /// 1: the record has more than 57,348 bytes.
     RecordTooLong,
     /// 2: the record does not begin with a count of 1 to 1,024 places.
     PlacesOutOfRange,
     /// 3: where a line or the end must stand, there is another byte or none.
     EntryNotKnown,
-    /// 4: a line has fewer than its ten bytes.
+    /// 4: a line has fewer than its ten bytes, or its fourteen with a time.
     LineCutShort,
     /// 5: a line's place is not below the count of places.
     LinePlaceNotThere,
@@ -66,7 +66,7 @@ pub enum Refusal {
     LengthBeyondBuffer,
     /// 21: the sail number is not below 16,777,216.
     SailNumberTooLarge,
-    /// 22: the record has 4,096 lines already.
+    /// 22: the record has more than 4,096 lines, or has that many where one is added.
     RecordFull,
     /// 23: the buffer does not hold the record after the act.
     BufferTooSmall,
@@ -76,6 +76,10 @@ pub enum Refusal {
     UnfoldedTooLong,
     /// 26: the work area holds no search, or not one as a begin and its moves left it.
     NoSearch,
+    /// 27: a window does not open before it closes, or closes after 86,400.
+    WindowOutOfRange,
+    /// 28: a line's time is not below 86,400.
+    LineTimeOutOfRange,
     /// A number that this crate has no name for: a question of another version of the library.
     #[non_exhaustive]
     Other {
@@ -87,7 +91,7 @@ pub enum Refusal {
 }
 
 impl Refusal {
-    /// The number of the question: 1 to 26, and that of [`Refusal::Other`].
+    /// The number of the question: 1 to 28, and that of [`Refusal::Other`].
     pub fn number(self) -> u32 {
         match self {
             Refusal::RecordTooLong => 1,
@@ -116,6 +120,8 @@ impl Refusal {
             Refusal::RoundsOutOfRange => 24,
             Refusal::UnfoldedTooLong => 25,
             Refusal::NoSearch => 26,
+            Refusal::WindowOutOfRange => 27,
+            Refusal::LineTimeOutOfRange => 28,
             Refusal::Other { number, .. } => number,
         }
     }
@@ -151,6 +157,8 @@ impl Refusal {
             24 => Refusal::RoundsOutOfRange,
             25 => Refusal::UnfoldedTooLong,
             26 => Refusal::NoSearch,
+            27 => Refusal::WindowOutOfRange,
+            28 => Refusal::LineTimeOutOfRange,
             _ => Refusal::Other { number, second },
         }
     }
@@ -159,7 +167,7 @@ impl Refusal {
 impl fmt::Display for Refusal {
     fn fmt(&self, f: &mut fmt::Formatter<'_>) -> fmt::Result {
         let text = match self {
-            Refusal::RecordTooLong => "the day's record is longer than 40,964 bytes",
+            Refusal::RecordTooLong => "the day's record is longer than 57,348 bytes",
             Refusal::PlacesOutOfRange => {
                 "the day's record must begin with its count of places, 1 to 1,024"
             }
@@ -205,7 +213,9 @@ impl fmt::Display for Refusal {
             }
             Refusal::LengthBeyondBuffer => "the day's record is said to be longer than its buffer",
             Refusal::SailNumberTooLarge => "the sail number is not below 16,777,216",
-            Refusal::RecordFull => "the day's record is full: it has 4,096 lines",
+            Refusal::RecordFull => {
+                "the day's record has more than 4,096 lines, or is full with that many"
+            }
             Refusal::BufferTooSmall => "the buffer has no room for the day's record after this",
             Refusal::RoundsOutOfRange => {
                 "the pattern has a count of rounds whose lowest is above its highest, or whose \
@@ -216,6 +226,13 @@ impl fmt::Display for Refusal {
             }
             Refusal::NoSearch => {
                 "the work area holds no search, or not one as a begin and its moves left it"
+            }
+            Refusal::WindowOutOfRange => {
+                "a window does not open before it closes, or closes after 86,400, the end of the \
+                 day"
+            }
+            Refusal::LineTimeOutOfRange => {
+                "a line's time is not below 86,400, the seconds of a day"
             }
             Refusal::Other { number, .. } => {
                 return write!(
@@ -239,7 +256,7 @@ mod tests {
 
     #[test]
     fn sentences_are_those_of_the_list() {
-        assert_eq!(SENTENCES.lines().count(), 26);
+        assert_eq!(SENTENCES.lines().count(), 28);
         for (number, row) in (1..).zip(SENTENCES.lines()) {
             let refusal = Refusal::of(number, 92_400);
             assert_eq!(refusal.number(), number);
@@ -257,7 +274,7 @@ mod tests {
 
     #[test]
     fn unknown_numbers_do_not_panic() {
-        for number in [27, 32, 255, u32::MAX] {
+        for number in [29, 32, 255, u32::MAX] {
             let refusal = Refusal::of(number, 7);
             assert_eq!(refusal, Refusal::Other { number, second: 7 });
             assert_eq!(refusal.number(), number);

@@ -1,7 +1,7 @@
 //! A search in steps: begun, moved on by amounts and finished, while lines are added to the record.
 
 use crate::lent::{self, BeginReply, FindReply, MoveReply, WordsReply};
-use crate::{Question, Refusal};
+use crate::{Options, Question, Refusal};
 
 /// A search that is under way.
 ///
@@ -41,9 +41,16 @@ impl Search {
     /// Begins a search for the chain that [`Finder::find`](crate::Finder::find) finds. Nothing is
     /// searched yet.
     ///
-    /// Refusals: 1 to 16, 24 and 25. Question 17 never fails here, since the work area is as large
-    /// as [`lent::search_words`] says.
+    /// Refusals: 1 to 16, 22, 24, 25 and 28. Question 17 never fails here, since the work area is as
+    /// large as [`lent::search_words`] says.
     pub fn begin(question: &Question) -> Result<Search, Refusal> {
+        Search::begin_with(question, &Options::new())
+    }
+
+    /// As [`Search::begin`], with options: the search is for the chain that
+    /// [`Finder::find_with`](crate::Finder::find_with) finds. It holds the windows too. Refusals:
+    /// those of [`Search::begin`], and 27.
+    pub fn begin_with(question: &Question, options: &Options) -> Result<Search, Refusal> {
         let Question {
             record,
             pattern,
@@ -57,7 +64,7 @@ impl Search {
             WordsReply::Refused(_) => 0,
         };
         let mut work = vec![0; words];
-        match lent::search_begin(record, pattern, from, to, &mut work) {
+        match lent::search_begin_with(record, pattern, from, to, options, &mut work) {
             BeginReply::Begun => Ok(Search { work }),
             BeginReply::Refused(refusal) => Err(refusal),
         }

@@ -38,6 +38,7 @@ fn folders() -> Result<(), Refusal> {
         "laps",
         "laps_one_place",
         "laps_counted",
+        "time_limit",
     ] {
         assert_eq!(said(folder)?.as_bytes(), read(folder, "expected.txt"));
     }

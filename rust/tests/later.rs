@@ -5,7 +5,7 @@
 
 use chains::lent::{self, BeginReply, BoatsReply, CheckReply, FindReply, LineReply};
 use chains::lent::{MoveReply, PatternReply, StartsReply, WordsReply, WriteReply};
-use chains::Refusal;
+use chains::{Line, Record, Refusal, Written};
 
 fn known(refusal: Refusal) -> bool {
     use Refusal::*;
@@ -17,6 +17,7 @@ fn known(refusal: Refusal) -> bool {
         LineNotThere | LengthBeyondBuffer | SailNumberTooLarge | RecordFull => true,
         BufferTooSmall | OutputTooSmall { length: _ } => true,
         RoundsOutOfRange | UnfoldedTooLong | NoSearch => true,
+        WindowOutOfRange | LineTimeOutOfRange => true,
         Other {
             number: _,
             second: _,
@@ -37,8 +38,22 @@ fn matches_have_an_arm_for_the_rest() {
         _ => false,
     });
     assert!(match lent::read(&day, 0) {
-        LineReply::Line(_) => false,
+        LineReply::Line(_) | LineReply::Timed(_, _) => false,
         LineReply::Refused(refusal) => known(refusal),
+        _ => false,
+    });
+    let mut timed = Record::begin(1).expect("one place");
+    let line = Line {
+        from: 0,
+        kind: 1,
+        class: 1,
+        sail: 1,
+        to: 0,
+    };
+    timed.add_timed(line, 5).expect("a good line");
+    assert!(match timed.written_line(0).expect("line 0") {
+        Written::Untimed(_) => false,
+        Written::Timed(read, time) => (read, time) == (line, 5),
         _ => false,
     });
     assert!(match lent::pattern(&pattern) {

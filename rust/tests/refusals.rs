@@ -4,20 +4,40 @@ mod common;
 
 use chains::lent::{self, BeginReply, BoatsReply, CheckReply, FindReply, LineReply};
 use chains::lent::{MoveReply, PatternReply, StartsReply, WordsReply, WriteReply, NO_CHAIN};
-use chains::StartsQuestion;
 use chains::{count_boats, read_pattern, Finder, Question, Record, RecordIn, Refusal, Search};
+use chains::{Options, StartsQuestion, DAY};
 use common::*;
 
-/// Bytes of records that questions 1 to 7 refuse.
+/// Bytes of records that the questions about a record refuse.
 fn refused_records() -> Vec<(u32, Vec<u8>)> {
-    let one = record(1, &[line(0, 1, 1, 1, 0)]).into_bytes();
-    let with = |at: usize, byte: u8| {
-        let mut bytes = one.clone();
+    let altered = |bytes: &[u8], at: usize, byte: u8| {
+        let mut bytes = bytes.to_vec();
         bytes[at] = byte;
         bytes
     };
+    let one = record(1, &[line(0, 1, 1, 1, 0)]).into_bytes();
+    let with = |at: usize, byte: u8| altered(&one, at, byte);
+    let timed = lines_by_bytes(0, 1);
+    let late = altered(&timed, 13, 1);
+    let full = lines_by_bytes(4_000, 96);
     vec![
-        (1, vec![1; 40_965]),
+        (1, vec![1; 57_349]),
+        (3, with(3, 4)),
+        (4, timed[..13].to_vec()),
+        (4, timed[..16].to_vec()),
+        (3, timed[..17].to_vec()),
+        (28, late.clone()),
+        (28, [&late[..], &[0]].concat()),
+        (28, lines_at(&[86_400])),
+        (28, lines_at(&[86_399, u32::MAX])),
+        (6, altered(&late, 6, 0)),
+        (5, altered(&altered(&late, 6, 0), 5, 1)),
+        (22, lines_by_bytes(4_097, 0)),
+        (22, lines_by_bytes(4, 4_093)),
+        (22, altered(&full, full.len() - 1, 2)),
+        (22, altered(&full, full.len() - 1, 3)),
+        (3, altered(&full, full.len() - 1, 4)),
+        (7, [&full[..], &[0]].concat()),
         (2, vec![]),
         (2, vec![1, 0, 0, 0]),
         (3, vec![1, 0, 1]),
@@ -29,6 +49,24 @@ fn refused_records() -> Vec<(u32, Vec<u8>)> {
         (6, with(6, 16)),
         (7, [&one[..], &[0]].concat()),
     ]
+}
+
+/// The bytes of a record of one place with so many lines without a time, and so many with one.
+fn lines_by_bytes(untimed: usize, timed: usize) -> Vec<u8> {
+    let line = [2, 0, 0, 1, 1, 0, 0, 1, 0, 0].repeat(untimed);
+    let timed = [3, 0, 0, 1, 1, 0, 0, 1, 0, 0, 0, 0, 0, 5].repeat(timed);
+    [&[1, 0, 1], &line[..], &timed[..], &[0]].concat()
+}
+
+/// The same with a line at each of these times.
+fn lines_at(times: &[u32]) -> Vec<u8> {
+    let mut bytes = vec![1, 0, 1];
+    for time in times {
+        bytes.extend([3, 0, 0, 1, 1, 0, 0, 1, 0, 0]);
+        bytes.extend(time.to_be_bytes());
+    }
+    bytes.push(0);
+    bytes
 }
 
 /// Patterns that questions 8 to 14, 24 and 25 refuse.
@@ -58,7 +96,7 @@ fn refused_patterns() -> Vec<(u32, Vec<u8>)> {
     ]
 }
 
-/// Every request that 1 to 16, 24 and 25 refuse, whatever is lent.
+/// Every request that the questions about record and pattern, 15 and 16 refuse, whatever is lent.
 fn refused_requests() -> Vec<(u32, Vec<u8>, Vec<u8>, u16)> {
     let mut requests = Vec::new();
     for (number, bytes) in refused_records() {
@@ -106,6 +144,8 @@ fn of_add() {
             panic!("{number} passes");
         };
         assert_eq!(refusal.number(), number);
+        let timed = lent::add_timed(&mut buf, bytes.len(), line(9, 0, 1, u32::MAX, 9), u32::MAX);
+        assert_eq!(timed, WriteReply::Refused(refusal));
         assert_eq!(buf, before);
         let opened = RecordIn::open(&mut buf, bytes.len()).map(|_| ());
         assert_eq!(opened, Err(refusal));
@@ -139,16 +179,59 @@ fn of_add() {
     assert_eq!(day.add(line(0, 1, 1, 16_777_216, 0)), Err(sail));
     assert_eq!(day, before);
     // A full record, built by its bytes: adding asks about the whole record each time.
-    let mut bytes = vec![1, 0, 1];
-    for _ in 0..4_096 {
-        bytes.extend([2, 0, 0, 1, 1, 0, 0, 1, 0, 0]);
+    for timed in [0, 1_000, 4_096] {
+        let bytes = lines_by_bytes(4_096 - timed, timed);
+        assert_eq!(bytes.len(), 3 + 10 * 4_096 + 4 * timed + 1);
+        let mut full = Record::from_bytes(bytes).expect("4,096 lines");
+        assert_eq!(full.line_count(), 4_096);
+        let before = full.clone();
+        assert_eq!(full.add(good), Err(Refusal::RecordFull));
+        assert_eq!(full.add_timed(good, 5), Err(Refusal::RecordFull));
+        assert_eq!(full, before);
     }
-    bytes.push(0);
-    let mut full = Record::from_bytes(bytes).expect("4,096 lines");
-    assert_eq!(full.line_count(), 4_096);
-    let before = full.clone();
-    assert_eq!(full.add(good), Err(Refusal::RecordFull));
-    assert_eq!(full, before);
+}
+
+/// 5, 6, 28, 21 and 23 of a line with a time; what is refused with one is wrong in the later ones too.
+#[test]
+fn of_add_timed() {
+    let good = line(0, 1, 1, 1, 0);
+    let mut buf = [1, 0, 1, 0, 9, 9, 9, 9, 9, 9, 9, 9, 9, 9, 9, 9, 9, 9, 9];
+    let before = buf;
+    let sail = 16_777_216;
+    for (refusal, len, line, time) in [
+        (Refusal::LengthBeyondBuffer, 18, line(1, 0, 1, sail, 1), DAY),
+        (Refusal::LinePlaceNotThere, 4, line(1, 0, 1, sail, 0), DAY),
+        (Refusal::LinePlaceNotThere, 4, line(0, 0, 1, sail, 1), DAY),
+        (Refusal::LineKindOutOfRange, 4, line(0, 0, 1, sail, 0), DAY),
+        (Refusal::LineTimeOutOfRange, 4, line(0, 1, 1, sail, 0), DAY),
+        (Refusal::LineTimeOutOfRange, 4, good, u32::MAX),
+        (Refusal::SailNumberTooLarge, 4, line(0, 1, 1, sail, 0), 5),
+        (Refusal::BufferTooSmall, 4, good, DAY - 1),
+    ] {
+        let reply = lent::add_timed(&mut buf[..17], len, line, time);
+        assert_eq!(reply, WriteReply::Refused(refusal));
+        assert_eq!(buf, before);
+        if len == 4 {
+            let mut given = RecordIn::open(&mut buf[..17], 4).map_err(Refusal::number);
+            let given = given.as_mut().expect("a record without lines");
+            assert_eq!(given.add_timed(line, time), Err(refusal));
+            assert_eq!(given.line_count(), 0);
+            let mut day = e();
+            if refusal == Refusal::BufferTooSmall {
+                assert_eq!(day.add_timed(line, time), Ok(0));
+            } else {
+                assert_eq!(day.add_timed(line, time), Err(refusal));
+                assert_eq!(day, e());
+            }
+        }
+    }
+    let reply = lent::add_timed(&mut buf[..18], 4, good, DAY - 1);
+    assert_eq!(reply, WriteReply::Length(18));
+    let added = [
+        1, 0, 1, 3, 0, 0, 1, 1, 0, 0, 1, 0, 0, 0, 1, 0x51, 0x7F, 0, 9,
+    ];
+    assert_eq!(buf, added);
+    assert_eq!(lent::read(&buf[..18], 0), LineReply::Timed(good, DAY - 1));
 }
 
 #[test]
@@ -219,6 +302,19 @@ fn of_check_and_find() {
             panic!("{number} passes");
         };
         assert_eq!((checked.number(), found.number()), (number, number));
+        // 27 comes after 15, and before 16.
+        for options in [Options::new(), Options::new().window(15, 5, 5)] {
+            let wrong = number == 16 && options != Options::new();
+            let refusal = if wrong {
+                Refusal::WindowOutOfRange
+            } else {
+                checked
+            };
+            let reply = lent::check_with(&rec, &pat, 0, to, &[0], &options, &mut work);
+            assert_eq!(reply, CheckReply::Refused(refusal));
+            let reply = lent::find_with(&rec, &pat, 0, to, &options, &mut work, &mut out);
+            assert_eq!(reply, FindReply::Refused(refusal));
+        }
         assert_eq!(work, vec![DIRT; 9_000]);
         assert_eq!(out, vec![OUT_DIRT; 5]);
         let question = Question::about(&rec, &pat, 0, to);
@@ -358,6 +454,60 @@ fn of_areas_and_lengths() {
         assert_eq!(work, vec![0; words]);
         assert_eq!(lengths[..listed], expected[..listed]);
         assert_eq!(lengths[listed..], vec![DIRT; entries - listed]);
+    }
+}
+
+/// 27, whichever kind it is of and whatever is lent; every buffer is left as it was.
+#[test]
+fn of_windows() {
+    let refusal = Refusal::WindowOutOfRange;
+    assert_eq!(refusal.number(), 27);
+    let day = r();
+    let rec = day.bytes();
+    let question = ask(&day, &P, 0, 3);
+    let mut finder = Finder::new();
+    for (kind, (open, close)) in (1..=15).cycle().zip([
+        (0, 0),
+        (5, 5),
+        (6, 5),
+        (DAY, DAY),
+        (DAY, DAY + 1),
+        (0, DAY + 1),
+        (0, u32::MAX),
+        (u32::MAX, u32::MAX),
+        (u32::MAX, 0),
+        (1, 1),
+        (9, 8),
+        (DAY - 1, DAY - 1),
+        (2, 0),
+        (DAY - 1, DAY + 1),
+        (7, 7),
+    ]) {
+        let options = Options::new().window(kind, open, close);
+        for words in [0, 8_703, 9_000] {
+            let (mut work, mut out) = (vec![DIRT; words], [OUT_DIRT; 3]);
+            let mut lengths = [DIRT; 1];
+            let reply = lent::check_with(rec, &P, 0, 3, &[9_999], &options, &mut work);
+            assert_eq!(reply, CheckReply::Refused(refusal));
+            let reply = lent::find_with(rec, &P, 0, 3, &options, &mut work, &mut out);
+            assert_eq!(reply, FindReply::Refused(refusal));
+            let reply = lent::starts_with(rec, &P, &[0, 3], 3, &options, &mut work, &mut lengths);
+            assert_eq!(reply, StartsReply::Refused(refusal));
+            let reply = lent::search_begin_with(rec, &P, 0, 3, &options, &mut work);
+            assert_eq!(reply, BeginReply::Refused(refusal));
+            assert_eq!(work, vec![DIRT; words]);
+            assert_eq!((out, lengths), ([OUT_DIRT; 3], [DIRT]));
+        }
+        assert_eq!(finder.find_with(&question, &options), Err(refusal));
+        assert_eq!(finder.find_owned_with(&question, &options), Err(refusal));
+        assert_eq!(finder.check_with(&question, &[9], &options), Err(refusal));
+        let starts = finder.starts_with(&ask_starts(&day, &P, 3), &[], &options);
+        assert_eq!(starts, Err(refusal));
+        let begun = Search::begin_with(&question, &options).map(Search::finish);
+        assert_eq!(begun, Err(refusal));
+        // 15 comes first.
+        let nowhere = finder.find_with(&ask(&day, &P, 0, 4), &options);
+        assert_eq!(nowhere, Err(Refusal::AskedPlaceNotThere));
     }
 }
 

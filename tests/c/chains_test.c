@@ -1,7 +1,7 @@
 /*
  * Every function of chains.h, called from C: document 01's worked rows, unread numbers, classes, counted rounds, boats counted, many
- * starts, searches in steps, every refusal number, and each lent buffer afterwards; the helpers that take a reply apart; and chains_message,
- * held to the list of sentences. Prints what fails; the status is 1 if something did.
+ * starts, searches in steps, lines with a time, windows of the day, every refusal number, and each lent buffer afterwards; the helpers that
+ * take a reply apart; and chains_message, held to the list of sentences. Prints what fails; the status is 1 if something did.
  *
  *     gcc -std=c11 -Wall -Wextra -Werror -pedantic -Iinclude tests/c/chains_test.c target/libchains.a -o target/chains_test
  *     target/chains_test include/refusals.txt
@@ -193,11 +193,13 @@ static void test_add(void)
         const uint8_t bytes[10] = {2, 0, 0, 1, 1, 0, 0, 1, 0, 0};
         memcpy(full.at + 3 + 10 * i, bytes, 10);
     }
-    full.len = CHAINS_LONGEST_RECORD;
+    full.len = 3 + 10 * 4096 + 1;
     full.at[full.len - 1] = 0;
     expect_reply("add to 4,096 lines", add_to(&full, (struct line){0, 1, 1, 1, 0}), CHAINS_RECORD_FULL, 0);
     full.len++;
-    expect_reply("add to 40,965 bytes", add_to(&full, (struct line){0, 1, 1, 1, 0}), CHAINS_RECORD_TOO_LONG, 0);
+    expect_reply("add to 4,096 lines and a byte", add_to(&full, (struct line){0, 1, 1, 1, 0}), CHAINS_BYTES_AFTER_END, 0);
+    full.len = CHAINS_LONGEST_RECORD + 1;
+    expect_reply("add to 57,349 bytes", add_to(&full, (struct line){0, 1, 1, 1, 0}), CHAINS_RECORD_TOO_LONG, 0);
 }
 
 static void test_read(void)
@@ -248,7 +250,7 @@ static void test_words(void)
     expect_words("a line of kind 0", kind_0, 14, NOTHING, 1, CHAINS_LINE_KIND_OUT_OF_RANGE, 0);
     expect_words("a line to place 1 of 1", place_1, 14, NOTHING, 1, CHAINS_LINE_PLACE_NOT_THERE, 0);
     static uint8_t long_record[CHAINS_LONGEST_RECORD + 1];
-    expect_words("40,965 bytes", long_record, sizeof long_record, NOTHING, 1, CHAINS_RECORD_TOO_LONG, 0);
+    expect_words("57,349 bytes", long_record, sizeof long_record, NOTHING, 1, CHAINS_RECORD_TOO_LONG, 0);
 
     uint8_t repeats[64];
     memset(repeats, 0x26, 64);
@@ -400,8 +402,7 @@ static void test_boats(void)
     boats_refused("boats of no bytes", r.at, 0, CHAINS_PLACES_OUT_OF_RANGE);
     boats_refused("boats of a record cut before its end", r.at, r.len - 1, CHAINS_ENTRY_NOT_KNOWN);
     boats_refused("boats of a record cut in a line", r.at, r.len - 2, CHAINS_LINE_CUT_SHORT);
-    full.at[full.len] = 0;
-    boats_refused("boats of 40,965 bytes", full.at, full.len + 1, CHAINS_RECORD_TOO_LONG);
+    boats_refused("boats of 57,349 bytes", full.at, CHAINS_LONGEST_RECORD + 1, CHAINS_RECORD_TOO_LONG);
     write_letters(&day, "AB");
     day.at[day.len] = 0;
     boats_refused("boats of a record that goes on", day.at, day.len + 1, CHAINS_BYTES_AFTER_END);
@@ -458,6 +459,29 @@ struct ask {
     uint16_t to;
 };
 
+/* Open and close of the kinds 1 to 15 in turn, and words after them that are lent by some and not read. */
+struct options {
+    uint32_t at[CHAINS_OPTIONS + 10];
+    size_t len;
+};
+
+/* The options that every request is asked with: where there are none, it is a function without options that is called. */
+static const struct options *given = NULL;
+
+static uint64_t call_check(struct ask a, const uint16_t *chain, size_t length, uint32_t *work, size_t words)
+{
+    return given == NULL ? chains_check(a.rec->at, a.rec->len, a.pat, a.pat_len, a.from, a.to, chain, length, work, words)
+                         : chains_check_with(a.rec->at, a.rec->len, a.pat, a.pat_len, a.from, a.to, chain, length, given->at, given->len,
+                                             work, words);
+}
+
+static uint64_t call_find(struct ask a, uint32_t *work, size_t words, uint16_t *out, size_t entries)
+{
+    return given == NULL ? chains_find(a.rec->at, a.rec->len, a.pat, a.pat_len, a.from, a.to, work, words, out, entries)
+                         : chains_find_with(a.rec->at, a.rec->len, a.pat, a.pat_len, a.from, a.to, given->at, given->len, work, words, out,
+                                            entries);
+}
+
 static const struct ask R_P = {&r, P, 15, 0, 3};
 static const struct ask T_S = {&t, S, 13, 0, 0};
 
@@ -477,9 +501,7 @@ static void check_in(const char *what, struct ask a, const uint16_t *chain, size
                      uint32_t value)
 {
     make_dirty();
-    uint64_t reply =
-        chains_check(a.rec->at, a.rec->len, a.pat, a.pat_len, a.from, a.to, chain, length, area + EDGE, words);
-    expect_reply(what, reply, number, value);
+    expect_reply(what, call_check(a, chain, length, area + EDGE, words), number, value);
     expect_area(what, words, clears(number));
 }
 
@@ -513,8 +535,7 @@ static void find_in(const char *what, struct ask a, size_t words, size_t entries
                     const uint16_t *chain)
 {
     make_dirty();
-    uint64_t reply = chains_find(a.rec->at, a.rec->len, a.pat, a.pat_len, a.from, a.to, area + EDGE, words, output + EDGE, entries);
-    expect_reply(what, reply, number, value);
+    expect_reply(what, call_find(a, area + EDGE, words, output + EDGE, entries), number, value);
     expect_area(what, words, clears(number));
     expect_output(what, chain, number == 0 && value != CHAINS_NO_CHAIN ? value : 0);
 }
@@ -773,7 +794,10 @@ static const uint32_t NONE = CHAINS_NO_CHAIN;
 
 static uint64_t starts(struct ask a, size_t count, size_t words, size_t entries)
 {
-    return chains_starts(a.rec->at, a.rec->len, a.pat, a.pat_len, lent_list, count, a.to, area + EDGE, words, lengths + EDGE, entries);
+    return given == NULL ? chains_starts(a.rec->at, a.rec->len, a.pat, a.pat_len, lent_list, count, a.to, area + EDGE, words,
+                                         lengths + EDGE, entries)
+                         : chains_starts_with(a.rec->at, a.rec->len, a.pat, a.pat_len, lent_list, count, a.to, given->at, given->len,
+                                              area + EDGE, words, lengths + EDGE, entries);
 }
 
 /* Area and lengths are dirty, and the list is lent. */
@@ -873,7 +897,7 @@ static void test_starts_refused(void)
 
     memset(day.at, 0, sizeof day.at);
     day.len = CHAINS_LONGEST_RECORD + 1;
-    starts_refused("starts, 40,965 bytes", damaged, nowhere, CHAINS_RECORD_TOO_LONG);
+    starts_refused("starts, 57,349 bytes", damaged, nowhere, CHAINS_RECORD_TOO_LONG);
     day = r;
     day.len = 0;
     starts_refused("starts, no record", damaged, nowhere, CHAINS_PLACES_OUT_OF_RANGE);
@@ -1086,7 +1110,7 @@ static void draw_day(struct record *day, uint16_t places)
 static uint32_t length_from(struct ask a)
 {
     static uint32_t work[WORDS];
-    const uint64_t reply = chains_find(a.rec->at, a.rec->len, a.pat, a.pat_len, a.from, a.to, work, needed(a), output, 0);
+    const uint64_t reply = call_find(a, work, needed(a), output, 0);
     expect("a find without an output", !chains_refused(reply) || chains_number(reply) == CHAINS_OUTPUT_TOO_SMALL);
     return chains_value(reply);
 }
@@ -1178,7 +1202,9 @@ static uint32_t search_needed(struct ask a)
 
 static uint64_t search_begin(struct ask a, size_t words)
 {
-    return chains_search_begin(a.rec->at, a.rec->len, a.pat, a.pat_len, a.from, a.to, area + EDGE, words);
+    return given == NULL ? chains_search_begin(a.rec->at, a.rec->len, a.pat, a.pat_len, a.from, a.to, area + EDGE, words)
+                         : chains_search_begin_with(a.rec->at, a.rec->len, a.pat, a.pat_len, a.from, a.to, given->at, given->len,
+                                                    area + EDGE, words);
 }
 
 static uint64_t search_move(size_t words, size_t amount)
@@ -1528,6 +1554,654 @@ static void test_search_cut(void)
     }
 }
 
+/* ---- lines with a time */
+
+static uint64_t add_timed_to(struct record *rec, struct line l, uint32_t time)
+{
+    return chains_add_timed(rec->at, sizeof rec->at, rec->len, l.from, l.kind, l.class_, l.sail, l.to, time);
+}
+
+static void add_timed(struct record *rec, struct line l, uint32_t time)
+{
+    uint64_t reply = add_timed_to(rec, l, time);
+    expect_reply("add timed", reply, 0, (uint32_t)rec->len + 14);
+    rec->len = chains_value(reply);
+}
+
+/* The questions in their order: 20, those of the record, 5, 6, 28, 21, 22, 23. Each request fails later ones as well. */
+static void test_add_timed(void)
+{
+    enum { LATE = CHAINS_DAY, SAIL = 16777216 };
+    uint8_t buf[20] = {1, 0, 2, 0, 9, 9, 9, 9, 9, 9, 9, 9, 9, 9, 9, 9, 9, 9, 9, 9};
+    uint8_t same[20];
+    memcpy(same, buf, 20);
+    expect_reply("add timed, length 18 of 17", chains_add_timed(buf, 17, 18, 2, 0, 1, SAIL, 2, LATE), CHAINS_LENGTH_BEYOND_BUFFER, 0);
+    expect_reply("add timed, no record", chains_add_timed(buf, 17, 0, 2, 0, 1, SAIL, 2, LATE), CHAINS_PLACES_OUT_OF_RANGE, 0);
+    expect_reply("add timed, no end byte", chains_add_timed(buf, 17, 3, 2, 0, 1, SAIL, 2, LATE), CHAINS_ENTRY_NOT_KNOWN, 0);
+    expect_reply("add timed, bytes after the end", chains_add_timed(buf, 17, 5, 2, 0, 1, SAIL, 2, LATE), CHAINS_BYTES_AFTER_END, 0);
+    expect_reply("add timed, from place 2 of 2", chains_add_timed(buf, 17, 4, 2, 0, 1, SAIL, 1, LATE), CHAINS_LINE_PLACE_NOT_THERE, 0);
+    expect_reply("add timed, to place 2 of 2", chains_add_timed(buf, 17, 4, 0, 0, 1, SAIL, 2, LATE), CHAINS_LINE_PLACE_NOT_THERE, 0);
+    expect_reply("add timed, kind 0", chains_add_timed(buf, 17, 4, 0, 0, 1, SAIL, 1, LATE), CHAINS_LINE_KIND_OUT_OF_RANGE, 0);
+    expect_reply("add timed, kind 16", chains_add_timed(buf, 17, 4, 0, 16, 1, SAIL, 1, LATE), CHAINS_LINE_KIND_OUT_OF_RANGE, 0);
+    expect_reply("add timed, at 86,400", chains_add_timed(buf, 17, 4, 0, 1, 1, SAIL, 1, LATE), CHAINS_LINE_TIME_OUT_OF_RANGE, 0);
+    expect_reply("add timed, at 2^32 - 1", chains_add_timed(buf, 20, 4, 0, 1, 1, 1, 1, UINT32_MAX), CHAINS_LINE_TIME_OUT_OF_RANGE, 0);
+    expect_reply("add timed, sail number 2^24", chains_add_timed(buf, 17, 4, 0, 1, 1, SAIL, 1, 86399), CHAINS_SAIL_NUMBER_TOO_LARGE, 0);
+    expect_reply("add timed, 17 bytes", chains_add_timed(buf, 17, 4, 0, 1, 1, 1, 1, 86399), CHAINS_BUFFER_TOO_SMALL, 0);
+    expect_reply("add timed, 14 bytes", chains_add_timed(buf, 14, 4, 0, 1, 1, 1, 1, 0), CHAINS_BUFFER_TOO_SMALL, 0);
+    expect("add timed: a refusal alters no byte", memcmp(buf, same, 20) == 0);
+    const uint8_t added[20] = {1, 0, 2, 3, 0, 1, 15, 255, 1, 2, 3, 0, 0, 0, 1, 0x51, 0x7F, 0, 9, 9};
+    expect_reply("add timed", chains_add_timed(buf, 18, 4, 1, 15, 255, 0x010203, 0, 86399), 0, 18);
+    expect("add timed: fifteen bytes are written", memcmp(buf, added, 20) == 0);
+
+    /* Lines of both sorts after each other. */
+    static struct record day;
+    const uint8_t both[38] = {1, 0, 2, 2, 0, 0, 1, 1, 0, 0, 7, 0, 1, 3, 0, 1, 2, 0, 0, 0, 0, 0, 0, 0, 0, 0, 5, 2, 0, 1, 3, 2, 0, 1, 0, 0, 0, 0};
+    begin(&day, 2);
+    add(&day, (struct line){0, 1, 1, 7, 1});
+    add_timed(&day, (struct line){1, 2, 0, 0, 0}, 5);
+    add(&day, (struct line){1, 3, 2, 256, 0});
+    expect("lines of both sorts", day.len == 38 && memcmp(day.at, both, 38) == 0);
+}
+
+/* Five words of a line without a time, six of one with a time; where fewer are lent, none. */
+static void test_read_timed(void)
+{
+    static struct record day;
+    const struct line l = {258, 15, 255, 0xFEDCBA, 1023};
+    const uint32_t times[4] = {0, 5, 65536, 86399}, same[8] = {9, 9, 9, 9, 9, 9, 9, 9};
+    begin(&day, 1024);
+    for (size_t i = 0; i < 4; i++) {
+        add(&day, l);
+        add_timed(&day, l, times[i]);
+    }
+    for (uint16_t i = 0; i < 8; i++) {
+        const int timed = i % 2 == 1;
+        const uint32_t count = timed ? CHAINS_TIMED_FIELDS : CHAINS_FIELDS, shown[5] = {258, 15, 255, 0xFEDCBA, 1023};
+        for (size_t lent = 0; lent <= 8; lent++) {
+            uint32_t fields[8], expected[8];
+            memcpy(fields, same, sizeof same);
+            memcpy(expected, same, sizeof same);
+            if (lent >= count) {
+                memcpy(expected, shown, sizeof shown);
+                expected[CHAINS_FIELD_TIME] = timed ? times[i / 2] : 9;
+            }
+            const uint64_t reply = chains_read(day.at, day.len, i, fields, lent);
+            expect_reply("read, with a time or without", reply, 0, lent >= count ? count : 0);
+            expect("read, with a time or without", memcmp(fields, expected, sizeof fields) == 0);
+            expect("a line with a time is timed", chains_timed(reply) == (timed && lent >= count));
+        }
+    }
+    uint32_t fields[8];
+    memcpy(fields, same, sizeof same);
+    expect_reply("read, line 8 of 8", chains_read(day.at, day.len, 8, fields, 8), CHAINS_LINE_NOT_THERE, 0);
+    expect("read, line 8 of 8", memcmp(fields, same, sizeof fields) == 0);
+}
+
+/* R with times, line i at 100 * (i + 1), and line 7 after it. */
+static struct record r_timed;
+
+/* A time changes nothing that is asked without windows: sizes, boats, and every chain. */
+static void test_times_alone(void)
+{
+    begin(&r_timed, 4);
+    for (uint32_t i = 0; i < 7; i++) {
+        add_timed(&r_timed, LINES_OF_R[i], 100 * (i + 1));
+    }
+    const struct ask asked = {&r_timed, P, 15, 0, 3};
+    const uint16_t c125[3] = {1, 2, 5}, c037[3] = {0, 3, 7}, c025[3] = {0, 2, 5};
+    expect("words of R with times", needed(asked) == 8704 && search_needed(asked) == 8704 + 3 * 7);
+    boats_counted("boats of R with times", r_timed.at, r_timed.len, 3, 13);
+    found("R with times", asked, c125, 3);
+    check("R with times, 1 2 5", asked, c125, 3, 1);
+    check("R with times, 0 2 5", asked, c025, 3, 0);
+    started("R with times, starts", asked, ALL_AND_0, (const uint32_t[]){3, NONE, NONE, NONE, 3});
+    stepped("R with times, in steps", asked, STATES_R_P, c125, 3);
+    add_timed(&r_timed, (struct line){2, 4, 1, 150, 3}, 800);
+    found("R with times and line 7", asked, c037, 3);
+    stepped("R with times and line 7, in steps", asked, 7 + 7, c037, 3);
+}
+
+/* ---- stored records with times */
+
+/* A record that is refused, by every function that is given one and with all else wrong too: nothing that is lent is altered. */
+static void record_refused(const char *what, const struct record *rec, uint32_t number)
+{
+    static struct record day;
+    static const uint16_t far[2] = {65535, 0};
+    static const struct options bad = {{5, 5}, CHAINS_OPTIONS};
+    static const struct list nowhere = {far, 2};
+    const struct ask asked = {rec, P, 0, 65535, 65535};
+    uint32_t fields[8] = {9, 9, 9, 9, 9, 9, 9, 9};
+    const uint32_t same[8] = {9, 9, 9, 9, 9, 9, 9, 9};
+    expect_reply(what, chains_read(rec->at, rec->len, 65535, fields, 8), number, 0);
+    expect(what, memcmp(fields, same, sizeof fields) == 0);
+    boats_refused(what, rec->at, rec->len, number);
+    expect_words(what, rec->at, rec->len, P, 0, number, 0);
+    expect_reply(what, chains_search_words(rec->at, rec->len, P, 0), number, 0);
+    for (size_t i = 0; i < 2; i++) {
+        given = i == 0 ? NULL : &bad;
+        check_in(what, asked, far, 2, 0, number, 0);
+        find_in(what, asked, 9000, ENTRIES, number, 0, far);
+        starts_in(what, asked, nowhere, 9000, 0, number, 0, NULL);
+        begin_refused(what, asked, 9000, number);
+    }
+    given = NULL;
+    memcpy(&day, rec, sizeof day);
+    expect_reply(what, add_to(&day, (struct line){65535, 0, 0, UINT32_MAX, 65535}), number, 0);
+    expect_reply(what, add_timed_to(&day, (struct line){65535, 0, 0, UINT32_MAX, 65535}, UINT32_MAX), number, 0);
+    expect(what, memcmp(&day, rec, sizeof day) == 0);
+}
+
+/* A record of one place whose first lines have no time, and then some that have one, put down by bytes. */
+static void put_lines(struct record *rec, size_t untimed, size_t timed)
+{
+    static const uint8_t line[14] = {2, 0, 0, 1, 1, 0, 0, 1, 0, 0, 0, 0, 0, 5};
+    memset(rec->at, 0, sizeof rec->at);
+    rec->at[0] = rec->at[2] = 1;
+    rec->len = 3;
+    for (size_t i = 0; i < untimed + timed; i++) {
+        const size_t width = i < untimed ? 10 : 14;
+        memcpy(rec->at + rec->len, line, width);
+        rec->at[rec->len] = i < untimed ? 2 : 3;
+        rec->len += width;
+    }
+    rec->at[rec->len++] = 0;
+}
+
+/* The record as it is put down above is read; with this byte altered it is refused. */
+static void byte_refused(const char *what, struct record *rec, size_t at, uint8_t byte, uint32_t number)
+{
+    const uint8_t before = rec->at[at];
+    rec->at[at] = byte;
+    record_refused(what, rec, number);
+    rec->at[at] = before;
+}
+
+/* The walk of a line with a time: 3, 4, 5, 6, 28, line by line. */
+static void test_stored(void)
+{
+    static struct record day;
+    uint32_t fields[CHAINS_TIMED_FIELDS];
+    put_lines(&day, 0, 2);
+    expect("two lines with a time", day.len == 32);
+    for (uint16_t i = 0; i < 2; i++) {
+        expect_reply("a line with a time", chains_read(day.at, day.len, i, fields, CHAINS_TIMED_FIELDS), 0, CHAINS_TIMED_FIELDS);
+        expect("a line with a time", fields[CHAINS_FIELD_TIME] == 5);
+    }
+    /* A record cut anywhere: between its lines and in them. */
+    for (day.len = 3; day.len < 32; day.len++) {
+        record_refused("a record cut short", &day, day.len == 3 || day.len == 17 || day.len == 31 ? CHAINS_ENTRY_NOT_KNOWN : CHAINS_LINE_CUT_SHORT);
+    }
+    day.len = 33;
+    record_refused("a byte after the end", &day, CHAINS_BYTES_AFTER_END);
+    day.len = 32;
+    byte_refused("04 for 03", &day, 3, 4, CHAINS_ENTRY_NOT_KNOWN);
+    byte_refused("04 for the second 03", &day, 17, 4, CHAINS_ENTRY_NOT_KNOWN);
+    byte_refused("a time above 24 bits", &day, 13, 1, CHAINS_LINE_TIME_OUT_OF_RANGE);
+    byte_refused("a time above 31 bits", &day, 27, 0x80, CHAINS_LINE_TIME_OUT_OF_RANGE);
+    /* Both lines at 86,399, and then the first at 86,400. */
+    for (size_t at = 13; at <= 27; at += 14) {
+        const uint8_t last_second[4] = {0, 1, 0x51, 0x7F};
+        memcpy(day.at + at, last_second, 4);
+    }
+    expect_reply("at 86,399", chains_read(day.at, day.len, 1, fields, CHAINS_TIMED_FIELDS), 0, CHAINS_TIMED_FIELDS);
+    expect("at 86,399", fields[CHAINS_FIELD_TIME] == 86399);
+    byte_refused("the second at 86,400", &day, 30, 0x80, CHAINS_LINE_TIME_OUT_OF_RANGE);
+    day.at[16] = 0x80;
+    record_refused("at 86,400", &day, CHAINS_LINE_TIME_OUT_OF_RANGE);
+    byte_refused("at 86,400, the second line from place 1", &day, 19, 1, CHAINS_LINE_TIME_OUT_OF_RANGE);
+    byte_refused("at 86,400, and no second line", &day, 17, 4, CHAINS_LINE_TIME_OUT_OF_RANGE);
+    byte_refused("at 86,400, of kind 0", &day, 6, 0, CHAINS_LINE_KIND_OUT_OF_RANGE);
+    day.at[6] = 16;
+    byte_refused("at 86,400, of kind 16, to place 1", &day, 12, 1, CHAINS_LINE_PLACE_NOT_THERE);
+    day.len = 16;
+    record_refused("of kind 16, a byte too few", &day, CHAINS_LINE_CUT_SHORT);
+}
+
+/* 22 is asked of the 4,097th line, of either sort and before it is looked at; a record of 4,096 has 40,964 to 57,348 bytes. */
+static void test_stored_full(void)
+{
+    static struct record day;
+    uint32_t fields[CHAINS_TIMED_FIELDS];
+    const size_t timed[4] = {0, 1, 2048, 4096};
+    for (size_t i = 0; i < 4; i++) {
+        put_lines(&day, 4096 - timed[i], timed[i]);
+        expect("bytes of 4,096 lines", day.len == 3 + 10 * 4096 + 4 * timed[i] + 1);
+        boats_counted("4,096 lines", day.at, day.len, 1, 4095);
+        expect_reply("line 4,095", chains_read(day.at, day.len, 4095, fields, CHAINS_TIMED_FIELDS), 0, timed[i] > 0 ? 6 : 5);
+        expect_reply("line 4,096", chains_read(day.at, day.len, 4096, fields, CHAINS_TIMED_FIELDS), CHAINS_LINE_NOT_THERE, 0);
+        /* 28 and 21 come before 22, and 22 before 23. */
+        const struct line good = {0, 1, 1, 1, 0}, sail = {0, 1, 1, 16777216, 0};
+        expect_reply("add to 4,096 lines", add_to(&day, good), CHAINS_RECORD_FULL, 0);
+        expect_reply("add timed to 4,096 lines", add_timed_to(&day, good, 5), CHAINS_RECORD_FULL, 0);
+        expect_reply("add timed to 4,096 lines, at 86,400", add_timed_to(&day, sail, 86400), CHAINS_LINE_TIME_OUT_OF_RANGE, 0);
+        expect_reply("add timed to 4,096 lines, sail number 2^24", add_timed_to(&day, sail, 5), CHAINS_SAIL_NUMBER_TOO_LARGE, 0);
+        const uint64_t no_room = chains_add_timed(day.at, day.len, day.len, 0, 1, 1, 1, 0, 5);
+        expect_reply("add timed to 4,096 lines, no room", no_room, CHAINS_RECORD_FULL, 0);
+        /* A line more, of which there is no more than its first byte. */
+        byte_refused("4,096 lines and 02", &day, day.len - 1, 2, CHAINS_RECORD_FULL);
+        byte_refused("4,096 lines and 03", &day, day.len - 1, 3, CHAINS_RECORD_FULL);
+        byte_refused("4,096 lines and 04", &day, day.len - 1, 4, CHAINS_ENTRY_NOT_KNOWN);
+        day.len--;
+        record_refused("4,096 lines and no end", &day, CHAINS_ENTRY_NOT_KNOWN);
+    }
+    expect("the longest record", day.len + 1 == CHAINS_LONGEST_RECORD);
+    day.len = CHAINS_LONGEST_RECORD + 1;
+    record_refused("a byte more than the longest", &day, CHAINS_RECORD_TOO_LONG);
+    byte_refused("a byte more, and no places", &day, 0, 0, CHAINS_RECORD_TOO_LONG);
+
+    put_lines(&day, 4097, 0);
+    record_refused("4,097 lines", &day, CHAINS_RECORD_FULL);
+    byte_refused("4,097 lines, the last of kind 0", &day, 3 + 10 * 4096 + 3, 0, CHAINS_RECORD_FULL);
+    byte_refused("4,097 lines, the one before of kind 0", &day, 3 + 10 * 4095 + 3, 0, CHAINS_LINE_KIND_OUT_OF_RANGE);
+    put_lines(&day, 4, 4093);
+    record_refused("4,097 lines, with times", &day, CHAINS_RECORD_FULL);
+    byte_refused("4,097 lines, one at 86,400 or later", &day, 3 + 10 * 4 + 10, 1, CHAINS_LINE_TIME_OUT_OF_RANGE);
+}
+
+/* ---- windows of the day */
+
+static struct options whole_day(void)
+{
+    struct options o = {{0}, CHAINS_OPTIONS};
+    for (size_t i = 0; i < sizeof o.at / sizeof o.at[0]; i++) {
+        o.at[i] = i >= CHAINS_OPTIONS ? DIRT : i % 2 == 0 ? 0 : CHAINS_DAY;
+    }
+    return o;
+}
+
+static void set_window(struct options *o, size_t kind, uint32_t open, uint32_t close)
+{
+    o->at[2 * (kind - 1)] = open;
+    o->at[2 * (kind - 1) + 1] = close;
+}
+
+/* The whole day for every kind but one. */
+static struct options window(size_t kind, uint32_t open, uint32_t close)
+{
+    struct options o = whole_day();
+    set_window(&o, kind, open, close);
+    return o;
+}
+
+/* Windows of the whole day, however many of them are lent: every row again, as without options. */
+static void test_whole_day(void)
+{
+    for (size_t len = 0; len <= CHAINS_OPTIONS + 10; len += len % 3 + 1) {
+        struct options o = whole_day();
+        o.len = len;
+        if (len % 2 == 1 && len < CHAINS_OPTIONS) {
+            o.at[len - 1] = DIRT; /* an opening second without its closing one */
+        }
+        const struct options before = o;
+        given = &o;
+        test_check();
+        test_find();
+        test_starts();
+        test_starts_refused();
+        test_search();
+        expect("options are only read", memcmp(&o, &before, sizeof o) == 0);
+
+        /* The area of a search is, word by word, the same. */
+        begin_in("begun with options", R_P, 9000);
+        keep();
+        given = NULL;
+        begin_in("begun without options", R_P, 9000);
+        expect("begun with options as without", as_kept());
+    }
+    struct options all = whole_day();
+    given = &all;
+    test_sizes();
+    test_unread();
+    test_classes();
+    test_rounds();
+    test_starts_large();
+    test_starts_and_finds();
+    test_search_begin();
+    test_search_moves();
+    given = NULL;
+}
+
+/* One line from 0 to 1, asked for by its kind with these options: found, or none. */
+static void one_line(const char *what, const struct record *day, uint8_t kind, const struct options *o, int inside)
+{
+    const uint8_t pattern[2] = {0x21, kind};
+    const uint16_t c0[1] = {0}, both[2] = {0, 1};
+    const struct ask asked = {day, pattern, 2, 0, 1};
+    given = o;
+    check(what, asked, c0, 1, inside ? 1 : 0);
+    started(what, asked, (struct list){both, 2}, inside ? (const uint32_t[]){1, NONE} : (const uint32_t[]){NONE, NONE});
+    if (inside) {
+        found(what, asked, c0, 1);
+        stepped(what, asked, 1 + 1, c0, 1);
+    } else {
+        no_chain(what, asked);
+        stepped_none(what, asked, 1);
+    }
+    given = NULL;
+}
+
+/* The opening second is inside and the closing one is not; without a time, the whole day alone will do. */
+static void test_windows(void)
+{
+    enum { UNTIMED = 99999 };
+    static const struct {
+        uint32_t time, open, close;
+        int inside;
+    } rows[] = {
+        {5, 5, 6, 1},         {5, 0, 5, 0},         {5, 6, 7, 0},         {5, 0, 6, 1},         {5, 4, 5, 0},
+        {5, 5, 86400, 1},     {5, 6, 86400, 0},     {5, 0, 86400, 1},     {5, 0, 86399, 1},     {0, 0, 1, 1},
+        {0, 1, 2, 0},         {0, 0, 86400, 1},     {0, 1, 86400, 0},     {86399, 0, 86399, 0}, {86399, 86399, 86400, 1},
+        {86399, 1, 86400, 1}, {65541, 5, 6, 0},     {65541, 65541, 65542, 1},
+        {UNTIMED, 0, 86400, 1}, {UNTIMED, 0, 86399, 0}, {UNTIMED, 1, 86400, 0}, {UNTIMED, 0, 1, 0}, {UNTIMED, 86399, 86400, 0},
+    };
+    static struct record day;
+    for (size_t i = 0; i < sizeof rows / sizeof rows[0]; i++) {
+        for (uint8_t kind = 1; kind <= 15; kind += 7) {
+            const struct line l = {0, kind, 1, 1, 1};
+            begin(&day, 2);
+            if (rows[i].time == UNTIMED) {
+                add(&day, l);
+            } else {
+                add_timed(&day, l, rows[i].time);
+            }
+            const struct options o = window(kind, rows[i].open, rows[i].close);
+            one_line("one line and its window", &day, kind, &o, rows[i].inside);
+        }
+    }
+
+    /* It is the window of the line's own kind that counts. */
+    for (uint8_t kind = 1; kind <= 15; kind++) {
+        const struct line l = {0, kind, 1, 1, 1};
+        begin(&day, 2);
+        add_timed(&day, l, 5);
+        struct options own = window(kind, 6, 7), others = own;
+        for (uint8_t other = 1; other <= 15; other++) {
+            set_window(&others, other, other == kind ? 5 : 6, other == kind ? 6 : 7);
+        }
+        one_line("outside its own kind's window", &day, kind, &own, 0);
+        one_line("outside the windows of others", &day, kind, &others, 1);
+        begin(&day, 2);
+        add(&day, l);
+        set_window(&others, kind, 0, CHAINS_DAY);
+        one_line("untimed, outside its own kind's window", &day, kind, &own, 0);
+        one_line("untimed, outside the windows of others", &day, kind, &others, 1);
+    }
+}
+
+/* A kind has its window where both its words are lent, and else the whole day; words from the 31st on are not read. */
+static void test_option_counts(void)
+{
+    static struct record day;
+    const size_t counts[12] = {0, 1, 2, 3, 4, 14, 15, 28, 29, 30, 31, 40};
+    for (uint8_t kind = 1; kind <= 15; kind += kind == 2 ? 5 : kind == 7 ? 7 : 1) {
+        begin(&day, 2);
+        add_timed(&day, (struct line){0, kind, 1, 1, 1}, 5);
+        for (size_t i = 0; i < 12; i++) {
+            struct options o = whole_day();
+            for (size_t other = 1; other <= 15; other++) {
+                set_window(&o, other, 6, 7);
+            }
+            o.len = counts[i];
+            if (o.len % 2 == 1 && o.len < CHAINS_OPTIONS) {
+                o.at[o.len - 1] = DIRT;
+            }
+            one_line("so many words of options", &day, kind, &o, o.len < 2 * (size_t)kind);
+        }
+    }
+}
+
+/* Refused with these options, whatever is lent; and nothing is altered. */
+static void request_refused(const char *what, struct ask a, const struct options *o, uint32_t number)
+{
+    static const uint16_t missing[2] = {0, 65535};
+    const size_t words[3] = {0, 8704, WORDS};
+    given = o;
+    for (size_t i = 0; i < 3; i++) {
+        check_in(what, a, missing, 2, words[i], number, 0);
+        find_in(what, a, words[i], 0, number, 0, missing);
+        find_in(what, a, words[i], ENTRIES, number, 0, missing);
+        begin_refused(what, a, words[i], number);
+    }
+    starts_refused(what, a, ALL, number);
+    starts_refused(what, a, EMPTY, number);
+    given = NULL;
+}
+
+/* 27: every kind's window opens before it closes, and closes by 86,400. It is asked after 15 and before 16, 17, 18 and 19. */
+static void test_windows_refused(void)
+{
+    static const uint32_t wrong[10][2] = {{0, 0},         {5, 5},     {6, 5},          {86400, 86400},           {86399, 86399},
+                                          {86400, 86401}, {0, 86401}, {0, UINT32_MAX}, {UINT32_MAX, UINT32_MAX}, {UINT32_MAX, 0}};
+    static const uint32_t right[4][2] = {{0, 1}, {86399, 86400}, {0, 86400}, {86398, 86399}};
+    static struct record day;
+    begin(&day, 4);
+    for (size_t kind = 1; kind <= 15; kind++) {
+        for (size_t i = 0; i < 10; i++) {
+            const struct options o = window(kind, wrong[i][0], wrong[i][1]);
+            request_refused("a window out of range", R_P, &o, CHAINS_WINDOW_OUT_OF_RANGE);
+            request_refused("a window out of range, no lines", (struct ask){&day, NOTHING, 1, 0, 0}, &o, CHAINS_WINDOW_OUT_OF_RANGE);
+        }
+        for (size_t i = 0; i < 4; i++) {
+            const struct options o = window(kind, right[i][0], right[i][1]);
+            given = &o;
+            found("a window in range, no lines", (struct ask){&day, NOTHING, 1, 0, 0}, output, 0);
+            given = NULL;
+        }
+    }
+
+    const struct options o = window(15, 5, 5);
+    request_refused("27 after 15", (struct ask){&r, P, 15, 0, 4}, &o, CHAINS_ASKED_PLACE_NOT_THERE);
+    request_refused("27 after 14", (struct ask){&r, P, 14, 0, 4}, &o, CHAINS_OPERANDS_MISSING);
+    request_refused("27 after 8", (struct ask){&r, P, 0, 0, 4}, &o, CHAINS_COMMAND_NOT_KNOWN);
+    day = r;
+    day.len--;
+    request_refused("27 after 3", (struct ask){&day, P, 0, 0, 4}, &o, CHAINS_ENTRY_NOT_KNOWN);
+
+    /* Sixty-four boats are too many; so they are where every line is outside. */
+    uint8_t pattern[18] = {0x27, 1, 0};
+    memset(pattern + 3, 0x26, 13);
+    pattern[16] = 0x21;
+    pattern[17] = 1;
+    const struct ask large = {&day, pattern, 18, 0, 0};
+    begin(&day, 1024);
+    for (uint32_t boat = 0; boat < 64; boat++) {
+        add_timed(&day, (struct line){0, 1, 1, boat, 0}, 5);
+    }
+    const struct options outside = window(1, 6, 7);
+    request_refused("27 before 16", large, &o, CHAINS_WINDOW_OUT_OF_RANGE);
+    request_refused("16 by all lines", large, &outside, CHAINS_SEARCH_TOO_LARGE);
+    request_refused("15 before 16 by all lines", (struct ask){&day, pattern, 18, 0, 1024}, &outside, CHAINS_ASKED_PLACE_NOT_THERE);
+}
+
+/* Lines outside are not in any chain, and the others keep their numbers. The work area is that for all lines. */
+static void test_lines_outside(void)
+{
+    static const uint16_t chains[2][3] = {{1, 2, 5}, {0, 3, 7}};
+    static const struct {
+        uint32_t kind, open, close;
+        int first, second; /* is 1 2 5 left, is 0 3 7? */
+    } rows[] = {
+        {4, 0, 86400, 1, 1}, {4, 0, 800, 1, 0},   {4, 600, 601, 1, 0},   {4, 601, 86400, 0, 1}, {4, 700, 800, 0, 0},
+        {2, 0, 400, 1, 0},   {2, 400, 401, 0, 1}, {2, 301, 401, 0, 1},   {1, 200, 300, 1, 0},   {1, 100, 200, 0, 1},
+        {1, 0, 100, 0, 0},   {3, 0, 1, 1, 1},     {5, 86399, 86400, 1, 1},
+    };
+    const struct ask asked = {&r_timed, P, 15, 0, 3};
+    for (size_t i = 0; i < sizeof rows / sizeof rows[0]; i++) {
+        struct options o = window(rows[i].kind, rows[i].open, rows[i].close);
+        given = &o;
+        const int left = rows[i].first || rows[i].second;
+        const uint16_t *chain = chains[rows[i].second ? 1 : 0];
+        check("1 2 5 in windows", asked, chains[0], 3, rows[i].first ? 1 : 0);
+        check("0 3 7 in windows", asked, chains[1], 3, rows[i].second ? 1 : 0);
+        started("R with times in windows", asked, ALL_AND_0, left ? (const uint32_t[]){3, NONE, NONE, NONE, 3}
+                                                                 : (const uint32_t[]){NONE, NONE, NONE, NONE, NONE});
+        if (left) {
+            found("R with times in windows", asked, chain, 3);
+        } else {
+            no_chain("R with times in windows", asked);
+        }
+        /* Every line can be named, and one that is not there is told, also after a line outside. */
+        const uint16_t missing[4] = {7, 5, 8, 0};
+        check("a line that is outside or does not join", asked, missing, 2, 0);
+        check_in("line 8 of 8", asked, missing, 3, 8704, CHAINS_LINE_NOT_THERE, 0);
+        check_in("a word too few", asked, missing, 4, 8703, CHAINS_WORK_AREA_TOO_SMALL, 0);
+        begin_refused("a word too few for a search", asked, 8704 + 3 * 8 - 1, CHAINS_WORK_AREA_TOO_SMALL);
+
+        /* A search has its windows in the area: what becomes of the lent ones does not matter. */
+        const struct options lent = o;
+        for (uint32_t count = 0; count < 9; count += 4) {
+            o = lent;
+            begin_in("R with times in steps", asked, 8728);
+            o = window(1, 5, 5);
+            expect("R with times in steps", chains_value(search_move(8728, count)) <= count);
+            finish_in("R with times in steps", 8728, 3, 0, left ? 3 : NONE, chain);
+        }
+        given = NULL;
+    }
+
+    /* Without line 7 in its window, the search is that of R: as many states are taken up. */
+    const struct options o = window(4, 0, 800);
+    given = &o;
+    stepped("R with times in steps, line 7 outside", asked, STATES_R_P, chains[0], 3);
+    given = NULL;
+}
+
+/* README's time limit: the finish closes at 15:00, and the boat that finishes at that second has no chain. */
+static void test_time_limit(void)
+{
+    static struct record day;
+    const uint8_t pattern[10] = {0x27, 1, 0, 0x25, 0x22, 2, 0, 0x22, 4, 0};
+    const uint16_t c025[3] = {0, 2, 5}, c134[3] = {1, 3, 4};
+    const struct ask asked = {&day, pattern, 10, 0, 3};
+    begin(&day, 4);
+    add(&day, (struct line){0, 1, 1, 7, 1});
+    add(&day, (struct line){0, 1, 1, 9, 1});
+    add_timed(&day, (struct line){1, 2, 1, 7, 2}, 36000);
+    add_timed(&day, (struct line){1, 2, 1, 9, 2}, 36000);
+    add_timed(&day, (struct line){2, 4, 1, 9, 3}, 53400);
+    add_timed(&day, (struct line){2, 4, 1, 7, 3}, 54000);
+    found("no time limit", asked, c025, 3);
+
+    uint32_t options[CHAINS_OPTIONS]; /* open and close of kinds 1 to 15 in turn */
+    for (size_t i = 0; i < CHAINS_OPTIONS; i++) {
+        options[i] = i % 2 == 0 ? 0 : CHAINS_DAY;
+    }
+    options[2 * (4 - 1) + 1] = 54000; /* kind 4, finished, closes at 15:00 */
+    struct options limit = {{0}, CHAINS_OPTIONS};
+    memcpy(limit.at, options, sizeof options);
+    given = &limit;
+    found("a time limit", asked, c134, 3);
+    check("a time limit, out of it", asked, c025, 3, 0);
+    options[2 * (4 - 1) + 1] = 54001;
+    memcpy(limit.at, options, sizeof options);
+    found("a time limit a second later", asked, c025, 3);
+    given = NULL;
+}
+
+/* ---- windows, beside a record of the lines inside */
+
+/* A day that is drawn, in which half of the lines have a time, and the same day with the lines inside alone: their numbers in the first. */
+static void draw_timed_day(struct record *day, struct record *inside, uint16_t *numbers, uint16_t places, const struct options *o)
+{
+    uint16_t number = 0;
+    begin(day, places);
+    begin(inside, places);
+    for (uint32_t lines = drawn(16); lines > 0; lines--) {
+        const uint16_t from = (uint16_t)drawn(places), to = (uint16_t)drawn(places);
+        const uint8_t kind = (uint8_t)(1 + drawn(3)), class_ = (uint8_t)drawn(3);
+        const struct line l = {from, kind, class_, drawn(2), to};
+        const uint32_t open = o->at[2 * (kind - 1)], close = o->at[2 * (kind - 1) + 1], time = drawn(8);
+        const int timed = drawn(2) == 1;
+        if (timed) {
+            add_timed(day, l, time);
+        } else {
+            add(day, l);
+        }
+        if (timed ? open <= time && time < close : open == 0 && close == CHAINS_DAY) {
+            add(inside, l);
+            *numbers++ = number;
+        }
+        number++;
+    }
+}
+
+/* The chain that a find finds, its length, or the mark. */
+static uint32_t chain_of(struct ask a, uint16_t *chain)
+{
+    static uint32_t work[WORDS];
+    const uint64_t reply = call_find(a, work, needed(a), chain, 4096);
+    expect("a find with an output that is long enough", !chains_refused(reply));
+    return chains_value(reply);
+}
+
+/* Days and windows that are drawn: what is found is what is found in the record of the lines inside, by other numbers. Checker, starts and
+   search say the same. */
+static void test_windows_drawn(void)
+{
+    static const struct {
+        uint8_t at[16];
+        size_t len;
+    } patterns[5] = {
+        {{0x26, 0x24, 0x21, 1, 0x24, 0x21, 2, 0x21, 3}, 9},                       /* any number of lines */
+        {{0x25, 0x26, 0x21, 1, 0x25, 0x21, 2, 0x26, 0x21, 3}, 10},                /* a 2 between 1s and 3s */
+        {{0x27, 1, 0, 0x26, 0x24, 0x22, 2, 0, 0x22, 3, 0}, 11},                   /* one boat's lines */
+        {{0x27, 1, 0, 0x27, 2, 1, 0x25, 0x22, 3, 0, 0x24, 0x23, 1, 1, 0x20}, 15}, /* two boats */
+        {{0x2A, 2, 4, 0x24, 0x21, 1, 0x21, 2}, 8},                                /* two to four lines */
+    };
+    static struct record day, inside;
+    static uint16_t all[4096], left[4096], stepped_out[4096];
+    static uint32_t work[WORDS];
+    size_t found = 0, none = 0, other = 0, outside = 0;
+    for (size_t i = 0; i < 200; i++) {
+        const uint16_t places = (uint16_t)(1 + drawn(5)), list[5] = {0, 1, 2, 3, 4};
+        uint16_t numbers[16];
+        struct options o = whole_day();
+        for (size_t kind = 1; kind <= 3; kind++) {
+            const uint32_t open = drawn(5), whole = drawn(3);
+            if (whole > 0) {
+                set_window(&o, kind, open, open + 1 + drawn(6));
+            }
+        }
+        draw_timed_day(&day, &inside, numbers, places, &o);
+        for (size_t j = 0; j < 5; j++) {
+            for (uint16_t to = 0; to < places; to++) {
+                uint32_t expected[5];
+                for (uint16_t from = 0; from < places; from++) {
+                    const struct ask asked = {&day, patterns[j].at, patterns[j].len, from, to};
+                    const struct ask alone = {&inside, patterns[j].at, patterns[j].len, from, to};
+                    const uint32_t whole = chain_of(asked, all);
+                    const uint32_t length = chain_of(alone, left);
+                    for (uint32_t k = 0; length != NONE && k < length; k++) {
+                        left[k] = numbers[left[k]];
+                    }
+                    given = &o;
+                    const uint64_t again = call_check(asked, all, whole == NONE ? 0 : whole, work, needed(asked));
+                    const uint32_t with = chain_of(asked, all);
+                    expect("found as in the lines inside", with == length && (with == NONE || memcmp(all, left, with * sizeof *all) == 0));
+                    expect("checked as found", with == NONE || chains_yes(call_check(asked, all, with, work, needed(asked))));
+                    begin_in("drawn, in steps", asked, search_needed(asked));
+                    search_move(search_needed(asked), drawn(9));
+                    const uint64_t finished = chains_search_finish(area + EDGE, search_needed(asked), stepped_out, 4096);
+                    expect_reply("drawn, in steps", finished, 0, with);
+                    expect("drawn, in steps", with == NONE || memcmp(stepped_out, all, with * sizeof *all) == 0);
+                    given = NULL;
+                    expected[from] = with;
+                    found += with != NONE;
+                    none += with == NONE;
+                    other += with != NONE && with != whole;
+                    outside += whole != NONE && chains_no(again);
+                }
+                const struct ask asked = {&day, patterns[j].at, patterns[j].len, 0, to};
+                given = &o;
+                starts_in("drawn, all starts", asked, (struct list){list, places}, needed(asked), places, 0, places, expected);
+                given = NULL;
+            }
+        }
+    }
+    expect("of the chains some are found, some are others, some are none", found > 1000 && other > 20 && none > 1000 && outside > 100);
+}
+
 /* ---- replies taken apart, and the version */
 
 static uint64_t reply_of(uint64_t number, uint64_t value)
@@ -1538,8 +2212,8 @@ static uint64_t reply_of(uint64_t number, uint64_t value)
 /* A refusal is no answer of any sort, and leaves every length as it was. */
 static void test_refused_replies(void)
 {
-    const uint64_t values[6] = {0, 1, 2, 3, 5, CHAINS_NO_CHAIN};
-    for (uint64_t number = 1; number <= 26; number++) {
+    const uint64_t values[6] = {0, 1, 3, 5, CHAINS_TIMED_FIELDS, CHAINS_NO_CHAIN};
+    for (uint64_t number = 1; number <= 28; number++) {
         for (size_t i = 0; i < 6; i++) {
             const uint64_t value = values[i], reply = reply_of(number, value);
             size_t length = 77;
@@ -1550,7 +2224,7 @@ static void test_refused_replies(void)
             expect("a refusal is not begun and not moved", !chains_begun(reply) && !chains_moved(reply, &length));
             expect("a refusal is not found", !chains_found(reply, &length));
             expect("a refusal leaves the length", length == 77);
-            expect("a refusal is not written", !chains_written(reply));
+            expect("a refusal is not written", !chains_written(reply) && !chains_timed(reply));
             expect("a refusal is neither yes nor no", !chains_yes(reply) && !chains_no(reply));
             expect("a refusal is not none", !chains_none(reply));
             expect("19 alone has a length", chains_too_long(reply, &length) == (number == 19));
@@ -1569,7 +2243,8 @@ static void test_replies(void)
     expect("the empty chain is found", chains_found(0, &length) && length == 0 && !chains_none(0));
     expect("yes is yes", chains_yes(1) && !chains_no(1));
     expect("no is no", chains_no(0) && !chains_yes(0));
-    expect("written", chains_written(5) && chains_written(2) && !chains_written(0));
+    expect("written", chains_written(6) && chains_written(5) && chains_written(2) && !chains_written(0));
+    expect("timed", chains_timed(6) && !chains_timed(5) && !chains_timed(0));
     expect("words", chains_needed(8704, &length) && length == 8704);
     expect("lengths", chains_lengths(5, &length) && length == 5);
     expect("lengths of no places", chains_lengths(0, &length) && length == 0);
@@ -1582,6 +2257,7 @@ static void test_replies(void)
     uint8_t buf[4];
     expect("begin gives a length", chains_length(chains_begin(buf, 4, 1), &length) && length == 4);
     expect("a refused add keeps the length", !chains_length(chains_add(buf, 4, length, 0, 1, 1, 1, 0), &length) && length == 4);
+    expect("a refused add of a time keeps the length", !chains_length(chains_add_timed(buf, 4, length, 0, 1, 1, 1, 0, 5), &length) && length == 4);
     const uint16_t missing[1] = {7};
     const uint64_t checked = chains_check(r.at, r.len, P, 15, 0, 3, missing, 1, area, WORDS);
     expect("a check of a missing line is neither", chains_refused(checked) && !chains_yes(checked) && !chains_no(checked));
@@ -1604,7 +2280,7 @@ static void test_replies(void)
 
 /* ---- sentences */
 
-/* Every row of the list, number, tab and sentence, is what chains_message says; the rows are 1 to 26. */
+/* Every row of the list, number, tab and sentence, is what chains_message says; the rows are 1 to 28. */
 static void test_messages(const char *path)
 {
     FILE *list = fopen(path, "r");
@@ -1626,10 +2302,10 @@ static void test_messages(const char *path)
         }
     }
     fclose(list);
-    expect("the list has 26 sentences", number == 26);
+    expect("the list has 28 sentences", number == 28);
     expect("0 is not refused", strcmp(chains_message(0), "not refused") == 0);
     const char *unknown = "this number is not that of a refusal";
-    expect("27 is no refusal", strcmp(chains_message(27), unknown) == 0 && strcmp(chains_message(UINT32_MAX), unknown) == 0);
+    expect("29 is no refusal", strcmp(chains_message(29), unknown) == 0 && strcmp(chains_message(UINT32_MAX), unknown) == 0);
 }
 
 int main(int argc, char **argv)
@@ -1663,6 +2339,18 @@ int main(int argc, char **argv)
     test_no_search();
     test_search_altered();
     test_search_cut();
+    test_add_timed();
+    test_read_timed();
+    test_times_alone();
+    test_stored();
+    test_stored_full();
+    test_whole_day();
+    test_windows();
+    test_option_counts();
+    test_windows_refused();
+    test_lines_outside();
+    test_time_limit();
+    test_windows_drawn();
     test_refused_replies();
     test_replies();
     test_messages(argc > 1 ? argv[1] : "include/refusals.txt");

@@ -10,11 +10,14 @@
 int main()
 {
     uint8_t record[4];
+    uint8_t timed[18];
+    uint32_t fields[CHAINS_TIMED_FIELDS];
+    uint32_t options[2] = {0, 5};
     uint8_t pattern[1] = {0x20};
     uint8_t rounds[4] = {0x2A, 0, 3, 0x20};
     uint32_t counts[CHAINS_COUNTS];
     uint32_t boats[CHAINS_BOATS_COUNTS] = {9, 9};
-    static uint32_t work[8200];
+    static uint32_t work[8203];
     uint16_t chain[1] = {9};
     uint16_t starts[2] = {0, 0};
     uint32_t lengths[2] = {9, 9};
@@ -36,6 +39,21 @@ int main()
     holds = holds && chains_written(chains_pattern(pattern, 1, counts, CHAINS_COUNTS)) && counts[CHAINS_COUNT_COMMANDS] == 1;
     holds = holds && chains_written(chains_pattern(rounds, 4, counts, CHAINS_COUNTS)) && counts[CHAINS_COUNT_UNFOLDED] == 4;
     holds = holds && std::strcmp(chains_message(chains_number(chains_begin(record, sizeof record, 0))), chains_message(2)) == 0;
+    const uint8_t line[2] = {0x21, 1};
+    holds = holds && chains_length(chains_begin(timed, sizeof timed, 1), &length) &&
+            chains_length(chains_add_timed(timed, sizeof timed, length, 0, 1, 1, 1, 0, 5), &length) && length == 18;
+    holds = holds && chains_timed(chains_read(timed, length, 0, fields, CHAINS_TIMED_FIELDS)) && fields[CHAINS_FIELD_TIME] == 5;
+    chain[0] = 0;
+    holds = holds && chains_yes(chains_check(timed, length, line, 2, 0, 0, chain, 1, work, 8200));
+    holds = holds && chains_no(chains_check_with(timed, length, line, 2, 0, 0, chain, 1, options, 2, work, 8200));
+    holds = holds && chains_none(chains_find_with(timed, length, line, 2, 0, 0, options, 2, work, 8200, chain, 1));
+    holds = holds && chains_lengths(chains_starts_with(timed, length, line, 2, starts, 1, 0, options, 2, work, 8200, lengths, 2), &count) &&
+            count == 1 && lengths[0] == CHAINS_NO_CHAIN;
+    options[0] = 5;
+    holds = holds && chains_number(chains_search_begin_with(timed, length, line, 2, 0, 0, options, 2, work, 8203)) == CHAINS_WINDOW_OUT_OF_RANGE;
+    options[1] = CHAINS_DAY;
+    holds = holds && chains_begun(chains_search_begin_with(timed, length, line, 2, 0, 0, options, 2, work, 8203)) &&
+            chains_found(chains_search_finish(work, 8203, chain, 1), &count) && count == 1 && CHAINS_OPTIONS == 30;
     std::puts(holds ? "the header serves C++" : "fails: the header from C++");
     return holds ? 0 : 1;
 }

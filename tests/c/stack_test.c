@@ -98,7 +98,7 @@ static void write_patterns(void)
 /* ---- days */
 
 /* Lines from each place to the next, and from time to time to the same, of so many boats, all of them read: with an unread number no
-   test passes, and a search is over sooner. */
+   test passes, and a search is over sooner. Every second line has a time, the last one too. */
 static void write_day(struct day *d, uint16_t places, uint32_t boats)
 {
     if (!chains_length(chains_begin(d->at, sizeof d->at, places), &d->len)) {
@@ -109,7 +109,10 @@ static void write_day(struct day *d, uint16_t places, uint32_t boats)
         const uint16_t from = (uint16_t)(i % places);
         const uint16_t to = (uint16_t)(i % 5 == 0 || from == d->last ? from : from + 1);
         const uint32_t boat = i % boats;
-        if (!chains_length(chains_add(d->at, sizeof d->at, d->len, from, 1, (uint8_t)(1 + boat % 3), boat, to), &d->len)) {
+        const uint8_t class_ = (uint8_t)(1 + boat % 3);
+        const uint64_t added = i % 2 == 0 ? chains_add(d->at, sizeof d->at, d->len, from, 1, class_, boat, to)
+                                          : chains_add_timed(d->at, sizeof d->at, d->len, from, 1, class_, boat, to, i);
+        if (!chains_length(added, &d->len)) {
             fail("a line is added");
         }
     }
@@ -124,6 +127,20 @@ static void write_days(void)
     write_day(&days[4], 256, 63);
 }
 
+/* ---- windows */
+
+/* The whole day for every kind; and for kind 1 a window that only lines with a time are inside of, and not all of these. */
+static uint32_t whole_day[CHAINS_OPTIONS];
+static uint32_t part_of_day[CHAINS_OPTIONS];
+
+static void write_windows(void)
+{
+    for (size_t i = 0; i < CHAINS_OPTIONS; i++) {
+        whole_day[i] = part_of_day[i] = i % 2 == 0 ? 0 : CHAINS_DAY;
+    }
+    part_of_day[1] = LINES - 100;
+}
+
 /* ---- the calls */
 
 /* What was answered. */
@@ -134,15 +151,19 @@ struct counted {
     size_t yes; /* of the checker, to the chains that were found */
     size_t stepped; /* searches in steps that replied as the finder did */
     size_t started; /* lists of all places, of which the first was answered, or all refused, as by the finder */
+    size_t windowed; /* finds, starts, checks and searches in steps with windows of the whole day that replied as those without */
+    size_t outside; /* chains that the checker accepts without windows, and not with a line outside */
     size_t days; /* whose boats were counted */
 };
 
-/* The search for a chain in steps: begun, moved on by one state and by some, finished. */
-static uint64_t search(const struct day *d, const struct bytes *p)
+/* The search for a chain in steps, with windows or without: begun, moved on by one state and by some, finished. */
+static uint64_t search(const struct day *d, const struct bytes *p, const uint32_t *options)
 {
     size_t words = 0;
     chains_needed(chains_search_words(d->at, d->len, p->at, p->len), &words);
-    const uint64_t begun = chains_search_begin(d->at, d->len, p->at, p->len, 0, d->last, work, words);
+    const uint64_t begun =
+        options == NULL ? chains_search_begin(d->at, d->len, p->at, p->len, 0, d->last, work, words)
+                        : chains_search_begin_with(d->at, d->len, p->at, p->len, 0, d->last, options, CHAINS_OPTIONS, work, words);
     if (!chains_begun(begun)) {
         return begun;
     }
@@ -157,18 +178,31 @@ static void ask(const struct day *d, const struct bytes *p, struct counted *coun
     size_t words = 0;
     size_t length = 0;
     chains_needed(chains_words(d->at, d->len, p->at, p->len), &words);
-    const uint64_t stepped = search(d, p);
+    const uint64_t stepped = search(d, p, NULL);
     uint64_t reply = chains_find(d->at, d->len, p->at, p->len, 0, d->last, work, words, entries, MOST_ENTRIES);
     counted->answers += !chains_refused(reply);
     counted->stepped += reply == stepped;
     const uint64_t started =
         chains_starts(d->at, d->len, p->at, p->len, places, d->last + 1u, d->last, work, words, lengths, d->last + 1u);
     counted->started += chains_refused(reply) ? started == reply : started == d->last + 1u && lengths[0] == chains_value(reply);
+    counted->windowed += search(d, p, whole_day) == stepped;
+    counted->windowed += chains_find_with(d->at, d->len, p->at, p->len, 0, d->last, whole_day, CHAINS_OPTIONS, work, words, entries,
+                                          MOST_ENTRIES) == reply;
+    counted->windowed += chains_starts_with(d->at, d->len, p->at, p->len, places, d->last + 1u, d->last, whole_day, CHAINS_OPTIONS, work,
+                                            words, lengths, d->last + 1u) == started;
     if (chains_found(reply, &length)) {
         counted->found++;
-        reply = chains_check(d->at, d->len, p->at, p->len, 0, d->last, entries, length, work, words);
-        counted->yes += chains_yes(reply);
+        const uint64_t checked = chains_check(d->at, d->len, p->at, p->len, 0, d->last, entries, length, work, words);
+        counted->yes += chains_yes(checked);
+        counted->windowed += chains_check_with(d->at, d->len, p->at, p->len, 0, d->last, entries, length, whole_day, CHAINS_OPTIONS, work,
+                                               words) == checked;
+        counted->outside += chains_no(chains_check_with(d->at, d->len, p->at, p->len, 0, d->last, entries, length, part_of_day,
+                                                        CHAINS_OPTIONS, work, words));
     }
+    search(d, p, part_of_day);
+    chains_find_with(d->at, d->len, p->at, p->len, 0, d->last, part_of_day, CHAINS_OPTIONS, work, words, entries, MOST_ENTRIES);
+    chains_starts_with(d->at, d->len, p->at, p->len, places, d->last + 1u, d->last, part_of_day, CHAINS_OPTIONS, work, words, lengths,
+                       d->last + 1u);
     chains_find(d->at, d->len, p->at, p->len, d->last, 0, work, words, entries, 0);
     chains_check(d->at, d->len, p->at, p->len, 0, d->last, chain, LINES, work, words);
 }
@@ -176,7 +210,7 @@ static void ask(const struct day *d, const struct bytes *p, struct counted *coun
 static void *call_all(void *given)
 {
     struct counted *counted = given;
-    uint32_t words[CHAINS_FIELDS];
+    uint32_t words[CHAINS_TIMED_FIELDS];
     chains_version();
     for (size_t i = 0; i < PATTERNS; i++) {
         counted->patterns += chains_written(chains_pattern(patterns[i].at, patterns[i].len, words, CHAINS_COUNTS));
@@ -186,11 +220,13 @@ static void *call_all(void *given)
     }
     for (size_t j = 0; j < DAYS; j++) {
         struct day *d = &days[j];
-        size_t len = d->len - 10;
-        counted->days += chains_written(chains_boats(d->at, d->len, words, CHAINS_BOATS_COUNTS));
-        chains_read(d->at, d->len, LINES - 1, words, CHAINS_FIELDS);
+        size_t len = d->len - 14; /* without the last line */
+        counted->days += chains_written(chains_boats(d->at, d->len, words, CHAINS_BOATS_COUNTS)) &&
+                         chains_timed(chains_read(d->at, d->len, LINES - 1, words, CHAINS_TIMED_FIELDS));
         d->at[len - 1] = 0;
         chains_add(d->at, sizeof d->at, len, 0, 1, 1, 1, d->last);
+        d->at[len - 1] = 0;
+        chains_add_timed(d->at, sizeof d->at, len, 0, 1, 1, 1, d->last, 5);
         chains_begin(d->at, sizeof d->at, 1024);
     }
     return NULL;
@@ -244,14 +280,16 @@ int main(void)
     }
     write_patterns();
     write_days();
-    struct counted counted = {0, 0, 0, 0, 0, 0, 0};
+    write_windows();
+    struct counted counted = {0, 0, 0, 0, 0, 0, 0, 0, 0};
     const size_t own = taken_by(call_none, &counted);
     const size_t taken = taken_by(call_all, &counted);
     printf("%zu answers on a stack of %d bytes; the hungriest call took %zu, beside %zu of the thread's own\n", counted.answers,
            CHAINS_STACK, taken - own, own);
     /* The last patterns alone are refused; of the requests about the others, some are too large. */
     if (counted.patterns != PATTERNS - REFUSED || counted.answers < 3 * PATTERNS || counted.found < PATTERNS ||
-        counted.yes != counted.found || counted.stepped != PATTERNS * DAYS || counted.started != PATTERNS * DAYS || counted.days != DAYS) {
+        counted.yes != counted.found || counted.stepped != PATTERNS * DAYS || counted.started != PATTERNS * DAYS ||
+        counted.windowed != 3 * PATTERNS * DAYS + counted.found || counted.outside == 0 || counted.days != DAYS) {
         fail("the requests are answered");
     }
     free(work);

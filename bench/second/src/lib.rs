@@ -25,6 +25,7 @@ pub unsafe extern "C" fn second_find(
         pat: slice::from_raw_parts(pat, pat_len),
         from,
         to,
+        options: None,
     };
     let work = slice::from_raw_parts_mut(work, work_len);
     let out = slice::from_raw_parts_mut(out, out_len);
@@ -51,6 +52,7 @@ pub unsafe extern "C" fn second_check(
         pat: slice::from_raw_parts(pat, pat_len),
         from,
         to,
+        options: None,
     };
     let chain = slice::from_raw_parts(chain, chain_len);
     Own.check(ask, chain, slice::from_raw_parts_mut(work, work_len))
@@ -72,7 +74,7 @@ pub unsafe extern "C" fn second_words(
 /// Writes the day of Proposition 3 for n into a buffer that holds it, and gives its length.
 ///
 /// # Safety
-/// `buf` has room for 40,964 bytes.
+/// `buf` has room for 57,348 bytes.
 #[no_mangle]
 pub unsafe extern "C" fn second_proposition_3_day(n: u16, buf: *mut u8) -> usize {
     given(&cases::proposition_3_day(n), buf)
@@ -81,7 +83,7 @@ pub unsafe extern "C" fn second_proposition_3_day(n: u16, buf: *mut u8) -> usize
 /// The same for its pattern, the keeps being nested this deep, all in one slot.
 ///
 /// # Safety
-/// `buf` has room for 40,964 bytes.
+/// `buf` has room for 57,348 bytes.
 #[no_mangle]
 pub unsafe extern "C" fn second_proposition_3_pattern(keeps: u8, buf: *mut u8) -> usize {
     given(&cases::proposition_3_pattern(keeps, true), buf)

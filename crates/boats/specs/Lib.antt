@@ -4,3 +4,4 @@ pub mod Table
 pub mod Reads
 pub mod Counting
 pub mod Promise
+pub mod Alike

@@ -96,7 +96,7 @@ fn number_line(day: &[u8], t: Tally, noted: &mut [u32], numbers: &mut [u16]) -> 
 {
     let i = t.line;
     let met = record::pass_line(day, i, t.at);
-    let boat = boat_of(met.line);
+    let boat = boat_of(met.written.line);
     let first = first_same(&noted[..i], boat);
     noted[i] = boat;
     let line = i + 1;

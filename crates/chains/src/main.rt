@@ -223,7 +223,7 @@ fn ask_file(day: &[u8]) {
 }
 
 // Reads day.rec and ask.pat in the working folder, asks, and prints the answer, but no answer where one of them is there and cannot be
-// read. A longer record is cut, which changes no answer: at 65,536 bytes it is longer than 40,964, as the whole one is, and both are
+// read. A longer record is cut, which changes no answer: at 65,536 bytes it is longer than 57,348, as the whole one is, and both are
 // refused at question 1.
 fn main() {
     let mut day = io::large_buffer();

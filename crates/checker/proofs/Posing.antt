@@ -1,5 +1,5 @@
 -- A request posed is one to walk by: its automaton begins at positions up to the end (`posed-within`), and moving along the chain by what
--- its tables say is `check` (`posed-check`).
+-- its tables say is `checked` (`posed-check`).
 use mathlib.Core.Path.{_≡_, sym, ap, _∙_}
 use mathlib.Core.Bool.{true, _&&_}
 use mathlib.Core.List.{List}
@@ -15,7 +15,7 @@ use Rattle.graph.specs.Plain.{memb}
 use Rattle.search.specs.Product.{Setting, succs}
 use Rattle.search.specs.Along.{goal, starting}
 use Rattle.search.specs.Loaded.{settingIn}
-use Rattle.search.specs.Check.{moved, check}
+use Rattle.search.specs.Check.{moved, checked}
 use Rattle.search.specs.ReadBack.{loaded-check}
 use Rattle.forward.specs.Posed.{Posed}
 use Rattle.states.specs.Spots.{front}
@@ -31,7 +31,7 @@ module _ {q : Asked} {pat : List ℕ} {plan : Plan} {from to : ℕ} {w : List �
     posed-within k m = omega (arith, posed .planned .done-is, compiled-start compiled k m .0)
 
     pub posed-check : (chain : List ℕ) → exist (plan .lines) chain ≡ true
-        → memb (goal In to) (moved (succs In) (starting In from (members begin)) chain) ≡ check (q .day .lines) (q .pattern) from to chain
+        → memb (goal In to) (moved (succs In) (starting In from (members begin)) chain) ≡ checked (q .day .lines) (q .pattern) from to chain
     posed-check chain e =
         let moves = memb (goal In to) (moved (succs In) (starting In from (members begin)) chain) in
         sym (ap (_&& moves) e)

@@ -5,21 +5,22 @@ use mathlib.Core.List.{List}
 use Prim.Native.Nat.{ℕ}
 use lib.ListN.{length}
 use Rattle.meaning.specs.Outcome.{refused, passed}
+use Rattle.meaning.specs.Windows.{Options}
 use Rattle.meaning.specs.Request.{Asked, askRequest}
 use Rattle.meaning.specs.Chain.{exist}
-use Rattle.search.specs.Check.{check}
+use Rattle.search.specs.Asked.{check}
 use Rattle.checker.specs.Promise.{checkOf}
 
-module _ (rec pat : List ℕ) (from to : ℕ) (chain : List ℕ) (words : ℕ) where
-  pub check-refused : (number : ℕ) → askRequest rec pat from to words ≡ refused number → checkOf rec pat from to chain words ≡ refused number
+module _ (rec pat : List ℕ) (from to : ℕ) (chain : List ℕ) (options : Options) (words : ℕ) where
+  pub check-refused : (number : ℕ) → askRequest rec pat from to options words ≡ refused number → checkOf rec pat from to chain options words ≡ refused number
   unfolding checkOf
   check-refused number e = simp e
 
-  module _ (q : Asked) (e : askRequest rec pat from to words ≡ passed q) where
-    pub check-missing : exist (length (q .day .lines)) chain ≡ false → checkOf rec pat from to chain words ≡ refused 18
+  module _ (q : Asked) (e : askRequest rec pat from to options words ≡ passed q) where
+    pub check-missing : exist (length (q .day .lines)) chain ≡ false → checkOf rec pat from to chain options words ≡ refused 18
     unfolding checkOf
     check-missing h = simp (e, h)
 
-    pub check-said : exist (length (q .day .lines)) chain ≡ true → (b : Bool) → b ≡ check (q .day .lines) (q .pattern) from to chain → checkOf rec pat from to chain words ≡ passed b
+    pub check-said : exist (length (q .day .lines)) chain ≡ true → (b : Bool) → b ≡ check q from to chain → checkOf rec pat from to chain options words ≡ passed b
     unfolding checkOf
     check-said h b is = simp (e, h, is)

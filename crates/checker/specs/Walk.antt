@@ -16,7 +16,7 @@ use Rattle.graph.specs.Table.{Search, blank, push}
 use Rattle.area.specs.Area.{stretch, found, Ready}
 use Rattle.forward.specs.Posed.{Posed}
 use Rattle.search.specs.Product.{Setting, succs}
-use Rattle.search.specs.Check.{moved, check}
+use Rattle.search.specs.Check.{moved, checked}
 use Rattle.search.specs.Moves.{visit, onward}
 
 -- ---- sets of states, marked and listed
@@ -104,4 +104,4 @@ ends S begin from to chain = memb (goal S to) (moved (succs S) (starting S from 
 
 -- the reply b is right for every request that the area is of
 abbrev pub RightFor : List ℕ → Plan → ℕ → ℕ → List ℕ → List ℕ → Bool → Type 0
-RightFor pat plan from to chain w b = (q : Asked) → Posed q pat plan from to w → b ≡ check (q .day .lines) (q .pattern) from to chain
+RightFor pat plan from to chain w b = (q : Asked) → Posed q pat plan from to w → b ≡ checked (q .day .lines) (q .pattern) from to chain

@@ -5,7 +5,9 @@ ghost use mathlib.Core.Bool.{true};
 ghost use Prim.Native.Nat.{_+_, _≤_, _<_};
 ghost use lib.ListN.{length};
 ghost use Rattle.meaning.specs.Outcome.{told};
+ghost use Rattle.meaning.specs.Windows.{plain};
 ghost use Rattle.meaning.specs.Request.{askRequest, workAfter};
+ghost use Rattle.windows.specs.Promise.{optionsShown};
 ghost use Rattle.meaning.specs.Chain.{exist};
 ghost use Rattle.request.specs.Layout.{Laid};
 ghost use Rattle.graph.specs.Loops.{turns};
@@ -18,6 +20,7 @@ ghost use Rattle.checker.specs.Walk.{stepped, walked, Alive, Advanced, f
 ghost use Rattle.checker.specs.Promise.{checkReply, checkOf, Demand2};
 use request::Plan;
 use request::Request;
+use windows::Options;
 
 // Document 01's reply: yes, no, or a refused question's number and second number.
 pub enum CheckReply {
@@ -161,8 +164,40 @@ fn accepted(
     leads(work, plan, &program, begin, from, to, chain)
 }
 
-// Questions 1 to 18, then yes or no: does the chain lead from the first place to the second, and is its word in the pattern's
-// language? The area stays untouched where a question up to 17 is answered no, and is all zeros after every other reply.
+// All questions, then yes or no: does the chain lead from the first place to the second, is its word in the pattern's language, and are its
+// lines inside the windows? The area stays untouched where a question up to 17 is answered no, and is all zeros after every other reply.
+pub fn check_chain_with(
+    day: &[u8],
+    pattern: &[u8],
+    from: u16,
+    to: u16,
+    chain: &[u16],
+    options: Options,
+    work: &mut [u32],
+) -> CheckReply
+    ensures reply { λ r. ⌜ checkReply r ≡ told (checkOf (now (day .entry)) (now (pattern .entry)) from to (now (chain .entry)) (optionsShown options) (length (now (work .entry)))) ⌝ }
+    ensures workspace { λ _. ⌜ now (work .exit) ≡ workAfter (askRequest (now (day .entry)) (now (pattern .entry)) from to (optionsShown options) (length (now (work .entry)))) (now (work .entry)) ⌝ }
+    ensures membership { λ r. ⌜ Demand2 (now (day .entry)) (now (pattern .entry)) from to (now (chain .entry)) (optionsShown options) (checkReply r) ⌝ }
+{
+    let mut numbers: [u16; 4096] = [0; 4096];
+    let asked = request::ask_request(day, pattern, from, to, options, work.len(), &mut numbers);
+    let Request::Asked(plan) = asked else {
+        return CheckReply::Refused(asked.number(), 0);
+    };
+    if !lines_exist(chain, plan.lines) {
+        request::clear(work);
+        return CheckReply::Refused(18, 0);
+    }
+    request::load(day, plan, &numbers, options, work);
+    let yes = accepted(pattern, plan, from as usize, to as usize, chain, work);
+    request::clear(work);
+    if yes {
+        return CheckReply::Yes;
+    }
+    CheckReply::No
+}
+
+// The same for the whole day.
 pub fn check_chain(
     day: &[u8],
     pattern: &[u8],
@@ -171,24 +206,9 @@ pub fn check_chain(
     chain: &[u16],
     work: &mut [u32],
 ) -> CheckReply
-    ensures reply { λ r. ⌜ checkReply r ≡ told (checkOf (now (day .entry)) (now (pattern .entry)) from to (now (chain .entry)) (length (now (work .entry)))) ⌝ }
-    ensures workspace { λ _. ⌜ now (work .exit) ≡ workAfter (askRequest (now (day .entry)) (now (pattern .entry)) from to (length (now (work .entry)))) (now (work .entry)) ⌝ }
-    ensures membership { λ r. ⌜ Demand2 (now (day .entry)) (now (pattern .entry)) from to (now (chain .entry)) (checkReply r) ⌝ }
+    ensures reply { λ r. ⌜ checkReply r ≡ told (checkOf (now (day .entry)) (now (pattern .entry)) from to (now (chain .entry)) plain (length (now (work .entry)))) ⌝ }
+    ensures workspace { λ _. ⌜ now (work .exit) ≡ workAfter (askRequest (now (day .entry)) (now (pattern .entry)) from to plain (length (now (work .entry)))) (now (work .entry)) ⌝ }
+    ensures membership { λ r. ⌜ Demand2 (now (day .entry)) (now (pattern .entry)) from to (now (chain .entry)) plain (checkReply r) ⌝ }
 {
-    let mut numbers: [u16; 4096] = [0; 4096];
-    let asked = request::ask_request(day, pattern, from, to, work.len(), &mut numbers);
-    let Request::Asked(plan) = asked else {
-        return CheckReply::Refused(asked.number(), 0);
-    };
-    if !lines_exist(chain, plan.lines) {
-        request::clear(work);
-        return CheckReply::Refused(18, 0);
-    }
-    request::load(day, plan, &numbers, work);
-    let yes = accepted(pattern, plan, from as usize, to as usize, chain, work);
-    request::clear(work);
-    if yes {
-        return CheckReply::Yes;
-    }
-    CheckReply::No
+    check_chain_with(day, pattern, from, to, chain, windows::whole_day(), work)
 }

@@ -1,6 +1,5 @@
 -- Replies as numbers: a refusal's second number is 0, and lengths and words fit 32 bits. Assumes nothing.
 use mathlib.Core.Path.{_≡_, refl, sym, ap}
-use mathlib.Core.Bool.{Bool}
 use mathlib.Core.List.{List, [], _∷_}
 use Prim.Native.Nat.{ℕ, _+_, _*_, _<_, _≤_}
 use native.Mathlib.Omega.{arith}
@@ -9,10 +8,10 @@ use lib.Seq.{length-take-le}
 use Rattle.meaning.specs.Outcome.{Outcome, refused, passed, told, value, refusal}
 use Rattle.meaning.specs.Record.{Line}
 use Rattle.meaning.specs.Writing.{beginOf, addOf}
-use Rattle.writing.specs.Added.{begun, adds}
+use Rattle.writing.specs.Added.{begun, adds, width-most}
 use Rattle.record.specs.Whole.{whole-of}
-use Rattle.exports.specs.Promise.{numberOf, checkNumber}
-use Rattle.exports.specs.Fits.{Fits32}
+use Rattle.exports.specs.Promise.{numberOf}
+use Rattle.exports.specs.Fits.{Fits32, SecondFits}
 
 -- a refusal's number where the second number is 0
 pub refused-is : (r number : ℕ) → r ≡ number * 4294967296 + 0 → r ≡ number * 4294967296
@@ -38,7 +37,7 @@ add-fits buffer len l =
     told-fits (addOf buffer len l)
     (λ longer e.
     let a = adds buffer len l longer e in
-    omega (arith, a .grown, whole-of (take len buffer) (a .day) (a .reads) .short, length-take-le len buffer (a .inside)))
+    omega (arith, a .grown, width-most l, whole-of (take len buffer) (a .day) (a .reads) .short, length-take-le len buffer (a .inside)))
 
 -- ---- what is told, back as an outcome
 
@@ -68,8 +67,18 @@ set-third (x ∷ []) a b c h = absurd (omega (arith, h))
 set-third (x ∷ y ∷ []) a b c h = absurd (omega (arith, h))
 set-third (x ∷ y ∷ z ∷ rest) a b c h = refl
 
--- ---- yes and no
+-- a sixth word after five
+pub set-sixth : (words : List ℕ) (a b c d e f : ℕ) → 6 ≤ length words → set (a ∷ b ∷ c ∷ d ∷ e ∷ drop 5 words) 5 f ≡ a ∷ b ∷ c ∷ d ∷ e ∷ f ∷ drop 6 words
+set-sixth [] a b c d e f h = absurd (omega (arith, h))
+set-sixth (x₁ ∷ []) a b c d e f h = absurd (omega (arith, h))
+set-sixth (x₁ ∷ x₂ ∷ []) a b c d e f h = absurd (omega (arith, h))
+set-sixth (x₁ ∷ x₂ ∷ x₃ ∷ []) a b c d e f h = absurd (omega (arith, h))
+set-sixth (x₁ ∷ x₂ ∷ x₃ ∷ x₄ ∷ []) a b c d e f h = absurd (omega (arith, h))
+set-sixth (x₁ ∷ x₂ ∷ x₃ ∷ x₄ ∷ x₅ ∷ []) a b c d e f h = absurd (omega (arith, h))
+set-sixth (x₁ ∷ x₂ ∷ x₃ ∷ x₄ ∷ x₅ ∷ x₆ ∷ rest) a b c d e f h = refl
 
-pub check-refused : (o : Outcome Bool) (number second : ℕ) → refusal number second ≡ told o → number * 4294967296 + 0 ≡ checkNumber (told o)
-check-refused (refused q) number second h = let e : number ≡ q = cc in omega (arith, e)
-check-refused (passed b) number second h = absurd (let z : _≡_ {A = ℕ} 0 1 = cc in omega arith)
+-- ---- a second number of 0
+
+pub told-second : {A : Type 0} (o : Outcome A) → SecondFits (told o)
+told-second (refused number) = omega arith
+told-second (passed a) = tt

@@ -1,24 +1,24 @@
--- The numbers for C, Rust and Python of a search in steps: a refused begin (`begun-number`), and what finish promises of its number (`finish-number`).
+-- The numbers for C, Rust and Python of a search in steps: what begin says has a small second number (`begun-second`), and what finish promises of its number (`finish-number`).
 -- Assumes nothing.
 use mathlib.Core.Path.{_≡_, sym, ap, subst}
 use mathlib.Core.List.{List}
-use Prim.Native.Nat.{ℕ, _+_, _*_}
+use Prim.Native.Nat.{ℕ}
 use native.Mathlib.Omega.{arith}
 use lib.ListN.{length}
-use Rattle.meaning.specs.Outcome.{Outcome, refused, passed, refusal}
+use Rattle.meaning.specs.Outcome.{Outcome, refused, passed}
 use Rattle.meaning.specs.Request.{Asked}
-use Rattle.search.specs.Answer.{answer}
+use Rattle.search.specs.Asked.{answer}
 use Rattle.finder.specs.Promise as Find
 use Rattle.finder.specs.Demand.{LateSaid, settled-late}
 use Rattle.searching.specs.Promise.{begunTold, moveReply, Moving, FinishHarmless, Finishing}
 use Rattle.searching.specs.declared.MoveReply.{MoveReply}
-use Rattle.exports.specs.Fits.{SaidFits}
-use Rattle.exports.specs.Promise.{numberOf, findNumber, FirstShortest, FinishingNumber}
+use Rattle.exports.specs.Fits.{SecondFits, SaidFits}
+use Rattle.exports.specs.Promise.{findNumber, FirstShortest, FinishingNumber}
 use Rattle.exports.proofs.Demands.{Low, first-shortest}
 
-pub begun-number : (o : Outcome Asked) (number second : ℕ) → refusal number second ≡ begunTold o → number * 4294967296 + 0 ≡ numberOf (begunTold o)
-begun-number (refused n) number second e = let same : number ≡ n = cc in ap (λ (k : ℕ). k * 4294967296 + 0) same
-begun-number (passed q) number second e = absurd (let z : _≡_ {A = ℕ} 0 1 = cc in omega arith)
+pub begun-second : (o : Outcome Asked) → SecondFits (begunTold o)
+begun-second (refused number) = omega arith
+begun-second (passed q) = tt
 
 -- ---- a reply that is told apart
 
@@ -46,9 +46,9 @@ finish-number w out t v after done r is = record {
   reply = t;
   number = is;
   finishing = done;
-  first-shortest = λ rec pat from to q k left.
-      let (says, cleared, written, demand) = done .begun rec pat from to q k left in
-      let late = subst LateSaid (sym says) (settled-late (length out) (answer (q .day .lines) (q .day .places) (q .pattern) from to)) in
-      subst (λ (n : ℕ). FirstShortest rec pat from to (length out) n after) (sym is)
-      (first-shortest rec pat from to (length out) after t (harmless-low t w v out after (done .altered .2)) (λ day p read tree. late) demand);
+  first-shortest = λ rec pat from to options q k left.
+      let (says, cleared, written, demand) = done .begun rec pat from to options q k left in
+      let late = subst LateSaid (sym says) (settled-late (length out) (answer q from to)) in
+      subst (λ (n : ℕ). FirstShortest rec pat from to options (length out) n after) (sym is)
+      (first-shortest rec pat from to options (length out) after t (harmless-low t w v out after (done .altered .2)) (λ day p read tree. late) demand);
 }

@@ -3,6 +3,7 @@
 use mathlib.Core.Path.{_≡_}
 use mathlib.Core.Bool.{Bool, true, false, cond}
 use mathlib.Core.List.{List, [], _∷_, _++_}
+use mathlib.Core.Option.{Option, none, some}
 use Prim.Native.Nat.{ℕ, _+_, _*_, _/_, _%_, _<_, _≤_, min}
 use lib.Dec.{leb}
 use lib.ListN.{length, getD, take, drop}
@@ -10,6 +11,7 @@ use Rattle.meaning.specs.Outcome.{Outcome, refused, passed, Reply, value, refus
 use Rattle.meaning.specs.Record.{Line, Day, readRecord}
 use Rattle.meaning.specs.Count.{Count}
 use Rattle.meaning.specs.Pattern.{Pattern, readPattern, noneGiven}
+use Rattle.meaning.specs.Windows.{Options}
 use Rattle.meaning.specs.Chain.{Accepted, First}
 use Rattle.pattern.specs.Promise.{Counts}
 use Rattle.meaning.specs.Request.{Asked}
@@ -25,19 +27,24 @@ numberOf (refusal number second) = number * 4294967296 + second
 
 -- ---- a line read back into a lent list of words
 
--- from, kind, class, sail number, to
-abbrev pub fieldsOf : Line → List ℕ
-fieldsOf l = l .from ∷ l .kind ∷ l .boat .class ∷ l .boat .sail ∷ l .to ∷ []
+-- the time, where there is one
+abbrev pub timeFields : Option ℕ → List ℕ
+timeFields none = []
+timeFields (some time) = time ∷ []
 
--- 5 where the list has room for the five fields, else 0
+-- from, kind, class, sail number, to, and the time of a timed line
+abbrev pub fieldsOf : Line → List ℕ
+fieldsOf l = l .from ∷ l .kind ∷ l .boat .class ∷ l .boat .sail ∷ l .to ∷ timeFields (l .time)
+
+-- how many they are, five or six, where the list has room for them, else 0
 abbrev pub readNumber : Outcome Line → ℕ → ℕ
 readNumber (refused number) room = number * 4294967296
-readNumber (passed l) room = cond (leb 5 room) 5 0
+readNumber (passed l) room = let n = length (fieldsOf l) in cond (leb n room) n 0
 
 -- the fields at the front, or nothing written
 abbrev pub readAfter : Outcome Line → List ℕ → List ℕ
 readAfter (refused number) fields = fields
-readAfter (passed l) fields = cond (leb 5 (length fields)) (fieldsOf l ++ drop 5 fields) fields
+readAfter (passed l) fields = let n = length (fieldsOf l) in cond (leb n (length fields)) (fieldsOf l ++ drop n fields) fields
 
 -- ---- the count of boats in a lent list of words
 
@@ -78,15 +85,15 @@ checkNumber (value false) = 0
 checkNumber (refusal number second) = number * 4294967296 + second
 
 -- 1: the chain is accepted; 0: it is not
-abbrev pub YesNo : List Line → Pattern → ℕ → ℕ → List ℕ → ℕ → Type 0
-YesNo lines p a b c r =
-    (r ≡ 1 → Accepted lines p a b c)
-    × (r ≡ 0 → Accepted lines p a b c → ⊥)
+abbrev pub YesNo : Asked → ℕ → ℕ → List ℕ → ℕ → Type 0
+YesNo q a b c r =
+    (r ≡ 1 → Accepted q a b c)
+    × (r ≡ 0 → Accepted q a b c → ⊥)
 
 -- for every record and pattern that the bytes read as
-abbrev pub Membership : List ℕ → List ℕ → ℕ → ℕ → List ℕ → ℕ → Type 0
-Membership rec pat a b c r =
-    (day : Day) (p : Pattern) → readRecord rec ≡ passed day → readPattern noneGiven pat ≡ passed p → YesNo (day .lines) p a b c r
+abbrev pub Membership : List ℕ → List ℕ → ℕ → ℕ → List ℕ → Options → ℕ → Type 0
+Membership rec pat a b c options r =
+    (day : Day) (p : Pattern) → readRecord rec ≡ passed day → readPattern noneGiven pat ≡ passed p → YesNo (record { day = day; pattern = p; options = options }) a b c r
 
 -- ---- a chain's length, or none
 
@@ -97,16 +104,17 @@ findNumber (Find.refusal number second) = number * 4294967296 + second
 
 -- 4,294,967,295: no chain of any length is accepted. Less: so many entries of the output are the accepted chain that comes before every
 -- other. Refused with 19: that chain has the length told, and does not fit
-abbrev pub LengthOrNone : List Line → Pattern → ℕ → ℕ → ℕ → ℕ → List ℕ → Type 0
-LengthOrNone lines p a b room r out =
-    (r ≡ 4294967295 → (c : List ℕ) → Accepted lines p a b c → ⊥)
-    × (r < 4294967295 → (r ≤ room) × (length (take r out) ≡ r) × First lines p a b (take r out))
-    × (r / 4294967296 ≡ 19 → (c : List ℕ) × First lines p a b c × (length c ≡ r % 4294967296) × (room < length c))
+abbrev pub LengthOrNone : Asked → ℕ → ℕ → ℕ → ℕ → List ℕ → Type 0
+LengthOrNone q a b room r out =
+    (r ≡ 4294967295 → (c : List ℕ) → Accepted q a b c → ⊥)
+    × (r < 4294967295 → (r ≤ room) × (length (take r out) ≡ r) × First q a b (take r out))
+    × (r / 4294967296 ≡ 19 → (c : List ℕ) × First q a b c × (length c ≡ r % 4294967296) × (room < length c))
 
 -- for every record and pattern that the bytes read as
-unfoldable pub FirstShortest : List ℕ → List ℕ → ℕ → ℕ → ℕ → ℕ → List ℕ → Type 0
-FirstShortest rec pat a b room r out =
-    (day : Day) (p : Pattern) → readRecord rec ≡ passed day → readPattern noneGiven pat ≡ passed p → LengthOrNone (day .lines) p a b room r out
+unfoldable pub FirstShortest : List ℕ → List ℕ → ℕ → ℕ → Options → ℕ → ℕ → List ℕ → Type 0
+FirstShortest rec pat a b options room r out =
+    (day : Day) (p : Pattern) → readRecord rec ≡ passed day → readPattern noneGiven pat ≡ passed p
+    → LengthOrNone (record { day = day; pattern = p; options = options }) a b room r out
 
 -- ---- all starts: how many lengths there are
 
@@ -121,10 +129,10 @@ startsNumber (refusal number second) = number * 4294967296 + counted second
 
 -- no refusal: as many lengths as places are listed, and each is that of the accepted chain that comes before every other, or says that none is
 -- accepted; for every record and pattern that the bytes read as
-unfoldable pub EachShortest : List ℕ → List ℕ → List ℕ → ℕ → ℕ → List ℕ → Type 0
-EachShortest rec pat starts to r after =
+unfoldable pub EachShortest : List ℕ → List ℕ → List ℕ → ℕ → Options → ℕ → List ℕ → Type 0
+EachShortest rec pat starts to options r after =
     (day : Day) (p : Pattern) → readRecord rec ≡ passed day → readPattern noneGiven pat ≡ passed p → r < 4294967296
-    → (r ≡ counted (length starts)) × ((i : ℕ) → i < length starts → LengthSays (day .lines) p (getD starts i 0) to (getD after i 0))
+    → (r ≡ counted (length starts)) × ((i : ℕ) → i < length starts → LengthSays (record { day = day; pattern = p; options = options }) (getD starts i 0) to (getD after i 0))
 
 -- ---- a search under way: the number is that of what `searching` says
 
@@ -138,7 +146,7 @@ pub record FinishingNumber (w out : List ℕ) (r : ℕ) (v out′ : List ℕ) : 
   pub number : r ≡ findNumber reply
   pub finishing : Finishing w out reply v out′
   -- where the area is as a begin and its moves left it
-  pub first-shortest : (rec pat : List ℕ) (from to : ℕ) (q : Asked) (k : ℕ) → Left rec pat from to q k w → FirstShortest rec pat from to (length out) r out′
+  pub first-shortest : (rec pat : List ℕ) (from to : ℕ) (options : Options) (q : Asked) (k : ℕ) → Left rec pat from to options q k w → FirstShortest rec pat from to options (length out) r out′
 
 -- ---- the version
 

@@ -4,20 +4,23 @@ ghost use mathlib.Core.Path.{_≡_};
 ghost use mathlib.Core.List.{_∷_, _++_};
 ghost use Prim.Native.Nat.{_+_, _*_, _<_, _≤_};
 ghost use lib.ListN.{length, drop, set};
+ghost use mathlib.Core.Option.{none, some};
 ghost use Rattle.meaning.specs.Count.{countOf};
 ghost use Rattle.meaning.specs.Outcome.{told};
 ghost use Rattle.meaning.specs.Writing.{beginOf, beginAfter, addOf, addAfter, readOf};
 ghost use Rattle.meaning.specs.Pattern.{readPattern, noneGiven};
+ghost use Rattle.meaning.specs.Windows.{plain};
 ghost use Rattle.meaning.specs.Request.{wordsOf, askRequest, askStarts, workAfter, askSearch, searchWordsOf};
-ghost use Rattle.checker.specs.Promise.{checkOf};
+ghost use Rattle.checker.specs.Promise.{checkReply, checkOf};
 ghost use Rattle.finder.specs.Promise.{findReply, findOf, said, outAfter};
 ghost use Rattle.pattern.specs.Promise.{countsOf};
-ghost use Rattle.record.specs.Promise.{lineShown};
-ghost use Rattle.searching.specs.Promise.{begunTold, begunAfter};
+ghost use Rattle.record.specs.Promise.{lineShown, timedShown};
+ghost use Rattle.searching.specs.Promise.{beginReply, begunTold, begunAfter};
 ghost use Rattle.starts.specs.Promise as All;
+ghost use Rattle.windows.specs.Promise.{optionsOf};
 ghost use Rattle.writing.specs.Promise.{writeReply};
 ghost use Rattle.exports.specs.Promise.{numberOf, fieldsOf, readNumber, readAfter, countNumber, countAfter, patternNumber, patternAfter, checkNumber, Membership, findNumber, FirstShortest, counted, startsNumber, EachShortest, MovingNumber, FinishingNumber, versionNumber};
-ghost use Rattle.exports.specs.Fits.{Fits32, SaidFits};
+ghost use Rattle.exports.specs.Fits.{Fits32, SecondFits, SaidFits};
 use boats::CountReply;
 use checker::CheckReply;
 use finder::FindReply;
@@ -80,6 +83,19 @@ pub extern "C" fn chains_begin(buf: &mut [u8], places: u16) -> u64
     write_number(writing::begin_record(buf, places))
 }
 
+// The line of these fields.
+fn line_with(start: u16, kind: u8, class: u8, sail: u32, finish: u16) -> Line
+    ensures { λ r. ⌜ (r .from ≡ start) × (r .kind ≡ kind) × (r .class ≡ class) × (r .sail ≡ sail) × (r .to ≡ finish) ⌝ }
+{
+    Line {
+        from: start,
+        kind,
+        class,
+        sail,
+        to: finish,
+    }
+}
+
 // Adds a line; value: the record's new length.
 #[no_mangle]
 pub extern "C" fn chains_add(
@@ -91,17 +107,30 @@ pub extern "C" fn chains_add(
     sail: u32,
     to: u16,
 ) -> u64
-    ensures reply { λ r. ⌜ r ≡ numberOf (told (addOf (now (buf .entry)) len (record { from = from; kind = kind; boat = record { class = class; sail = sail }; to = to }))) ⌝ }
-    ensures buffer { λ _. ⌜ now (buf .exit) ≡ addAfter (now (buf .entry)) len (record { from = from; kind = kind; boat = record { class = class; sail = sail }; to = to }) ⌝ }
+    ensures reply { λ r. ⌜ r ≡ numberOf (told (addOf (now (buf .entry)) len (record { from = from; kind = kind; boat = record { class = class; sail = sail }; to = to; time = none }))) ⌝ }
+    ensures buffer { λ _. ⌜ now (buf .exit) ≡ addAfter (now (buf .entry)) len (record { from = from; kind = kind; boat = record { class = class; sail = sail }; to = to; time = none }) ⌝ }
 {
-    let line = Line {
-        from,
-        kind,
-        class,
-        sail,
-        to,
-    };
+    let line = line_with(from, kind, class, sail, to);
     write_number(writing::add_line(buf, len, line))
+}
+
+// Adds a line with its time; value: the record's new length.
+#[no_mangle]
+pub extern "C" fn chains_add_timed(
+    buf: &mut [u8],
+    len: usize,
+    from: u16,
+    kind: u8,
+    class: u8,
+    sail: u32,
+    to: u16,
+    time: u32,
+) -> u64
+    ensures reply { λ r. ⌜ r ≡ numberOf (told (addOf (now (buf .entry)) len (record { from = from; kind = kind; boat = record { class = class; sail = sail }; to = to; time = some time }))) ⌝ }
+    ensures buffer { λ _. ⌜ now (buf .exit) ≡ addAfter (now (buf .entry)) len (record { from = from; kind = kind; boat = record { class = class; sail = sail }; to = to; time = some time }) ⌝ }
+{
+    let line = line_with(from, kind, class, sail, to);
+    write_number(writing::add_timed(buf, len, line, time))
 }
 
 // Puts the five fields of a line at the front of a list that has room for them.
@@ -123,7 +152,25 @@ fn put_fields(fields: &mut [u32], l: Line)
     }
 }
 
-// Reads a line back into the first five words of a list: from, kind, class, sail number, to; value: 5, or 0 where the list is shorter.
+// Puts the time of a line after its five fields.
+fn put_time(fields: &mut [u32], time: u32)
+    requires { ⌜ 6 ≤ length (now fields) ⌝ }
+    ensures { λ _. ⌜ now (fields .exit) ≡ set (now (fields .entry)) 5 time ⌝ }
+{
+    fields[5] = time;
+}
+
+// Puts the six fields of a timed line at the front of a list that has room for them.
+fn put_timed(fields: &mut [u32], l: Line, time: u32)
+    requires { ⌜ 6 ≤ length (now fields) ⌝ }
+    ensures { λ _. ⌜ now (fields .exit) ≡ fieldsOf (timedShown l time) ++ drop 6 (now (fields .entry)) ⌝ }
+{
+    put_fields(fields, l);
+    put_time(fields, time);
+}
+
+// Reads a line back into the first words of a list: from, kind, class, sail number, to, and of a timed line its time; value: 5, of a timed line
+// 6, or 0 where the list is shorter.
 #[no_mangle]
 pub extern "C" fn chains_read(rec: &[u8], line: u16, fields: &mut [u32]) -> u64
     ensures reply { λ r. ⌜ r ≡ readNumber (readOf (now (rec .entry)) line) (length (now (fields .entry))) ⌝ }
@@ -137,6 +184,13 @@ pub extern "C" fn chains_read(rec: &[u8], line: u16, fields: &mut [u32]) -> u64
             }
             put_fields(fields, l);
             5
+        }
+        LineReply::Timed(l, time) => {
+            if fields.len() < 6 {
+                return 0;
+            }
+            put_timed(fields, l, time);
+            6
         }
     }
 }
@@ -211,6 +265,18 @@ pub extern "C" fn chains_words(rec: &[u8], pat: &[u8]) -> u64
     }
 }
 
+// What the checker says, as a number.
+fn check_number(r: CheckReply) -> u64
+    requires { ⌜ SecondFits (checkReply r) ⌝ }
+    ensures { λ n. ⌜ n ≡ checkNumber (checkReply r) ⌝ }
+{
+    match r {
+        CheckReply::Yes => 1,
+        CheckReply::No => 0,
+        CheckReply::Refused(q, second) => refusal(q, second),
+    }
+}
+
 // Checks a chain; value: 1 for yes, 0 for no.
 #[no_mangle]
 pub extern "C" fn chains_check(
@@ -221,15 +287,37 @@ pub extern "C" fn chains_check(
     chain: &[u16],
     work: &mut [u32],
 ) -> u64
-    ensures reply { λ r. ⌜ r ≡ checkNumber (told (checkOf (now (rec .entry)) (now (pat .entry)) from to (now (chain .entry)) (length (now (work .entry))))) ⌝ }
-    ensures workspace { λ _. ⌜ now (work .exit) ≡ workAfter (askRequest (now (rec .entry)) (now (pat .entry)) from to (length (now (work .entry)))) (now (work .entry)) ⌝ }
-    ensures membership { λ r. ⌜ Membership (now (rec .entry)) (now (pat .entry)) from to (now (chain .entry)) r ⌝ }
+    ensures reply { λ r. ⌜ r ≡ checkNumber (told (checkOf (now (rec .entry)) (now (pat .entry)) from to (now (chain .entry)) plain (length (now (work .entry))))) ⌝ }
+    ensures workspace { λ _. ⌜ now (work .exit) ≡ workAfter (askRequest (now (rec .entry)) (now (pat .entry)) from to plain (length (now (work .entry)))) (now (work .entry)) ⌝ }
+    ensures membership { λ r. ⌜ Membership (now (rec .entry)) (now (pat .entry)) from to (now (chain .entry)) plain r ⌝ }
 {
-    match checker::check_chain(rec, pat, from, to, chain, work) {
-        CheckReply::Yes => 1,
-        CheckReply::No => 0,
-        CheckReply::Refused(q, _) => refusal(q, 0),
-    }
+    check_number(checker::check_chain(rec, pat, from, to, chain, work))
+}
+
+// The same with options: a list of words, the opening and the closing second of the kinds 1 to 15 in turn.
+#[no_mangle]
+pub extern "C" fn chains_check_with(
+    rec: &[u8],
+    pat: &[u8],
+    from: u16,
+    to: u16,
+    chain: &[u16],
+    options: &[u32],
+    work: &mut [u32],
+) -> u64
+    ensures reply { λ r. ⌜ r ≡ checkNumber (told (checkOf (now (rec .entry)) (now (pat .entry)) from to (now (chain .entry)) (optionsOf (now (options .entry))) (length (now (work .entry))))) ⌝ }
+    ensures workspace { λ _. ⌜ now (work .exit) ≡ workAfter (askRequest (now (rec .entry)) (now (pat .entry)) from to (optionsOf (now (options .entry))) (length (now (work .entry)))) (now (work .entry)) ⌝ }
+    ensures membership { λ r. ⌜ Membership (now (rec .entry)) (now (pat .entry)) from to (now (chain .entry)) (optionsOf (now (options .entry))) r ⌝ }
+{
+    check_number(checker::check_chain_with(
+        rec,
+        pat,
+        from,
+        to,
+        chain,
+        windows::options_of(options),
+        work,
+    ))
 }
 
 // What the finder says, as a number.
@@ -254,12 +342,31 @@ pub extern "C" fn chains_find(
     work: &mut [u32],
     out: &mut [u16],
 ) -> u64
-    ensures reply { λ r. ⌜ r ≡ findNumber (said (findOf (now (rec .entry)) (now (pat .entry)) from to (length (now (work .entry))) (length (now (out .entry))))) ⌝ }
-    ensures workspace { λ _. ⌜ now (work .exit) ≡ workAfter (askRequest (now (rec .entry)) (now (pat .entry)) from to (length (now (work .entry)))) (now (work .entry)) ⌝ }
-    ensures output { λ _. ⌜ now (out .exit) ≡ outAfter (findOf (now (rec .entry)) (now (pat .entry)) from to (length (now (work .entry))) (length (now (out .entry)))) (now (out .entry)) ⌝ }
-    ensures first_shortest { λ r. ⌜ FirstShortest (now (rec .entry)) (now (pat .entry)) from to (length (now (out .entry))) r (now (out .exit)) ⌝ }
+    ensures reply { λ r. ⌜ r ≡ findNumber (said (findOf (now (rec .entry)) (now (pat .entry)) from to plain (length (now (work .entry))) (length (now (out .entry))))) ⌝ }
+    ensures workspace { λ _. ⌜ now (work .exit) ≡ workAfter (askRequest (now (rec .entry)) (now (pat .entry)) from to plain (length (now (work .entry)))) (now (work .entry)) ⌝ }
+    ensures output { λ _. ⌜ now (out .exit) ≡ outAfter (findOf (now (rec .entry)) (now (pat .entry)) from to plain (length (now (work .entry))) (length (now (out .entry)))) (now (out .entry)) ⌝ }
+    ensures first_shortest { λ r. ⌜ FirstShortest (now (rec .entry)) (now (pat .entry)) from to plain (length (now (out .entry))) r (now (out .exit)) ⌝ }
 {
     find_number(finder::find(rec, pat, from, to, work, out))
+}
+
+// The same with options.
+#[no_mangle]
+pub extern "C" fn chains_find_with(
+    rec: &[u8],
+    pat: &[u8],
+    from: u16,
+    to: u16,
+    options: &[u32],
+    work: &mut [u32],
+    out: &mut [u16],
+) -> u64
+    ensures reply { λ r. ⌜ r ≡ findNumber (said (findOf (now (rec .entry)) (now (pat .entry)) from to (optionsOf (now (options .entry))) (length (now (work .entry))) (length (now (out .entry))))) ⌝ }
+    ensures workspace { λ _. ⌜ now (work .exit) ≡ workAfter (askRequest (now (rec .entry)) (now (pat .entry)) from to (optionsOf (now (options .entry))) (length (now (work .entry)))) (now (work .entry)) ⌝ }
+    ensures output { λ _. ⌜ now (out .exit) ≡ outAfter (findOf (now (rec .entry)) (now (pat .entry)) from to (optionsOf (now (options .entry))) (length (now (work .entry))) (length (now (out .entry)))) (now (out .entry)) ⌝ }
+    ensures first_shortest { λ r. ⌜ FirstShortest (now (rec .entry)) (now (pat .entry)) from to (optionsOf (now (options .entry))) (length (now (out .entry))) r (now (out .exit)) ⌝ }
+{
+    find_number(finder::find_with(rec, pat, from, to, windows::options_of(options), work, out))
 }
 
 // ---- all starts in one go
@@ -292,12 +399,39 @@ pub extern "C" fn chains_starts(
     work: &mut [u32],
     lengths: &mut [u32],
 ) -> u64
-    ensures reply { λ r. ⌜ r ≡ startsNumber (All.told (All.startsOf (now (rec .entry)) (now (pat .entry)) (now (listed .entry)) to (length (now (work .entry))) (length (now (lengths .entry))))) ⌝ }
-    ensures workspace { λ _. ⌜ now (work .exit) ≡ workAfter (askStarts (now (rec .entry)) (now (pat .entry)) (now (listed .entry)) to (length (now (work .entry)))) (now (work .entry)) ⌝ }
-    ensures words { λ _. ⌜ now (lengths .exit) ≡ All.lengthsAfter (All.startsOf (now (rec .entry)) (now (pat .entry)) (now (listed .entry)) to (length (now (work .entry))) (length (now (lengths .entry)))) (now (lengths .entry)) ⌝ }
-    ensures shortest { λ r. ⌜ EachShortest (now (rec .entry)) (now (pat .entry)) (now (listed .entry)) to r (now (lengths .exit)) ⌝ }
+    ensures reply { λ r. ⌜ r ≡ startsNumber (All.told (All.startsOf (now (rec .entry)) (now (pat .entry)) (now (listed .entry)) to plain (length (now (work .entry))) (length (now (lengths .entry))))) ⌝ }
+    ensures workspace { λ _. ⌜ now (work .exit) ≡ workAfter (askStarts (now (rec .entry)) (now (pat .entry)) (now (listed .entry)) to plain (length (now (work .entry)))) (now (work .entry)) ⌝ }
+    ensures words { λ _. ⌜ now (lengths .exit) ≡ All.lengthsAfter (All.startsOf (now (rec .entry)) (now (pat .entry)) (now (listed .entry)) to plain (length (now (work .entry))) (length (now (lengths .entry)))) (now (lengths .entry)) ⌝ }
+    ensures shortest { λ r. ⌜ EachShortest (now (rec .entry)) (now (pat .entry)) (now (listed .entry)) to plain r (now (lengths .exit)) ⌝ }
 {
     starts_number(starts::all_starts(rec, pat, listed, to, work, lengths))
+}
+
+// The same with options.
+#[no_mangle]
+pub extern "C" fn chains_starts_with(
+    rec: &[u8],
+    pat: &[u8],
+    listed: &[u16],
+    to: u16,
+    options: &[u32],
+    work: &mut [u32],
+    lengths: &mut [u32],
+) -> u64
+    ensures reply { λ r. ⌜ r ≡ startsNumber (All.told (All.startsOf (now (rec .entry)) (now (pat .entry)) (now (listed .entry)) to (optionsOf (now (options .entry))) (length (now (work .entry))) (length (now (lengths .entry))))) ⌝ }
+    ensures workspace { λ _. ⌜ now (work .exit) ≡ workAfter (askStarts (now (rec .entry)) (now (pat .entry)) (now (listed .entry)) to (optionsOf (now (options .entry))) (length (now (work .entry)))) (now (work .entry)) ⌝ }
+    ensures words { λ _. ⌜ now (lengths .exit) ≡ All.lengthsAfter (All.startsOf (now (rec .entry)) (now (pat .entry)) (now (listed .entry)) to (optionsOf (now (options .entry))) (length (now (work .entry))) (length (now (lengths .entry)))) (now (lengths .entry)) ⌝ }
+    ensures shortest { λ r. ⌜ EachShortest (now (rec .entry)) (now (pat .entry)) (now (listed .entry)) to (optionsOf (now (options .entry))) r (now (lengths .exit)) ⌝ }
+{
+    starts_number(starts::all_starts_with(
+        rec,
+        pat,
+        listed,
+        to,
+        windows::options_of(options),
+        work,
+        lengths,
+    ))
 }
 
 // ---- a search under way
@@ -313,6 +447,17 @@ pub extern "C" fn chains_search_words(rec: &[u8], pat: &[u8]) -> u64
     }
 }
 
+// What begin says, as a number.
+fn begin_number(r: BeginReply) -> u64
+    requires { ⌜ SecondFits (beginReply r) ⌝ }
+    ensures { λ n. ⌜ n ≡ numberOf (beginReply r) ⌝ }
+{
+    match r {
+        BeginReply::Begun => 0,
+        BeginReply::Refused(q, second) => refusal(q, second),
+    }
+}
+
 // Begins a search, which the work area holds from then on; value: 0.
 #[no_mangle]
 pub extern "C" fn chains_search_begin(
@@ -322,13 +467,33 @@ pub extern "C" fn chains_search_begin(
     to: u16,
     work: &mut [u32],
 ) -> u64
-    ensures reply { λ r. ⌜ r ≡ numberOf (begunTold (askSearch (now (rec .entry)) (now (pat .entry)) from to (length (now (work .entry))))) ⌝ }
-    ensures workspace { λ _. ⌜ now (work .exit) ≡ begunAfter (askSearch (now (rec .entry)) (now (pat .entry)) from to (length (now (work .entry)))) (now (pat .entry)) from to (now (work .entry)) ⌝ }
+    ensures reply { λ r. ⌜ r ≡ numberOf (begunTold (askSearch (now (rec .entry)) (now (pat .entry)) from to plain (length (now (work .entry))))) ⌝ }
+    ensures workspace { λ _. ⌜ now (work .exit) ≡ begunAfter (askSearch (now (rec .entry)) (now (pat .entry)) from to plain (length (now (work .entry)))) (now (pat .entry)) from to (now (work .entry)) ⌝ }
 {
-    match searching::begin_search(rec, pat, from, to, work) {
-        BeginReply::Begun => 0,
-        BeginReply::Refused(q, _) => refusal(q, 0),
-    }
+    begin_number(searching::begin_search(rec, pat, from, to, work))
+}
+
+// The same with options.
+#[no_mangle]
+pub extern "C" fn chains_search_begin_with(
+    rec: &[u8],
+    pat: &[u8],
+    from: u16,
+    to: u16,
+    options: &[u32],
+    work: &mut [u32],
+) -> u64
+    ensures reply { λ r. ⌜ r ≡ numberOf (begunTold (askSearch (now (rec .entry)) (now (pat .entry)) from to (optionsOf (now (options .entry))) (length (now (work .entry))))) ⌝ }
+    ensures workspace { λ _. ⌜ now (work .exit) ≡ begunAfter (askSearch (now (rec .entry)) (now (pat .entry)) from to (optionsOf (now (options .entry))) (length (now (work .entry)))) (now (pat .entry)) from to (now (work .entry)) ⌝ }
+{
+    begin_number(searching::begin_search_with(
+        rec,
+        pat,
+        from,
+        to,
+        windows::options_of(options),
+        work,
+    ))
 }
 
 // Moves the search that the work area holds on by an amount of states; value: how many were taken up.

@@ -6,11 +6,13 @@ use Prim.Native.Nat.{ℕ}
 use native.Mathlib.Omega.{arith}
 use lib.ListN.{length}
 use Rattle.meaning.specs.Outcome.{refused, passed}
+use Rattle.meaning.specs.Windows.{Options}
 use Rattle.meaning.specs.Request.{Asked, askRequest}
 use Rattle.positions.specs.Program.{Compiled}
 use Rattle.positions.specs.Limits.{compiled-start}
 use Rattle.request.specs.declared.Plan.{Plan}
-use Rattle.search.specs.Answer.{answer}
+use Rattle.search.specs.Answer.{solution}
+use Rattle.search.specs.Asked.{answer}
 use Rattle.search.specs.Loaded.{settingIn}
 use Rattle.search.specs.Moves.{expand, fromState, expand-law, from-law}
 use Rattle.search.specs.ReadBack.{loaded-ended}
@@ -25,7 +27,7 @@ use Rattle.finder.specs.Searching.{Searched, SearchedIn}
 pub posed-searched : {q : Asked} {pat : List ℕ} {plan : Plan} {from to : ℕ} {w : List ℕ} (posed : Posed q pat plan from to w)
     → {program : List ℕ} {begin : ℕ} (compiled : Compiled (q .pattern) program begin) {word : ℕ} {out after : List ℕ}
     → SearchedIn (settingIn program plan (front plan w)) plan (firstStates plan begin from) to word out after
-    → Searched (answer (q .day .lines) (q .day .places) (q .pattern) from to) word out after
+    → Searched (solution (q .day .lines) (q .day .places) (q .pattern) from to) word out after
 posed-searched {q} {plan = plan} {from} {to} {w} posed {program} {begin} compiled {word} {out} {after} s =
     let S = settingIn program plan (front plan w) in
     let first = first-states program plan (length w) (posed .laid) (front plan w) begin from (λ k m. omega (arith, posed .planned .done-is, compiled-start compiled k m .0)) in
@@ -36,11 +38,11 @@ posed-searched {q} {plan = plan} {from} {to} {w} posed {program} {begin} compile
 
 -- ---- the definition, by the questions' outcome
 
-module _ (rec pat : List ℕ) (from to words room : ℕ) where
-  pub find-refused : (number : ℕ) → askRequest rec pat from to words ≡ refused number → findOf rec pat from to words room ≡ stopped number
+module _ (rec pat : List ℕ) (from to : ℕ) (options : Options) (words room : ℕ) where
+  pub find-refused : (number : ℕ) → askRequest rec pat from to options words ≡ refused number → findOf rec pat from to options words room ≡ stopped number
   unfolding findOf
   find-refused number e = simp e
 
-  pub find-searched : (q : Asked) → askRequest rec pat from to words ≡ passed q → findOf rec pat from to words room ≡ settled room (answer (q .day .lines) (q .day .places) (q .pattern) from to)
+  pub find-searched : (q : Asked) → askRequest rec pat from to options words ≡ passed q → findOf rec pat from to options words room ≡ settled room (answer q from to)
   unfolding findOf
   find-searched q e = simp e

@@ -9,11 +9,12 @@ use Prim.Native.Nat.{ℕ, _<_, _≤_}
 use lib.Dec.{leb}
 use lib.ListN.{length, take, drop}
 use Rattle.meaning.specs.Outcome.{Outcome, refused, passed}
-use Rattle.meaning.specs.Record.{Line, Day, readRecord}
+use Rattle.meaning.specs.Record.{Day, readRecord}
 use Rattle.meaning.specs.Pattern.{Pattern, readPattern, noneGiven}
+use Rattle.meaning.specs.Windows.{Options}
 use Rattle.meaning.specs.Chain.{Accepted, First}
 use Rattle.meaning.specs.Request.{Asked, askRequest}
-use Rattle.search.specs.Answer.{answer}
+use Rattle.search.specs.Asked.{answer}
 use Rattle.finder.specs.declared.FindReply.{FindReply}
 use Rattle.finder.specs.declared.FindReply.the-variants as Find
 
@@ -31,11 +32,11 @@ settled room (some c) = cond (leb (length c) room) (chain c) (too-long (length c
 
 abbrev pub searched : Outcome Asked → ℕ → ℕ → ℕ → Finding
 searched (refused number) from to room = stopped number
-searched (passed q) from to room = settled room (answer (q .day .lines) (q .day .places) (q .pattern) from to)
+searched (passed q) from to room = settled room (answer q from to)
 
--- the whole reply: record, pattern, places, work area of so many words, output of so many entries
-unfoldable pub findOf : List ℕ → List ℕ → ℕ → ℕ → ℕ → ℕ → Finding
-findOf rec pat from to words room = searched (askRequest rec pat from to words) from to room
+-- the whole reply: record, pattern, places, what goes with the question, work area of so many words, output of so many entries
+unfoldable pub findOf : List ℕ → List ℕ → ℕ → ℕ → Options → ℕ → ℕ → Finding
+findOf rec pat from to options words room = searched (askRequest rec pat from to options words) from to room
 
 -- ---- document 01's number and values of each reply
 
@@ -68,12 +69,13 @@ outAfter (too-long n) out = out
 
 -- none: no chain of any length is accepted. Found: the chain written is accepted and comes before every other accepted one.
 -- 19: so does a chain of the length given, which doesn't fit
-abbrev pub Answers : List Line → Pattern → ℕ → ℕ → ℕ → Said → List ℕ → Type 0
-Answers lines p a b room none-found out = (c : List ℕ) → Accepted lines p a b c → ⊥
-Answers lines p a b room (found n) out = (n ≤ room) × (length (take n out) ≡ n) × First lines p a b (take n out)
-Answers lines p a b room (refusal number n) out = number ≡ 19 → (c : List ℕ) × First lines p a b c × (length c ≡ n) × (room < n)
+abbrev pub Answers : Asked → ℕ → ℕ → ℕ → Said → List ℕ → Type 0
+Answers q a b room none-found out = (c : List ℕ) → Accepted q a b c → ⊥
+Answers q a b room (found n) out = (n ≤ room) × (length (take n out) ≡ n) × First q a b (take n out)
+Answers q a b room (refusal number n) out = number ≡ 19 → (c : List ℕ) × First q a b c × (length c ≡ n) × (room < n)
 
 -- for every record and pattern that the bytes read as
-abbrev pub Demand3 : List ℕ → List ℕ → ℕ → ℕ → ℕ → Said → List ℕ → Type 0
-Demand3 rec pat from to room reply out =
-    (day : Day) (p : Pattern) → readRecord rec ≡ passed day → readPattern noneGiven pat ≡ passed p → Answers (day .lines) p from to room reply out
+abbrev pub Demand3 : List ℕ → List ℕ → ℕ → ℕ → Options → ℕ → Said → List ℕ → Type 0
+Demand3 rec pat from to options room reply out =
+    (day : Day) (p : Pattern) → readRecord rec ≡ passed day → readPattern noneGiven pat ≡ passed p
+    → Answers (record { day = day; pattern = p; options = options }) from to room reply out

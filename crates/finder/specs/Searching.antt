@@ -10,7 +10,7 @@ use lib.ListN.{length}
 use borrow.Author.Tests.{le-leb, lt-leb}
 use Rattle.meaning.specs.Request.{Asked}
 use Rattle.request.specs.declared.Plan.{Plan}
-use Rattle.search.specs.Answer.{answer}
+use Rattle.search.specs.Answer.{solution}
 use Rattle.search.specs.Along.{goal}
 use Rattle.search.specs.Moves.{expand, fromState}
 use Rattle.graph.specs.Early.{Ended}
@@ -41,7 +41,7 @@ pub record SearchedIn (S : Setting) (plan : Plan) (firsts : List ℕ) (to word :
 
 -- for every request that the area is of
 abbrev pub RightFor : List ℕ → Plan → ℕ → ℕ → List ℕ → ℕ → List ℕ → List ℕ → Type 0
-RightFor pat plan from to w word out after = (q : Asked) → Posed q pat plan from to w → Searched (answer (q .day .lines) (q .day .places) (q .pattern) from to) word out after
+RightFor pat plan from to w word out after = (q : Asked) → Posed q pat plan from to w → Searched (solution (q .day .lines) (q .day .places) (q .pattern) from to) word out after
 
 -- ---- the reply by that number, for an output of so many entries
 

@@ -4,7 +4,9 @@
 ghost use mathlib.Core.Path.{_≡_};
 ghost use Prim.Native.Nat.{_<_};
 ghost use lib.ListN.{length};
+ghost use Rattle.meaning.specs.Windows.{plain};
 ghost use Rattle.meaning.specs.Request.{askRequest, workAfter};
+ghost use Rattle.windows.specs.Promise.{optionsShown};
 ghost use Rattle.search.specs.Loaded.{settingAt};
 ghost use Rattle.forward.specs.Firsts.{firstStates};
 ghost use Rattle.states.specs.Spots.{Fit};
@@ -14,6 +16,7 @@ ghost use Rattle.finder.specs.Promise.{Demand3};
 ghost use Rattle.finder.specs.Searching.{toldBy, SearchedIn, RightFor};
 use request::Plan;
 use request::Request;
+use windows::Options;
 
 // What the finder says: the length of the chain that it wrote to the output, that there is none, or a refusal.
 pub enum FindReply {
@@ -81,9 +84,35 @@ pub fn answered(nearest: u32, room: usize) -> FindReply
     FindReply::Found(long)
 }
 
-// Questions 1 to 17, the search, and question 19: the first shortest chain that the pattern accepts from the first place to the
-// second. The area stays untouched where a question up to 17 is answered no, and is all zeros after every other reply; the output
-// has the chain in front where one is found, and is untouched otherwise.
+// All questions, the search, and question 19: the first shortest chain that the pattern accepts from the first place to the second, of lines
+// inside the windows. The area stays untouched where a question up to 17 is answered no, and is all zeros after every other reply; the
+// output has the chain in front where one is found, and is untouched otherwise.
+pub fn find_with(
+    day: &[u8],
+    pattern: &[u8],
+    from: u16,
+    to: u16,
+    options: Options,
+    work: &mut [u32],
+    out: &mut [u16],
+) -> FindReply
+    ensures reply { λ r. ⌜ findReply r ≡ said (findOf (now (day .entry)) (now (pattern .entry)) from to (optionsShown options) (length (now (work .entry))) (length (now (out .entry)))) ⌝ }
+    ensures workspace { λ _. ⌜ now (work .exit) ≡ workAfter (askRequest (now (day .entry)) (now (pattern .entry)) from to (optionsShown options) (length (now (work .entry)))) (now (work .entry)) ⌝ }
+    ensures output { λ _. ⌜ now (out .exit) ≡ outAfter (findOf (now (day .entry)) (now (pattern .entry)) from to (optionsShown options) (length (now (work .entry))) (length (now (out .entry)))) (now (out .entry)) ⌝ }
+    ensures first_shortest { λ r. ⌜ Demand3 (now (day .entry)) (now (pattern .entry)) from to (optionsShown options) (length (now (out .entry))) (findReply r) (now (out .exit)) ⌝ }
+{
+    let mut numbers: [u16; 4096] = [0; 4096];
+    let asked = request::ask_request(day, pattern, from, to, options, work.len(), &mut numbers);
+    let Request::Asked(plan) = asked else {
+        return FindReply::Refused(asked.number(), 0);
+    };
+    request::load(day, plan, &numbers, options, work);
+    let nearest = search_loaded(pattern, plan, from as usize, to as usize, work, out);
+    request::clear(work);
+    answered(nearest, out.len())
+}
+
+// The same for the whole day.
 pub fn find(
     day: &[u8],
     pattern: &[u8],
@@ -92,18 +121,10 @@ pub fn find(
     work: &mut [u32],
     out: &mut [u16],
 ) -> FindReply
-    ensures reply { λ r. ⌜ findReply r ≡ said (findOf (now (day .entry)) (now (pattern .entry)) from to (length (now (work .entry))) (length (now (out .entry)))) ⌝ }
-    ensures workspace { λ _. ⌜ now (work .exit) ≡ workAfter (askRequest (now (day .entry)) (now (pattern .entry)) from to (length (now (work .entry)))) (now (work .entry)) ⌝ }
-    ensures output { λ _. ⌜ now (out .exit) ≡ outAfter (findOf (now (day .entry)) (now (pattern .entry)) from to (length (now (work .entry))) (length (now (out .entry)))) (now (out .entry)) ⌝ }
-    ensures first_shortest { λ r. ⌜ Demand3 (now (day .entry)) (now (pattern .entry)) from to (length (now (out .entry))) (findReply r) (now (out .exit)) ⌝ }
+    ensures reply { λ r. ⌜ findReply r ≡ said (findOf (now (day .entry)) (now (pattern .entry)) from to plain (length (now (work .entry))) (length (now (out .entry)))) ⌝ }
+    ensures workspace { λ _. ⌜ now (work .exit) ≡ workAfter (askRequest (now (day .entry)) (now (pattern .entry)) from to plain (length (now (work .entry)))) (now (work .entry)) ⌝ }
+    ensures output { λ _. ⌜ now (out .exit) ≡ outAfter (findOf (now (day .entry)) (now (pattern .entry)) from to plain (length (now (work .entry))) (length (now (out .entry)))) (now (out .entry)) ⌝ }
+    ensures first_shortest { λ r. ⌜ Demand3 (now (day .entry)) (now (pattern .entry)) from to plain (length (now (out .entry))) (findReply r) (now (out .exit)) ⌝ }
 {
-    let mut numbers: [u16; 4096] = [0; 4096];
-    let asked = request::ask_request(day, pattern, from, to, work.len(), &mut numbers);
-    let Request::Asked(plan) = asked else {
-        return FindReply::Refused(asked.number(), 0);
-    };
-    request::load(day, plan, &numbers, work);
-    let nearest = search_loaded(pattern, plan, from as usize, to as usize, work, out);
-    request::clear(work);
-    answered(nearest, out.len())
+    find_with(day, pattern, from, to, windows::whole_day(), work, out)
 }

@@ -6,7 +6,7 @@ use lib.ListN.{length, getD, take, drop, length-map, List·getD-map}
 use lib.Seq.{take-at, take-length}
 use Rattle.area.specs.Area.{stretch}
 use Rattle.area.proofs.Stretches.{stretch-length, stretch-get}
-use Rattle.request.proofs.Fills.{filled}
+use Rattle.lists.specs.Filled.{filled}
 use Rattle.holding.specs.Holding.{bytesOf}
 
 pub bytes-long : (n : ℕ) (w : List ℕ) → 17 + n ≤ length w → length (bytesOf n w) ≡ n

@@ -3,10 +3,12 @@ pub mod Record
 pub mod Writing
 pub mod Pattern
 pub mod Language
-pub mod Chain
+pub mod Windows
 pub mod Request
+pub mod Chain
 pub mod Count
 pub mod Rows
 pub mod RowsOfChains
+pub mod RowsOfWindows
 pub mod RowsOfRequests
 pub mod RowsOfCounts

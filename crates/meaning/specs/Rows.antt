@@ -3,6 +3,7 @@
 use mathlib.Core.Path.{_≡_, refl}
 use mathlib.Core.Bool.{Bool, true, false}
 use mathlib.Core.List.{List, [], _∷_, _++_, map}
+use mathlib.Core.Option.{none, some}
 use Prim.Native.Nat.{ℕ, zero, suc}
 use lib.ListN.{take, replicate}
 use Rattle.meaning.specs.Outcome.{Outcome, refused, passed}
@@ -27,7 +28,11 @@ row bytes gives = record { bytes = bytes; gives = gives }
 -- ---- document 01's record R and others
 
 unfoldable pub line-of : ℕ → ℕ → ℕ → ℕ → ℕ → Line
-line-of from kind class sail to = record { from = from; kind = kind; boat = record { class = class; sail = sail }; to = to }
+line-of from kind class sail to = record { from = from; kind = kind; boat = record { class = class; sail = sail }; to = to; time = none }
+
+-- a line with a time
+unfoldable pub timed-of : ℕ → ℕ → ℕ → ℕ → ℕ → ℕ → Line
+timed-of from kind class sail to time = record { from = from; kind = kind; boat = record { class = class; sail = sail }; to = to; time = some time }
 
 unfoldable pub linesR : List Line
 linesR =
@@ -61,6 +66,10 @@ begin4 s = 0x01 ∷ 0x00 ∷ 0x04 ∷ s
 some-line : ℕ → ℕ → ℕ → List ℕ
 some-line from kind to = bytesOf (line-of from kind 1 150 to)
 
+-- the fourteen bytes of a timed one
+timed-line : ℕ → ℕ → ℕ → ℕ → List ℕ
+timed-line from kind to time = bytesOf (timed-of from kind 1 150 to time)
+
 records : List Row
 records =
     row (0x01 ∷ 0x00 ∷ 0x00 ∷ 0x00 ∷ []) 2
@@ -76,8 +85,8 @@ records =
     ∷ row (0x01 ∷ 0x00 ∷ []) 2
     ∷ row (0x02 ∷ 0x00 ∷ 0x01 ∷ 0x00 ∷ []) 2
     -- too long, whatever it says
-    ∷ row (replicate 40965 7) 1
-    ∷ row (replicate 40964 7) 2
+    ∷ row (replicate 57349 7) 1
+    ∷ row (replicate 57348 7) 2
     -- a line: all its operands, then both places, then the kind
     ∷ row (begin4 (some-line 3 1 0 ++ (0x00 ∷ []))) 0
     ∷ row (begin4 (take 9 (some-line 3 1 0))) 4
@@ -93,12 +102,43 @@ records =
     -- no end, and bytes after it
     ∷ row (begin4 (some-line 0 1 0)) 3
     ∷ row (begin4 (some-line 0 1 0 ++ (0x00 ∷ 0x00 ∷ []))) 7
-    ∷ row (begin4 (0x03 ∷ [])) 3
+    ∷ row (begin4 (0x04 ∷ [])) 3
+    -- a timed line: all fourteen bytes, then its places, its kind, its time
+    ∷ row (begin4 (0x03 ∷ [])) 4
+    ∷ row (begin4 (timed-line 0 1 3 86399 ++ (0x00 ∷ []))) 0
+    ∷ row (begin4 (timed-line 0 1 3 86400 ++ (0x00 ∷ []))) 28
+    ∷ row (begin4 (timed-line 0 1 3 16777216 ++ (0x00 ∷ []))) 28
+    ∷ row (begin4 (timed-line 0 0 3 86400 ++ (0x00 ∷ []))) 6
+    ∷ row (begin4 (timed-line 0 0 4 86400 ++ (0x00 ∷ []))) 5
+    ∷ row (begin4 (take 13 (timed-line 0 1 3 5))) 4
+    ∷ row (begin4 (take 10 (timed-line 9 0 9 86400))) 4
+    ∷ row (begin4 (timed-line 0 1 3 5)) 3
+    -- timed and untimed lines in turn
+    ∷ row (begin4 (timed-line 0 1 3 5 ++ (some-line 0 1 0 ++ (timed-line 0 1 3 5 ++ (0x00 ∷ []))))) 0
     ∷ []
 
 records-computed : map (λ r. number (readRecord (r .bytes))) records ≡ map (λ r. r .gives) records
-unfolding readRecord linesFrom entryAt records begin4 some-line line-of
+unfolding readRecord linesFrom entryAt records begin4 some-line timed-line line-of timed-of
 records-computed = refl
+
+-- the 4,097th line is not looked at; the end and a byte that is no line are met as ever
+full-rows : map (λ s. number (entryAt 4 4096 s)) ((0x02 ∷ []) ∷ (0x03 ∷ []) ∷ some-line 9 0 9 ∷ (0x04 ∷ []) ∷ [] ∷ (0x00 ∷ []) ∷ (0x00 ∷ 0x00 ∷ []) ∷ []) ≡ 22 ∷ 22 ∷ 22 ∷ 3 ∷ 3 ∷ 0 ∷ 7 ∷ []
+unfolding entryAt some-line line-of
+full-rows = refl
+
+-- the 4,096th is
+last-rows : map (λ s. number (entryAt 4 4095 s)) ((0x02 ∷ []) ∷ (0x03 ∷ []) ∷ some-line 9 0 9 ∷ some-line 0 1 0 ∷ timed-line 0 1 0 5 ∷ []) ≡ 4 ∷ 4 ∷ 5 ∷ 0 ∷ 0 ∷ []
+unfolding entryAt some-line timed-line line-of timed-of
+last-rows = refl
+
+-- the times are read, and an untimed line has none
+times-read : map (λ n. number (readOf (begin4 (timed-line 0 1 3 86399 ++ (some-line 0 1 0 ++ (timed-line 0 2 3 0 ++ (0x00 ∷ []))))) n)) (0 ∷ 1 ∷ 2 ∷ 3 ∷ []) ≡ 0 ∷ 0 ∷ 0 ∷ 18 ∷ []
+unfolding readOf readRecord linesFrom entryAt begin4 some-line timed-line line-of timed-of
+times-read = refl
+
+lines-read : readRecord (begin4 (timed-line 0 1 3 86399 ++ (some-line 0 1 0 ++ (timed-line 0 2 3 0 ++ (0x00 ∷ []))))) ≡ passed (record { places = 4; lines = timed-of 0 1 1 150 3 86399 ∷ line-of 0 1 1 150 0 ∷ timed-of 0 2 1 150 3 0 ∷ [] })
+unfolding readRecord linesFrom entryAt begin4 some-line timed-line line-of timed-of
+lines-read = refl
 
 -- ---- writing
 
@@ -126,6 +166,15 @@ row-added : addOf (empty1 ++ replicate 11 9) 4 new ≡ passed 14
 unfolding addOf readRecord linesFrom entryAt empty1 new line-of
 row-added = refl
 
+-- a timed line's fourteen bytes, the time's high byte first
+row-timed : addAfter (empty1 ++ replicate 15 9) 4 (timed-of 0 3 7 66051 0 66052) ≡ 0x01 ∷ 0x00 ∷ 0x01 ∷ 0x03 ∷ 0 ∷ 0 ∷ 3 ∷ 7 ∷ 1 ∷ 2 ∷ 3 ∷ 0 ∷ 0 ∷ 0 ∷ 1 ∷ 2 ∷ 4 ∷ 0x00 ∷ 9 ∷ []
+unfolding addOf readRecord linesFrom entryAt empty1 timed-of
+row-timed = refl
+
+row-timed-added : addOf (empty1 ++ replicate 15 9) 4 (timed-of 0 3 7 66051 0 66052) ≡ passed 18
+unfolding addOf readRecord linesFrom entryAt empty1 timed-of
+row-timed-added = refl
+
 record Addition : Type 0 where
   buffer : List ℕ
   len : ℕ
@@ -148,10 +197,17 @@ additions =
     ∷ addition (empty1 ++ replicate 10 9) 5 new 7
     ∷ addition (empty1 ++ replicate 10 9) 3 new 3
     ∷ addition [] 0 new 2
+    -- a timed line: 5, 6, 28, 21, 23, in this order
+    ∷ addition (empty1 ++ replicate 14 9) 4 (timed-of 0 3 7 16777215 0 86399) 0
+    ∷ addition (empty1 ++ replicate 13 9) 4 (timed-of 0 3 7 16777215 0 86399) 23
+    ∷ addition (empty1 ++ replicate 13 9) 4 (timed-of 0 3 7 16777216 0 86399) 21
+    ∷ addition (empty1 ++ replicate 13 9) 4 (timed-of 0 3 7 16777216 0 86400) 28
+    ∷ addition (empty1 ++ replicate 13 9) 4 (timed-of 0 0 7 16777216 0 86400) 6
+    ∷ addition (empty1 ++ replicate 13 9) 4 (timed-of 0 0 7 16777216 1 86400) 5
     ∷ []
 
 additions-computed : map (λ a. number (addOf (a .buffer) (a .len) (a .added))) additions ≡ map (λ a. a .expected) additions
-unfolding addOf readRecord linesFrom entryAt additions addition empty1 new line-of
+unfolding addOf readRecord linesFrom entryAt additions addition empty1 new line-of timed-of
 additions-computed = refl
 
 -- the whole record is asked about before the line's number
@@ -359,6 +415,6 @@ unfolding met boat
 number-0-met = refl
 
 -- unread numbers are one of the different boats
-boats-counted : boats (map (λ (b : Boat). record { from = 0; kind = 1; boat = b; to = 0 }) (boat 1 1 ∷ boat 0 0 ∷ boat 0 5 ∷ boat 0 0 ∷ [])) ≡ boat 1 1 ∷ boat 0 0 ∷ boat 0 5 ∷ []
+boats-counted : boats (map (λ (b : Boat). record { from = 0; kind = 1; boat = b; to = 0; time = none }) (boat 1 1 ∷ boat 0 0 ∷ boat 0 5 ∷ boat 0 0 ∷ [])) ≡ boat 1 1 ∷ boat 0 0 ∷ boat 0 5 ∷ []
 unfolding boat boatsAfter
 boats-counted = refl

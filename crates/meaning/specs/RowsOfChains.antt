@@ -8,9 +8,11 @@ use Prim.Native.Nat.{ℕ, zero, suc}
 use native.Mathlib.Omega.{arith}
 use lib.ListN.{length, length-append}
 use Rattle.meaning.specs.Record.{Line}
-use Rattle.meaning.specs.Pattern.{line, test, same, repeat, keep, counted}
+use Rattle.meaning.specs.Pattern.{Pattern, line, test, same, repeat, keep, counted}
 use Rattle.meaning.specs.Language.{Letter, Word, compared, meets, unbound, stop, more, Power, L}
-use Rattle.meaning.specs.Chain.{Exist, exist, Leads, word, Accepted, Before, First}
+use Rattle.meaning.specs.Windows.{plain}
+use Rattle.meaning.specs.Request.{Asked}
+use Rattle.meaning.specs.Chain.{Exist, exist, Leads, word, Matches, Accepted, Before, First}
 use Rattle.meaning.specs.Rows.{line-of, linesR, P, S}
 
 -- ---- which chains of record R lead where
@@ -61,7 +63,7 @@ word-R = refl
 
 -- ---- which are accepted
 
-accepted-R : Accepted linesR P 0 3 (1 ∷ 2 ∷ 5 ∷ [])
+accepted-R : Matches linesR P 0 3 (1 ∷ 2 ∷ 5 ∷ [])
 unfolding linesR line-of letter P
 accepted-R = (
   (omega arith, (omega arith, (omega arith, tt))),
@@ -82,7 +84,7 @@ accepted-R = (
 )
 
 -- line 0 is of boat 1-150, line 2 of 2-150: not the same boat
-other-class : Accepted linesR P 0 3 (0 ∷ 2 ∷ 5 ∷ []) → ⊥
+other-class : Matches linesR P 0 3 (0 ∷ 2 ∷ 5 ∷ []) → ⊥
 unfolding linesR line-of letter P
 other-class (exists, leads, (a, u, e, k, (v, w, f, (b, g, l, met), rest))) =
     let kept : letter 1 1 150 ≡ a = head-eq-of-cons-eq e in
@@ -94,7 +96,7 @@ linesT : List Line
 linesT = line-of 0 1 1 1 0 ∷ line-of 0 1 1 2 0 ∷ []
 
 -- by S: the inner keep has the slot in its own pattern only, and after it the outer boat is back
-accepted-T : Accepted linesT S 0 0 (0 ∷ 1 ∷ 0 ∷ 0 ∷ [])
+accepted-T : Matches linesT S 0 0 (0 ∷ 1 ∷ 0 ∷ 0 ∷ [])
 unfolding linesT line-of letter S
 accepted-T = (
   (omega arith, (omega arith, (omega arith, (omega arith, tt)))),
@@ -115,7 +117,7 @@ accepted-T = (
 )
 
 -- two turns of a repeat
-repeated-T : Accepted linesT (repeat (line 1)) 0 0 (1 ∷ 0 ∷ [])
+repeated-T : Matches linesT (repeat (line 1)) 0 0 (1 ∷ 0 ∷ [])
 unfolding linesT line-of letter
 repeated-T = (
   (omega arith, (omega arith, tt)),
@@ -124,7 +126,7 @@ repeated-T = (
 )
 
 -- one round of a line, then two: so many and no more
-counted-T : Accepted linesT (counted 1 2 (line 1)) 0 0 (1 ∷ []) × Accepted linesT (counted 1 2 (line 1)) 0 0 (1 ∷ 0 ∷ [])
+counted-T : Matches linesT (counted 1 2 (line 1)) 0 0 (1 ∷ []) × Matches linesT (counted 1 2 (line 1)) 0 0 (1 ∷ 0 ∷ [])
 unfolding linesT line-of letter
 counted-T = (
   ((omega arith, tt), (refl, refl), (1, omega arith, omega arith, (letter 1 1 2 ∷ [], [], refl, (letter 1 1 2, refl, refl), refl))),
@@ -140,18 +142,18 @@ lines-long : (n : ℕ) (w : Word) → Power (L (line 1) unbound) n w → length 
 lines-long zero w e = ap length e
 lines-long (suc n) w (u, v, e, (a, f, k), x) = omega (arith, ap length e, length-append u v, ap length f, lines-long n v x)
 
-not-none-T : Accepted linesT (counted 1 2 (line 1)) 0 0 [] → ⊥
+not-none-T : Matches linesT (counted 1 2 (line 1)) 0 0 [] → ⊥
 not-none-T (exists, leads, (n, low, high, x)) = omega (arith, low, lines-long n [] x)
 
-not-three-T : Accepted linesT (counted 1 2 (line 1)) 0 0 (1 ∷ 0 ∷ 1 ∷ []) → ⊥
+not-three-T : Matches linesT (counted 1 2 (line 1)) 0 0 (1 ∷ 0 ∷ 1 ∷ []) → ⊥
 not-three-T (exists, leads, (n, low, high, x)) = omega (arith, high, lines-long n (word linesT (1 ∷ 0 ∷ 1 ∷ [])) x)
 
 -- a round may be empty
-empty-rounds-T : Accepted linesT (counted 1 3 (repeat (line 1))) 0 0 []
+empty-rounds-T : Matches linesT (counted 1 3 (repeat (line 1))) 0 0 []
 empty-rounds-T = (tt, refl, (1, omega arith, omega arith, ([], [], refl, stop refl, refl)))
 
 -- each round keeps a boat of its own
-own-boats-T : Accepted linesT (counted 2 2 (keep 1 0 (test same 1 0))) 0 0 (0 ∷ 0 ∷ 1 ∷ 1 ∷ [])
+own-boats-T : Matches linesT (counted 2 2 (keep 1 0 (test same 1 0))) 0 0 (0 ∷ 0 ∷ 1 ∷ 1 ∷ [])
 unfolding linesT line-of letter
 own-boats-T = (
   (omega arith, (omega arith, (omega arith, (omega arith, tt)))),
@@ -171,7 +173,7 @@ own-boats-T = (
 )
 
 -- an unread number is kept, and a line with one is taken where nothing is compared
-unread-kept : Accepted (line-of 0 1 0 0 1 ∷ line-of 1 2 0 0 1 ∷ []) (keep 1 0 (line 2)) 0 1 (0 ∷ 1 ∷ [])
+unread-kept : Matches (line-of 0 1 0 0 1 ∷ line-of 1 2 0 0 1 ∷ []) (keep 1 0 (line 2)) 0 1 (0 ∷ 1 ∷ [])
 unfolding line-of letter
 unread-kept = (
   (omega arith, (omega arith, tt)),
@@ -204,18 +206,22 @@ not-itself (inr (long, (m ∷ u, i, j, v, v′, e, f, less))) = omega (arith, ap
 
 -- ---- the first
 
-line-0 : Accepted linesT (line 1) 0 0 (0 ∷ [])
-unfolding linesT line-of letter
-line-0 = ((omega arith, tt), (refl, refl), (letter 1 1 1, refl, refl))
+-- a request about these lines, for the whole day
+abbrev asking : List Line → Pattern → Asked
+asking lines p = record { day = record { places = 4; lines = lines }; pattern = p; options = plain }
 
-first-line : First linesT (line 1) 0 0 (0 ∷ [])
+line-0 : Accepted (asking linesT (line 1)) 0 0 (0 ∷ [])
+unfolding linesT line-of letter
+line-0 = (((omega arith, tt), (refl, refl), (letter 1 1 1, refl, refl)), (refl, tt))
+
+first-line : First (asking linesT (line 1)) 0 0 (0 ∷ [])
 first-line = (line-0, others)
   where
-    others : (c : List ℕ) → Accepted linesT (line 1) 0 0 c → ¬ (0 ∷ [] ≡ c) → Before (0 ∷ []) c
-    others [] (exists, leads, (a, e, k)) n = absurd (nil≢cons e)
+    others : (c : List ℕ) → Accepted (asking linesT (line 1)) 0 0 c → ¬ (0 ∷ [] ≡ c) → Before (0 ∷ []) c
+    others [] ((exists, leads, (a, e, k)), used) n = absurd (nil≢cons e)
     others (zero ∷ []) accepted n = absurd (n refl)
     others (suc i ∷ []) accepted n = inr (refl, ([], 0, suc i, [], [], refl, refl, omega arith))
     others (i ∷ j ∷ c) accepted n = inl (omega arith)
 
-not-the-second : First linesT (line 1) 0 0 (1 ∷ []) → ⊥
+not-the-second : First (asking linesT (line 1)) 0 0 (1 ∷ []) → ⊥
 not-the-second h = not-higher (h .1 (0 ∷ []) line-0 (λ e. omega (arith, head-eq-of-cons-eq e)))

@@ -61,6 +61,6 @@ unfolding line-of firstWith
 each = refl
 
 -- a record's bytes: passed, no line, refused with 7 and with 1
-from-bytes : map countOf (bytesR ∷ (0x01 ∷ 0x00 ∷ 0x04 ∷ 0x00 ∷ []) ∷ (bytesR ++ (0x00 ∷ [])) ∷ replicate 40965 0x00 ∷ []) ≡ passed (count 3 13) ∷ passed (count 0 0) ∷ refused 7 ∷ refused 1 ∷ []
+from-bytes : map countOf (bytesR ∷ (0x01 ∷ 0x00 ∷ 0x04 ∷ 0x00 ∷ []) ∷ (bytesR ++ (0x00 ∷ [])) ∷ replicate 57349 0x00 ∷ []) ≡ passed (count 3 13) ∷ passed (count 0 0) ∷ refused 7 ∷ refused 1 ∷ []
 unfolding countOf readRecord linesFrom entryAt bytesR linesR written-out line-of boatsAfter firstWith readsBefore
 from-bytes = refl

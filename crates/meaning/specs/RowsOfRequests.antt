@@ -1,5 +1,5 @@
 -- Computed examples of requests: nothing to believe. An edited definition of `Request` breaks one of them.
--- Search sizes and words, questions 15 to 17 in their order and at their limits, and the work area afterwards.
+-- Search sizes and words, questions 15, 27, 16 and 17 in their order and at their limits, and the work area afterwards.
 use mathlib.Core.Path.{_≡_, refl}
 use mathlib.Core.List.{List, [], _∷_, _++_, map}
 use Prim.Native.Nat.{ℕ, zero, suc}
@@ -7,8 +7,10 @@ use lib.ListN.{replicate}
 use Rattle.meaning.specs.Outcome.{refused, passed}
 use Rattle.meaning.specs.Record.{Line, boatsAfter, entryAt, linesFrom, readRecord}
 use Rattle.meaning.specs.Pattern.{nothing, counted, readPattern, readAt, commandAt, shapeOf}
+use Rattle.meaning.specs.Windows.{Options, firstAllowed, plain}
 use Rattle.meaning.specs.Request.{searchSize, need, Asked, askRequest, wordsOf, askSearch, searchWordsOf, allBelow, askStarts, workAfter}
 use Rattle.meaning.specs.Rows.{number, line-of, linesR, written-out, bytesR, bytesP, P, S}
+use Rattle.meaning.specs.RowsOfWindows.{all-kinds, one-kind}
 
 -- ---- the search size and the words
 
@@ -63,14 +65,65 @@ requests =
     ∷ request (day-of 64) fifteen 0 1024 0 15
     ∷ []
 
-requests-asked : map (λ r. number (askRequest (r .rec) (r .pat) (r .from) (r .to) (r .words))) requests ≡ map (λ r. r .gives) requests
-unfolding requests request fleet day-of fifteen bytesR linesR written-out line-of bytesP askRequest searchSize boatsAfter readRecord linesFrom entryAt readPattern readAt commandAt shapeOf
+requests-asked : map (λ r. number (askRequest (r .rec) (r .pat) (r .from) (r .to) plain (r .words))) requests ≡ map (λ r. r .gives) requests
+unfolding requests request fleet day-of fifteen bytesR linesR written-out line-of bytesP askRequest firstAllowed searchSize boatsAfter readRecord linesFrom entryAt readPattern readAt commandAt shapeOf
 requests-asked = refl
 
 -- how many words: 1 to 14, then 16
 words-told : wordsOf bytesR bytesP ∷ wordsOf (day-of 64) fifteen ∷ [] ≡ passed 8704 ∷ refused 16 ∷ []
 unfolding fleet day-of fifteen bytesR linesR written-out line-of bytesP wordsOf searchSize boatsAfter readRecord linesFrom entryAt readPattern readAt commandAt shapeOf
 words-told = refl
+
+-- ---- question 27
+
+-- a window of kind 15, which no line and no pattern here has, that closes as it opens
+shut : Options
+shut = record { windows = one-kind 14 5 5 }
+
+-- windows that no line of the records here is inside, as it has no time
+morning : Options
+morning = record { windows = all-kinds 0 43200 }
+
+-- after 15, before 16 and 17
+shut-requests : List Request
+shut-requests =
+    request (0x01 ∷ []) bytesP 0 3 8704 2
+    ∷ request bytesR [] 0 3 8704 8
+    ∷ request bytesR bytesP 4 3 8704 15
+    ∷ request bytesR bytesP 0 3 8704 27
+    ∷ request bytesR bytesP 0 3 0 27
+    ∷ request (day-of 64) fifteen 0 1023 0 27
+    ∷ []
+
+shut-asked : map (λ r. number (askRequest (r .rec) (r .pat) (r .from) (r .to) shut (r .words))) shut-requests ≡ map (λ r. r .gives) shut-requests
+unfolding shut shut-requests request fleet day-of fifteen bytesR linesR written-out line-of bytesP one-kind askRequest firstAllowed searchSize boatsAfter readRecord linesFrom entryAt readPattern readAt commandAt shapeOf
+shut-asked = refl
+
+-- of a search that is begun, and of all starts, too
+shut-begun : map (λ r. number (askSearch (r .rec) (r .pat) (r .from) (r .to) shut (r .words))) shut-requests ≡ map (λ r. r .gives) shut-requests
+unfolding shut shut-requests request fleet day-of fifteen bytesR linesR written-out line-of bytesP one-kind askSearch firstAllowed searchSize boatsAfter readRecord linesFrom entryAt readPattern readAt commandAt shapeOf
+shut-begun = refl
+
+shut-listed : map (λ r. number (askStarts (r .rec) (r .pat) (r .from ∷ []) (r .to) shut (r .words))) shut-requests ≡ map (λ r. r .gives) shut-requests
+unfolding shut shut-requests request fleet day-of fifteen bytesR linesR written-out line-of bytesP one-kind askStarts allBelow firstAllowed searchSize boatsAfter readRecord linesFrom entryAt readPattern readAt commandAt shapeOf
+shut-listed = refl
+
+-- the search size and the words go by the whole record, however many lines are outside
+morning-requests : List Request
+morning-requests =
+    request bytesR bytesP 0 3 8704 0
+    ∷ request bytesR bytesP 0 3 8703 17
+    ∷ request (day-of 64) fifteen 0 1023 0 16
+    ∷ []
+
+morning-asked : map (λ r. number (askRequest (r .rec) (r .pat) (r .from) (r .to) morning (r .words))) morning-requests ≡ map (λ r. r .gives) morning-requests
+unfolding morning morning-requests request fleet day-of fifteen bytesR linesR written-out line-of bytesP all-kinds askRequest firstAllowed searchSize boatsAfter readRecord linesFrom entryAt readPattern readAt commandAt shapeOf
+morning-asked = refl
+
+-- what passes is the whole record, the pattern and the windows that were given
+morning-passed : askRequest bytesR bytesP 0 3 morning 8704 ≡ passed (record { day = record { places = 4; lines = linesR }; pattern = P; options = morning })
+unfolding morning bytesR linesR written-out line-of bytesP P all-kinds askRequest firstAllowed searchSize boatsAfter readRecord linesFrom entryAt readPattern readAt commandAt shapeOf
+morning-passed = refl
 
 -- ---- a search that is begun
 
@@ -87,8 +140,8 @@ searches =
     ∷ request (day-of 64) fifteen 0 1023 0 16
     ∷ []
 
-searches-asked : map (λ r. number (askSearch (r .rec) (r .pat) (r .from) (r .to) (r .words))) searches ≡ map (λ r. r .gives) searches
-unfolding searches request fleet day-of fifteen bytesR linesR written-out line-of bytesP askSearch searchSize boatsAfter readRecord linesFrom entryAt readPattern readAt commandAt shapeOf
+searches-asked : map (λ r. number (askSearch (r .rec) (r .pat) (r .from) (r .to) plain (r .words))) searches ≡ map (λ r. r .gives) searches
+unfolding searches request fleet day-of fifteen bytesR linesR written-out line-of bytesP askSearch firstAllowed searchSize boatsAfter readRecord linesFrom entryAt readPattern readAt commandAt shapeOf
 searches-asked = refl
 
 search-words-told : searchWordsOf bytesR bytesP ∷ searchWordsOf (day-of 63) fifteen ∷ searchWordsOf (day-of 64) fifteen ∷ [] ≡ passed 8725 ∷ passed 4202685 ∷ refused 16 ∷ []
@@ -126,8 +179,8 @@ lists =
     ∷ all-starts (day-of 64) fifteen (0 ∷ 1024 ∷ []) 0 0 15
     ∷ []
 
-lists-asked : map (λ r. number (askStarts (r .rec) (r .pat) (r .starts) (r .to) (r .words))) lists ≡ map (λ r. r .gives) lists
-unfolding lists all-starts fleet day-of fifteen bytesR linesR written-out line-of bytesP askStarts allBelow searchSize boatsAfter readRecord linesFrom entryAt readPattern readAt commandAt shapeOf
+lists-asked : map (λ r. number (askStarts (r .rec) (r .pat) (r .starts) (r .to) plain (r .words))) lists ≡ map (λ r. r .gives) lists
+unfolding lists all-starts fleet day-of fifteen bytesR linesR written-out line-of bytesP askStarts firstAllowed allBelow searchSize boatsAfter readRecord linesFrom entryAt readPattern readAt commandAt shapeOf
 lists-asked = refl
 
 -- ---- the work area afterwards

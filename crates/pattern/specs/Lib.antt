@@ -3,6 +3,8 @@ pub mod Capped
 pub mod Reading
 pub mod Passed
 pub mod Bound
+pub mod Kinds
+pub mod Masked
 pub mod Short
 pub mod Membership
 pub mod Wordings

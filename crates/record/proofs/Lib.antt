@@ -1,3 +1,4 @@
 pub mod Tests
+pub mod Timed
 pub mod Loop
 pub mod Back

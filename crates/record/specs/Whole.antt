@@ -5,30 +5,30 @@ use mathlib.Core.List.{List, []}
 use Prim.Native.Nat.{ℕ, _+_, _*_, _<_, _≤_}
 use native.Mathlib.Omega.{arith}
 use lib.Dec.{leb, eqb}
-use lib.ListN.{length, drop, length-drop}
+use lib.ListN.{length, drop, take, length-drop}
 use lib.Seq.{drop-drop}
 use borrow.Author.Tests.{leb-true, le-leb}
 use Rattle.meaning.specs.Outcome.{Outcome, refused, passed}
-use Rattle.meaning.specs.Record.{Line, Day, byte, two, lineOf, countAllowed, placesWhole, linesFrom, readRecord}
+use Rattle.meaning.specs.Record.{Line, Day, byte, two, countAllowed, timeAllowed, placesWhole, linesFrom, readRecord}
 use Rattle.meaning.specs.Writing.{lineAt}
 use Rattle.record.specs.Reading.{readingTold}
 use Rattle.record.specs.declared.Reading.the-variants as Reading
 use Rattle.record.specs.Outcomes.{passed-inj, ask-passed, andThen-passed, and-true}
-use Rattle.record.specs.Walk.{lines-length, lines-at}
+use Rattle.record.specs.Walk.{LineStands, widths, lines-many, lines-length, lines-at}
 
 -- the parts of a record that passes: the places command, and the walk over the lines
 pub record Whole (s : List ℕ) (places : ℕ) (lines : List Line) : Type 0 where
-  pub short : length s ≤ 40964
+  pub short : length s ≤ 57348
   pub head : placesWhole s ≡ true
   pub count : places ≡ two s 1
-  pub walk : linesFrom (length s) (two s 1) (drop 3 s) ≡ passed lines
+  pub walk : linesFrom (length s) (two s 1) 0 (drop 3 s) ≡ passed lines
 
 pub whole-of : (s : List ℕ) (day : Day) → readRecord s ≡ passed day → Whole s (day .places) (day .lines)
 unfolding readRecord
 whole-of s day h =
     let (a, g) = ask-passed _ _ _ _ h in
     let (b, f) = ask-passed _ _ _ _ g in
-    let (ls, w, e) = andThen-passed (linesFrom (length s) (two s 1) (drop 3 s)) _ _ f in
+    let (ls, w, e) = andThen-passed (linesFrom (length s) (two s 1) 0 (drop 3 s)) _ _ f in
     let d = passed-inj e in
     record { short = leb-true _ _ a; head = b; count = sym (ap (λ (x : Day). x .places) d); walk = w ∙ ap (λ (x : Day). passed (x .lines)) d }
 
@@ -42,19 +42,34 @@ head-long s h = leb-true _ _ (and-true _ _ (and-true _ _ h .0) .0)
 -- ---- of a record that passes
 
 module _ (s : List ℕ) (day : Day) (h : readRecord s ≡ passed day) where
-  -- three bytes for the places, ten for each line, one for the end
-  pub record-length : length s ≡ 4 + 10 * length (day .lines)
+  -- three bytes for the places, those of the lines, one for the end
+  pub record-length : length s ≡ 4 + widths (day .lines)
   record-length =
       let w = whole-of s day h in
-      omega (arith, lines-length (length s) (two s 1) (drop 3 s) (day .lines) (w .walk), length-drop 3 s, head-long s (w .head))
+      omega (arith, lines-length (length s) (two s 1) 0 (drop 3 s) (day .lines) (w .walk), length-drop 3 s, head-long s (w .head))
 
   -- at most 4,096 lines
   pub lines-few : length (day .lines) ≤ 4096
-  lines-few = omega (arith, record-length, whole-of s day h .short)
+  lines-few = omega (arith, lines-many (length s) (two s 1) 0 (drop 3 s) (day .lines) (omega arith) (whole-of s day h .walk))
 
-  -- line i stands at byte 3 + 10 · i
-  pub line-stands : (i : ℕ) → i < length (day .lines) → lineAt (day .lines) i ≡ lineOf (drop (3 + 10 * i) s)
-  line-stands i k = lines-at (length s) (two s 1) (drop 3 s) (day .lines) (whole-of s day h .walk) i k ∙ ap lineOf (drop-drop (10 * i) 3 s)
+  -- line i stands after the places command and the lines before it, and passes its questions
+  pub line-stands : (i : ℕ) → i < length (day .lines) → LineStands (day .places) i (drop (3 + widths (take i (day .lines))) s) (lineAt (day .lines) i)
+  line-stands i k =
+      let w = whole-of s day h in
+      let at = widths (take i (day .lines)) in
+      let same : at + 3 ≡ 3 + at = omega arith in
+      let none-before : 0 + i ≡ i = omega arith in
+      subst (λ n. LineStands n i (drop (3 + at) s) (lineAt (day .lines) i)) (sym (w .count))
+      (subst (λ t. LineStands (two s 1) i t (lineAt (day .lines) i)) (drop-drop at 3 s)
+      (subst (λ n. LineStands (two s 1) n (drop at (drop 3 s)) (lineAt (day .lines) i)) none-before
+      (lines-at (length s) (two s 1) 0 (drop 3 s) (day .lines) (w .walk) i k)))
+
+  -- a line's kind is one of the fifteen, and its time one of the day's
+  pub line-passes : (i : ℕ) → i < length (day .lines) → (1 ≤ lineAt (day .lines) i .kind) × (lineAt (day .lines) i .kind ≤ 15) × (timeAllowed (lineAt (day .lines) i .time) ≡ true)
+  line-passes i less =
+      let l = line-stands i less in
+      let (a, b) = and-true _ _ (l .kind) in
+      (leb-true _ _ a, leb-true _ _ b, l .time)
 
 -- ---- the lines that a record says
 
@@ -73,12 +88,20 @@ has-line s i h = go (readRecord s) h
     go (refused number) less = absurd (omega (arith, less))
     go (passed day) less = (day, refl)
 
--- line i of them, and that its bytes are there
-pub line-read : (s : List ℕ) (i : ℕ) → i < length (linesOf s) → (13 + 10 * i ≤ length s) × (lineAt (linesOf s) i ≡ lineOf (drop (3 + 10 * i) s))
+-- line i of them stands there
+pub line-read : (s : List ℕ) (i : ℕ) → i < length (linesOf s)
+    → (places : ℕ) × LineStands places i (drop (3 + widths (take i (linesOf s))) s) (lineAt (linesOf s) i)
 line-read s i h =
     let (day, e) = has-line s i h in
     let less : i < length (day .lines) = subst (λ o. i < length (linesIn o)) e h in
-    (omega (arith, record-length s day e, less), ap (λ o. lineAt (linesIn o) i) e ∙ line-stands s day e i less)
+    (day .places, subst (λ o. LineStands (day .places) i (drop (3 + widths (take i (linesIn o))) s) (lineAt (linesIn o) i)) (sym e) (line-stands s day e i less))
+
+pub kind-read : (s : List ℕ) (i : ℕ) → i < length (linesOf s) → (1 ≤ lineAt (linesOf s) i .kind) × (lineAt (linesOf s) i .kind ≤ 15)
+kind-read s i h =
+    let (day, e) = has-line s i h in
+    let less : i < length (day .lines) = subst (λ o. i < length (linesIn o)) e h in
+    let (a, b, t) = line-passes s day e i less in
+    subst (λ o. (1 ≤ lineAt (linesIn o) i .kind) × (lineAt (linesIn o) i .kind ≤ 15)) (sym e) (a, b)
 
 pub lines-short : (s : List ℕ) → length (linesOf s) ≤ 4096
 lines-short s = go (readRecord s) refl

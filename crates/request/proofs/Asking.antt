@@ -10,6 +10,7 @@ use native.Mathlib.Omega.{arith}
 use Rattle.meaning.specs.Outcome.{Outcome, refused, passed, ask, andThen, told}
 use Rattle.meaning.specs.Record.{Line, Day, boats, readRecord}
 use Rattle.meaning.specs.Pattern.{Pattern, commands, unfolded, keeps, readPattern, noneGiven}
+use Rattle.meaning.specs.Windows.{Options, windowsAllowed, plain}
 use Rattle.meaning.specs.Request.{Asked, sizeOf, searchSize, need, askBoth, wordsOf, searchNeed, searchWordsOf}
 use Rattle.record.specs.Outcomes.{passed-inj, andThen-passed}
 use Rattle.record.specs.Whole.{linesIn, linesOf}
@@ -42,15 +43,15 @@ tree-passed (passed p) c u k h =
 
 -- ---- the record, then the pattern
 
-module _ (rec pat : List ℕ) where
-  pub both-first : (number : ℕ) → readRecord rec ≡ refused number → askBoth rec pat ≡ refused number
+module _ (rec pat : List ℕ) (options : Options) where
+  pub both-first : (number : ℕ) → readRecord rec ≡ refused number → askBoth rec pat options ≡ refused number
   both-first number e = simp e
 
   module _ (day : Day) (e : readRecord rec ≡ passed day) where
-    pub both-second : (number : ℕ) → readPattern noneGiven pat ≡ refused number → askBoth rec pat ≡ refused number
+    pub both-second : (number : ℕ) → readPattern noneGiven pat ≡ refused number → askBoth rec pat options ≡ refused number
     both-second number f = simp (e, f)
 
-    pub both-passed : (p : Pattern) → readPattern noneGiven pat ≡ passed p → askBoth rec pat ≡ passed (record { day = day; pattern = p })
+    pub both-passed : (p : Pattern) → readPattern noneGiven pat ≡ passed p → askBoth rec pat options ≡ passed (record { day = day; pattern = p; options = options })
     both-passed p f = simp (e, f)
 
 pub both-refused : (o : Outcome Asked) (number : ℕ) → Both.Refused number ≡ bothTold o → o ≡ refused number
@@ -58,25 +59,35 @@ both-refused (refused q) number h = ap refused cc
 both-refused (passed q) number h = absurd (let z : _≡_ {A = ℕ} 0 1 = cc in omega arith)
 
 -- what passed, by its counts
-pub record Counted (rec pat : List ℕ) (places lines c k : ℕ) : Type 0 where
+pub record Counted (rec pat : List ℕ) (options : Options) (places lines c k : ℕ) : Type 0 where
   pub asked : Asked
-  pub both : askBoth rec pat ≡ passed asked
+  pub both : askBoth rec pat options ≡ passed asked
+  pub options-are : asked .options ≡ options
   pub places-are : places ≡ asked .day .places
   pub lines-are : lines ≡ length (asked .day .lines)
   pub unfolded-is : c ≡ unfolded (asked .pattern)
   pub keeps-are : k ≡ keeps (asked .pattern)
   pub lines-of : linesOf rec ≡ asked .day .lines
 
-pub both-counted : (rec pat : List ℕ) (places lines c k : ℕ) → Both.Read places lines c k ≡ bothTold (askBoth rec pat) → Counted rec pat places lines c k
-both-counted rec pat places lines c k h = go (askBoth rec pat) refl h
+pub both-counted : (rec pat : List ℕ) (options : Options) (places lines c k : ℕ) → Both.Read places lines c k ≡ bothTold (askBoth rec pat options) → Counted rec pat options places lines c k
+both-counted rec pat options places lines c k h = go (askBoth rec pat options) refl h
   where
-    go : (o : Outcome Asked) → askBoth rec pat ≡ o → Both.Read places lines c k ≡ bothTold o → Counted rec pat places lines c k
+    go : (o : Outcome Asked) → askBoth rec pat options ≡ o → Both.Read places lines c k ≡ bothTold o → Counted rec pat options places lines c k
     go (refused q) e t = absurd (let z : _≡_ {A = ℕ} 0 1 = cc in omega arith)
     go (passed q) e t =
         let (day, r, f) = andThen-passed (readRecord rec) _ q e in
         let (p, s, g) = andThen-passed (readPattern noneGiven pat) _ q f in
         let same : day ≡ q .day = ap (λ (x : Asked). x .day) (passed-inj g) in
-        record { asked = q; both = e; places-are = cc; lines-are = cc; unfolded-is = cc; keeps-are = cc; lines-of = ap linesIn r ∙ ap (λ (x : Day). x .lines) same }
+        record {
+          asked = q;
+          both = e;
+          options-are = sym (ap (λ (x : Asked). x .options) (passed-inj g));
+          places-are = cc;
+          lines-are = cc;
+          unfolded-is = cc;
+          keeps-are = cc;
+          lines-of = ap linesIn r ∙ ap (λ (x : Day). x .lines) same;
+        }
 
 -- ---- question 16
 
@@ -131,36 +142,41 @@ module _ (lines : List Line) (places c k b : ℕ) (e : b ≡ length (boats lines
       let (small, size, low) = told-size (places * suc c * (b + 1) ^ k) n h in
       sym (measured-by true small ∙ cc (e, size, stepped))
 
--- ---- questions 1 to 16
+-- ---- all questions up to 16
 
 -- the size of what passed, by its counts
-pub counted-size : (rec pat : List ℕ) (places lines c k : ℕ) (h : Counted rec pat places lines c k) → places * suc c * suc (length (boats (linesOf rec))) ^ k ≡ sizeOf (h .asked)
+pub counted-size : (rec pat : List ℕ) (options : Options) (places lines c k : ℕ) (h : Counted rec pat options places lines c k) → places * suc c * suc (length (boats (linesOf rec))) ^ k ≡ sizeOf (h .asked)
 unfolding searchSize
-counted-size rec pat places lines c k h = cc (h .places-are, h .unfolded-is, h .keeps-are, h .lines-of)
+counted-size rec pat options places lines c k h = cc (h .places-are, h .unfolded-is, h .keeps-are, h .lines-of)
 
-module _ (rec pat : List ℕ) (from to : ℕ) where
-  pub sized-refused : (number : ℕ) → askBoth rec pat ≡ refused number → askSized rec pat from to ≡ refused number
+module _ (rec pat : List ℕ) (from to : ℕ) (options : Options) where
+  pub sized-refused : (number : ℕ) → askBoth rec pat options ≡ refused number → askSized rec pat from to options ≡ refused number
   unfolding askSized
   sized-refused number e = simp e
 
-  module _ (q : Asked) (e : askBoth rec pat ≡ passed q) where
-    pub sized-from : q .day .places ≤ from → askSized rec pat from to ≡ refused 15
+  module _ (q : Asked) (e : askBoth rec pat options ≡ passed q) where
+    pub sized-from : q .day .places ≤ from → askSized rec pat from to options ≡ refused 15
     unfolding askSized
     sized-from h = simp (e, le-ltb _ _ h)
 
     module _ (f : from < q .day .places) where
-      pub sized-to : q .day .places ≤ to → askSized rec pat from to ≡ refused 15
+      pub sized-to : q .day .places ≤ to → askSized rec pat from to options ≡ refused 15
       unfolding askSized
       sized-to h = simp (e, lt-ltb _ _ f, le-ltb _ _ h)
 
       module _ (t : to < q .day .places) where
-        pub sized-above : leb (sizeOf q) largest ≡ false → askSized rec pat from to ≡ refused 16
+        pub sized-windows : windowsAllowed (q .options .windows) ≡ false → askSized rec pat from to options ≡ refused 27
         unfolding askSized
-        sized-above h = simp (e, lt-ltb _ _ f, lt-ltb _ _ t, h)
+        sized-windows h = simp (e, lt-ltb _ _ f, lt-ltb _ _ t, h)
 
-        pub sized-all : leb (sizeOf q) largest ≡ true → askSized rec pat from to ≡ passed q
-        unfolding askSized
-        sized-all h = simp (e, lt-ltb _ _ f, lt-ltb _ _ t, h)
+        module _ (w : windowsAllowed (q .options .windows) ≡ true) where
+          pub sized-above : leb (sizeOf q) largest ≡ false → askSized rec pat from to options ≡ refused 16
+          unfolding askSized
+          sized-above h = simp (e, lt-ltb _ _ f, lt-ltb _ _ t, w, h)
+
+          pub sized-all : leb (sizeOf q) largest ≡ true → askSized rec pat from to options ≡ passed q
+          unfolding askSized
+          sized-all h = simp (e, lt-ltb _ _ f, lt-ltb _ _ t, w, h)
 
 -- ---- what they told
 
@@ -257,15 +273,15 @@ ask-last (passed q) t f = go (t q)
     go false = refl
 
 module _ (rec pat : List ℕ) where
-  pub weight-refused : (number : ℕ) → askBoth rec pat ≡ refused number → askWeight rec pat ≡ refused number
+  pub weight-refused : (number : ℕ) → askBoth rec pat plain ≡ refused number → askWeight rec pat ≡ refused number
   unfolding askWeight
   weight-refused number e = simp e
 
-  pub weight-above : (q : Asked) → askBoth rec pat ≡ passed q → leb (sizeOf q) largest ≡ false → askWeight rec pat ≡ refused 16
+  pub weight-above : (q : Asked) → askBoth rec pat plain ≡ passed q → leb (sizeOf q) largest ≡ false → askWeight rec pat ≡ refused 16
   unfolding askWeight
   weight-above q e h = simp (e, h)
 
-  pub weight-is : (q : Asked) → askBoth rec pat ≡ passed q → leb (sizeOf q) largest ≡ true → askWeight rec pat ≡ passed q
+  pub weight-is : (q : Asked) → askBoth rec pat plain ≡ passed q → leb (sizeOf q) largest ≡ true → askWeight rec pat ≡ passed q
   unfolding askWeight
   weight-is q e h = simp (e, h)
 
@@ -273,20 +289,20 @@ module _ (rec pat : List ℕ) where
   module _ (number : ℕ) (e : askWeight rec pat ≡ refused number) where
     pub words-refused : wordsOf rec pat ≡ refused number
     unfolding wordsOf askWeight
-    words-refused = ask-last (askBoth rec pat) (λ q. leb (sizeOf q) largest) (λ q. need (sizeOf q)) ∙ ap (λ o. andThen o (λ q. passed (need (sizeOf q)))) e
+    words-refused = ask-last (askBoth rec pat plain) (λ q. leb (sizeOf q) largest) (λ q. need (sizeOf q)) ∙ ap (λ o. andThen o (λ q. passed (need (sizeOf q)))) e
 
     pub search-words-refused : searchWordsOf rec pat ≡ refused number
     unfolding searchWordsOf askWeight
-    search-words-refused = ask-last (askBoth rec pat) (λ q. leb (sizeOf q) largest) searchNeed ∙ ap (λ o. andThen o (λ q. passed (searchNeed q))) e
+    search-words-refused = ask-last (askBoth rec pat plain) (λ q. leb (sizeOf q) largest) searchNeed ∙ ap (λ o. andThen o (λ q. passed (searchNeed q))) e
 
   module _ (q : Asked) (e : askWeight rec pat ≡ passed q) where
     pub words-are : wordsOf rec pat ≡ passed (need (sizeOf q))
     unfolding wordsOf askWeight
-    words-are = ask-last (askBoth rec pat) (λ q. leb (sizeOf q) largest) (λ q. need (sizeOf q)) ∙ ap (λ o. andThen o (λ q. passed (need (sizeOf q)))) e
+    words-are = ask-last (askBoth rec pat plain) (λ q. leb (sizeOf q) largest) (λ q. need (sizeOf q)) ∙ ap (λ o. andThen o (λ q. passed (need (sizeOf q)))) e
 
     pub search-words-are : searchWordsOf rec pat ≡ passed (searchNeed q)
     unfolding searchWordsOf askWeight
-    search-words-are = ask-last (askBoth rec pat) (λ q. leb (sizeOf q) largest) searchNeed ∙ ap (λ o. andThen o (λ q. passed (searchNeed q))) e
+    search-words-are = ask-last (askBoth rec pat plain) (λ q. leb (sizeOf q) largest) searchNeed ∙ ap (λ o. andThen o (λ q. passed (searchNeed q))) e
 
 pub weighing-refused : (o : Outcome Asked) (number : ℕ) → Weighing.Refused number ≡ weighingTold o → o ≡ refused number
 weighing-refused (refused q) number h = ap refused cc

@@ -1,6 +1,6 @@
 -- Three stretches written end to end into an area: what the area then holds. Assumes nothing.
 use mathlib.Core.Path.{_≡_, sym, ap, _∙_}
-use mathlib.Core.List.{List, _++_, map, append-assoc}
+use mathlib.Core.List.{List, _++_, append-assoc}
 use Prim.Native.Nat.{ℕ, zero, suc, _+_, _-_, _≤_}
 use native.Mathlib.Omega.{arith}
 use lib.ListN.{length, take, drop, take-append-drop, length-drop, length-append}
@@ -9,7 +9,7 @@ use borrow.Rule.Slice.PartMut.{putMid}
 use Rattle.meaning.specs.Record.{Line, boats}
 use Rattle.boats.specs.Codes.{codes, codes-length}
 use Rattle.boats.specs.Table.{boatTable}
-use Rattle.request.specs.Layout.{Laid, boatWords, lineWord, boatsLoaded, table-long, some-words, loadedOf}
+use Rattle.request.specs.Layout.{Laid, boatWords, boatsLoaded, table-long, some-words}
 use Rattle.request.specs.declared.Plan.{Plan}
 
 -- a stretch written after what is written already
@@ -56,10 +56,7 @@ module _ (lines : List Line) (plan : Plan) (w : List ℕ) (l : Laid plan (length
 
   -- ---- the boat numbers and the lines
 
-  module _ (many : plan .lines ≡ length lines) (kinds : plan .radix ≡ suc (length (boats lines))) where
-    abbrev words : List ℕ
-    words = map lineWord lines
-
+  module _ (many : plan .lines ≡ length lines) (kinds : plan .radix ≡ suc (length (boats lines))) (words : List ℕ) where
     front-long : length (take (plan .boats) w) ≡ plan .boats
     front-long = length-take-le (plan .boats) w (omega (arith, l .codes-at, l .words-at, l .base-at, l .room))
 
@@ -88,10 +85,11 @@ module _ (lines : List Line) (plan : Plan) (w : List ℕ) (l : Laid plan (length
     codes-long =
         length-take-le (plan .words - plan .codes) (drop (plan .codes) boated) (omega (arith, l .words-at, l .base-at, l .room, length-drop (plan .codes) boated, boated-long)) ∙ omega (arith, l .words-at)
 
-    pub tables-loaded : putMid (plan .words) (plan .base - plan .words) (putMid (plan .codes) (plan .words - plan .codes) boated (codes lines)) words ≡ take (plan .boats) w ++ (loadedOf (plan .keeps) lines ++ drop (plan .base) w)
+    -- the lines' words being these
+    pub tables-loaded : putMid (plan .words) (plan .base - plan .words) (putMid (plan .codes) (plan .words - plan .codes) boated (codes lines)) words ≡ take (plan .boats) w ++ ((table ++ (codes lines ++ words)) ++ drop (plan .base) w)
     tables-loaded =
         ap (λ t. putMid (plan .words) (plan .base - plan .words) (putMid (plan .codes) (plan .words - plan .codes) t (codes lines)) words) boated-is
         ∙ (ap (λ t. putMid (plan .words) (plan .base - plan .words) t words) (put-next lead w (codes lines) (plan .codes) (plan .words) lead-long (omega (arith, l .words-at)))
         ∙ (put-next lead-2 w words (plan .words) (plan .base) lead-2-long (omega (arith, l .base-at))
         ∙ (ap (λ t. t ++ drop (plan .base) w) (append-assoc lead (codes lines) words ∙ append-assoc (take (plan .boats) w) table (codes lines ++ words))
-        ∙ append-assoc (take (plan .boats) w) (loadedOf (plan .keeps) lines) (drop (plan .base) w))))
+        ∙ append-assoc (take (plan .boats) w) (table ++ (codes lines ++ words)) (drop (plan .base) w))))

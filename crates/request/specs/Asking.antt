@@ -9,7 +9,8 @@ use lib.ListN.{length, take}
 use Rattle.meaning.specs.Outcome.{Outcome, refused, passed, ask, andThen}
 use Rattle.meaning.specs.Record.{Line, boats}
 use Rattle.meaning.specs.Pattern.{unfolded, keeps}
-use Rattle.meaning.specs.Request.{Asked, sizeOf, askBoth}
+use Rattle.meaning.specs.Windows.{Options, plain}
+use Rattle.meaning.specs.Request.{Asked, sizeOf, askBoth, askWindows}
 use Rattle.boats.specs.Codes.{codes}
 use Rattle.pattern.specs.declared.PatternReply.{PatternReply}
 use Rattle.pattern.specs.declared.PatternReply.the-variants as Pattern
@@ -35,6 +36,10 @@ abbrev pub bothTold : Outcome Asked → Both
 bothTold (refused number) = Both.Refused number
 bothTold (passed q) = Both.Read (q .day .places) (length (q .day .lines)) (unfolded (q .pattern)) (keeps (q .pattern))
 
+-- of the bytes of a record and a pattern, whatever goes with the question
+abbrev pub BothTold : List ℕ → List ℕ → Both → Type 0
+BothTold rec pat r = (options : Options) → r ≡ bothTold (askBoth rec pat options)
+
 abbrev pub bothNumber : Both → ℕ
 bothNumber (Both.Read places lines c k) = 0
 bothNumber (Both.Refused number) = number
@@ -59,10 +64,15 @@ measuredTold lines places c k =
     let n = places * suc c * suc (length (boats lines)) ^ k in
     cond (leb n largest) (Measured.Size (length (boats lines)) n) Measured.Above
 
--- ---- questions 1 to 16
+-- ---- all questions up to 16
 
-unfoldable pub askSized : List ℕ → List ℕ → ℕ → ℕ → Outcome Asked
-askSized rec pat from to = andThen (askBoth rec pat) (λ q. ask (ltb from (q .day .places) && ltb to (q .day .places)) 15 (ask (leb (sizeOf q) largest) 16 (passed q)))
+unfoldable pub askSized : List ℕ → List ℕ → ℕ → ℕ → Options → Outcome Asked
+askSized rec pat from to options =
+    andThen (askBoth rec pat options) (λ q.
+    ask (ltb from (q .day .places) && ltb to (q .day .places)) 15
+    (askWindows q
+    (ask (leb (sizeOf q) largest) 16
+    (passed q))))
 
 -- the counts are those of what passed, and small
 pub record CountsOf (q : Asked) (c : Counts) : Type 0 where
@@ -94,10 +104,10 @@ abbrev pub countingNumber : Counting → ℕ
 countingNumber (Counting.Counted c) = 0
 countingNumber (Counting.Refused number) = number
 
--- ---- the same without 15
+-- ---- the same without 15 and 27
 
 unfoldable pub askWeight : List ℕ → List ℕ → Outcome Asked
-askWeight rec pat = andThen (askBoth rec pat) (λ q. ask (leb (sizeOf q) largest) 16 (passed q))
+askWeight rec pat = andThen (askBoth rec pat plain) (λ q. ask (leb (sizeOf q) largest) 16 (passed q))
 
 -- the lines and the size of what passed
 abbrev pub weighingTold : Outcome Asked → Weighing

@@ -1,6 +1,7 @@
 -- The layout of the work area: the limits, where the tables of a plan stand (`Laid`), the plan of a request (`Planned`), a line in one word,
 -- and what is loaded.
 use mathlib.Core.Path.{_≡_, refl, ap}
+use mathlib.Core.Bool.{cond}
 use mathlib.Core.List.{List, [], _++_, map}
 use Prim.Native.Nat.{ℕ, zero, suc, _+_, _*_, _^_, _≤_, _<_, _/_, _%_}
 use native.Mathlib.Omega.{arith}
@@ -8,6 +9,9 @@ use lib.Dec.{leb}
 use lib.ListN.{length, length-map}
 use Rattle.meaning.specs.Record.{Line, boats}
 use Rattle.meaning.specs.Pattern.{unfolded, keeps}
+use Rattle.meaning.specs.Windows.{Windows, inside}
+use Rattle.meaning.specs.Writing.{lineAt}
+use Rattle.meaning.specs.Chain.{struck, masked}
 use Rattle.meaning.specs.Request.{Asked}
 use Rattle.boats.specs.Boats.{asNumber}
 use Rattle.boats.specs.Codes.{codes}
@@ -101,7 +105,7 @@ pub record Planned (q : Asked) (plan : Plan) : Type 0 where
   pub keeps-are : plan .keeps ≡ keeps (q .pattern)
   pub radix-is : plan .radix ≡ suc (length (boats (q .day .lines)))
 
--- ---- a line in one word: from, to and kind, 10, 10 and 4 bits; kind 0 would say that the line is out
+-- ---- a line in one word: from, to and kind, 10, 10 and 4 bits; kind 0 says that the line may not be used
 
 abbrev pub lineWord : Line → ℕ
 lineWord l = l .from * 16384 + l .to * 16 + l .kind
@@ -114,6 +118,14 @@ toIn w = w / 16 % 1024
 
 abbrev pub kindIn : ℕ → ℕ
 kindIn w = w % 16
+
+-- a line outside its kind's window has kind 0
+abbrev pub wordMet : Windows → Line → ℕ
+wordMet w l = lineWord (cond (inside w l) l (struck l))
+
+-- the lines as the search meets them
+abbrev pub metBy : Windows → List Line → List Line
+metBy w lines = masked (λ i. inside w (lineAt lines i)) 0 lines
 
 -- what is put into a word is read off it
 module _ (l : Line) (from-low : l .from < 1024) (to-low : l .to < 1024) (kind-low : l .kind ≤ 15) where

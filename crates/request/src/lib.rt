@@ -1,23 +1,28 @@
-// Requests: questions 15 to 17, the search size, the layout of the work area, loading the record into it and clearing it.
+// Requests: questions 15 to 17 and 27, the search size, the layout of the work area, loading the record into it and clearing it.
 ghost use mathlib.Core.Path.{_≡_};
 ghost use mathlib.Core.List.{_++_, map};
 ghost use Prim.Native.Nat.{suc, _+_, _*_, _^_, _<_, _≤_};
 ghost use lib.ListN.{length, take, drop, replicate};
 ghost use Rattle.meaning.specs.Outcome.{told};
-ghost use Rattle.meaning.specs.Request.{need, askBoth, askRequest, wordsOf, askSearch, searchWordsOf};
+ghost use Rattle.meaning.specs.Request.{need, askRequest, wordsOf, askSearch, searchWordsOf};
 ghost use Rattle.meaning.specs.Record.{boats};
 ghost use Rattle.boats.specs.Codes.{codes};
 ghost use Rattle.boats.specs.Table.{boatTable};
 ghost use Rattle.record.specs.Promise.{lineShown};
+ghost use Rattle.record.specs.Reading.{writtenShown};
 ghost use Rattle.record.specs.Whole.{linesOf};
+ghost use Rattle.windows.specs.Promise.{optionsShown};
+ghost use Rattle.windows.specs.Asked.{windowsIn};
 ghost use Rattle.request.specs.Loading.{nextAfter, partAfter};
-ghost use Rattle.request.specs.Layout.{largest, tableWords, boatWords, Laid, Fitting, lineWord, fromIn, toIn, kindIn, boatsLoaded, loadedOf};
+ghost use Rattle.request.specs.Layout.{largest, tableWords, boatWords, Laid, Fitting, lineWord, wordMet, metBy, fromIn, toIn, kindIn, boatsLoaded, loadedOf};
 ghost use Rattle.request.specs.Promise.{wordsReply};
-ghost use Rattle.request.specs.Asking.{bothTold, bothNumber, patternNumber, Small, sizingTold, measuredTold, askSized, CountsTold, CountsNumbers, countingNumber, askWeight, weighingTold, weighingNumber, Light, Answers, AnswersSearch, Numbers, requestNumber};
+ghost use Rattle.request.specs.Asking.{BothTold, bothNumber, patternNumber, Small, sizingTold, measuredTold, askSized, CountsTold, CountsNumbers, countingNumber, askWeight, weighingTold, weighingNumber, Light, Answers, AnswersSearch, Numbers, requestNumber};
 use pattern::PatternReply;
 use record::FIRST_LINE;
 use record::Line;
 use record::Reading;
+use record::Written;
+use windows::Options;
 
 // The largest search size.
 const LARGEST: usize = 1048576;
@@ -70,7 +75,7 @@ pub struct Plan {
 
 // ---- the questions
 
-// A record and a pattern that pass their questions, 1 to 14, 24 and 25, by their counts.
+// A record and a pattern that pass their questions, by their counts.
 pub enum Both {
     Read {
         places: usize,
@@ -111,9 +116,9 @@ fn pattern_number(r: PatternReply) -> u8
     }
 }
 
-// Questions 1 to 14, 24 and 25.
+// The questions of the record, then those of the pattern; what goes with the question has no part in them.
 fn ask_both(day: &[u8], pattern: &[u8]) -> Both
-    ensures both { λ r. ⌜ r ≡ bothTold (askBoth (now (day .entry)) (now (pattern .entry))) ⌝ }
+    ensures both { λ r. ⌜ BothTold (now (day .entry)) (now (pattern .entry)) r ⌝ }
     ensures small { λ r. ⌜ Small r ⌝ }
 {
     let whole = record::read_record(day);
@@ -332,9 +337,16 @@ impl Counting {
     }
 }
 
-// Questions 1 to 16. Where they pass, each line's boat has its number.
-fn ask_counts(day: &[u8], pattern: &[u8], from: u16, to: u16, numbers: &mut [u16; 4096]) -> Counting
-    ensures counts { λ r. ⌜ CountsTold (askSized (now (day .entry)) (now (pattern .entry)) from to) r ⌝ }
+// All questions up to 16. Where they pass, each line's boat has its number.
+fn ask_counts(
+    day: &[u8],
+    pattern: &[u8],
+    from: u16,
+    to: u16,
+    options: Options,
+    numbers: &mut [u16; 4096],
+) -> Counting
+    ensures counts { λ r. ⌜ CountsTold (askSized (now (day .entry)) (now (pattern .entry)) from to (optionsShown options)) r ⌝ }
     ensures numbered { λ r. ⌜ CountsNumbers (linesOf (now (day .entry))) (now (numbers .exit)) r ⌝ }
 {
     let both = ask_both(day, pattern);
@@ -352,6 +364,9 @@ fn ask_counts(day: &[u8], pattern: &[u8], from: u16, to: u16, numbers: &mut [u16
     }
     if places <= to as usize {
         return Counting::Refused(15);
+    }
+    if !windows::allowed(options) {
+        return Counting::Refused(27);
     }
     let measured = measure(day, places, lines, unfolded, keeps, numbers);
     let Measured::Size { boats, size } = measured else {
@@ -385,19 +400,20 @@ fn plan_at(c: Counts, at: usize, area: usize) -> Plan
     )
 }
 
-// Questions 1 to 17, for a work area of so many words, which is not looked at. Where they pass, each line's boat has its number.
+// All questions up to 17, for a work area of so many words, which is not looked at. Where they pass, each line's boat has its number.
 pub fn ask_request(
     day: &[u8],
     pattern: &[u8],
     from: u16,
     to: u16,
+    options: Options,
     area: usize,
     numbers: &mut [u16; 4096],
 ) -> Request
-    ensures answer { λ r. ⌜ Answers (askRequest (now (day .entry)) (now (pattern .entry)) from to area) area r ⌝ }
+    ensures answer { λ r. ⌜ Answers (askRequest (now (day .entry)) (now (pattern .entry)) from to (optionsShown options) area) area r ⌝ }
     ensures numbered { λ r. ⌜ Numbers (linesOf (now (day .entry))) (now (numbers .exit)) r ⌝ }
 {
-    let counting = ask_counts(day, pattern, from, to, numbers);
+    let counting = ask_counts(day, pattern, from, to, options, numbers);
     let Counting::Counted(counts) = counting else {
         return Request::Refused(counting.number());
     };
@@ -415,13 +431,14 @@ pub fn ask_search(
     pattern: &[u8],
     from: u16,
     to: u16,
+    options: Options,
     area: usize,
     numbers: &mut [u16; 4096],
 ) -> Request
-    ensures answer { λ r. ⌜ AnswersSearch (askSearch (now (day .entry)) (now (pattern .entry)) from to area) area r ⌝ }
+    ensures answer { λ r. ⌜ AnswersSearch (askSearch (now (day .entry)) (now (pattern .entry)) from to (optionsShown options) area) area r ⌝ }
     ensures numbered { λ r. ⌜ Numbers (linesOf (now (day .entry))) (now (numbers .exit)) r ⌝ }
 {
-    let counting = ask_counts(day, pattern, from, to, numbers);
+    let counting = ask_counts(day, pattern, from, to, options, numbers);
     let Counting::Counted(counts) = counting else {
         return Request::Refused(counting.number());
     };
@@ -538,16 +555,28 @@ pub fn kind_of(word: u32) -> usize
     (word % 16) as usize
 }
 
-// The lines, a word each.
-fn load_lines(day: &[u8], part: &mut [u32])
+// The word of a line as the search meets it: one outside its kind's window has kind 0.
+fn word_met<'a>(w: Written, opens: &'a [u32; 15], closes: &'a [u32; 15]) -> u32
+    requires { ⌜ (1 ≤ w .line .kind) × (w .line .kind ≤ 15) ⌝ }
+    ensures { λ r. ⌜ r ≡ wordMet (windowsIn (now (opens .entry)) (now (closes .entry))) (writtenShown w) ⌝ }
+{
+    let word = line_word(w.line);
+    if windows::inside(w, opens, closes) {
+        return word;
+    }
+    word - w.line.kind as u32
+}
+
+// The lines, a word each, as the search meets them.
+fn load_lines(day: &[u8], options: Options, part: &mut [u32])
     requires { ⌜ length (now part) ≡ length (linesOf (now day)) ⌝ }
-    ensures { λ _. ⌜ now (part .exit) ≡ map lineWord (linesOf (now (day .entry))) ⌝ }
+    ensures { λ _. ⌜ now (part .exit) ≡ map lineWord (metBy (optionsShown options .windows) (linesOf (now (day .entry)))) ⌝ }
 {
     let mut at: usize = FIRST_LINE;
     let mut i: usize = 0;
     while i < part.len() {
         let met = record::pass_line(day, i, at);
-        part[i] = line_word(met.line);
+        part[i] = word_met(met.written, &options.opens, &options.closes);
         at = met.next;
         i += 1;
     }
@@ -596,7 +625,7 @@ fn load_boats(day: &[u8], lines: usize, numbers: &[u16], part: &mut [u32])
     let mut i: usize = 0;
     while i < lines {
         let passed = record::pass_line(day, i, at);
-        next = load_boat(boats::boat_of(passed.line), numbers[i], part, next);
+        next = load_boat(boats::boat_of(passed.written.line), numbers[i], part, next);
         at = passed.next;
         i += 1;
     }
@@ -618,17 +647,17 @@ fn load_table(day: &[u8], plan: Plan, numbers: &[u16; 4096], work: &mut [u32])
 }
 
 // Puts a record that passed, and the numbers of its boats, into a work area: the boats where some are kept, each line's boat number and the
-// lines, each in its own stretch. All other words stay as they were.
-pub fn load(day: &[u8], plan: Plan, numbers: &[u16; 4096], work: &mut [u32])
+// lines as the search meets them, each in its own stretch. All other words stay as they were.
+pub fn load(day: &[u8], plan: Plan, numbers: &[u16; 4096], options: Options, work: &mut [u32])
     requires { ⌜ Laid plan (length (now work)) × (plan .lines ≡ length (linesOf (now day))) ⌝ }
     requires { ⌜ take (plan .lines) (now numbers) ≡ codes (linesOf (now day)) ⌝ }
     requires { ⌜ plan .radix ≡ suc (length (boats (linesOf (now day)))) ⌝ }
-    ensures { λ _. ⌜ now (work .exit) ≡ take (plan .boats) (now (work .entry)) ++ (loadedOf (plan .keeps) (linesOf (now (day .entry))) ++ drop (plan .base) (now (work .entry))) ⌝ }
+    ensures { λ _. ⌜ now (work .exit) ≡ take (plan .boats) (now (work .entry)) ++ (loadedOf (plan .keeps) (metBy (optionsShown options .windows) (linesOf (now (day .entry)))) ++ drop (plan .base) (now (work .entry))) ⌝ }
 {
     let codes = plan.codes;
     let words = plan.words;
     let base = plan.base;
     load_table(day, plan, numbers, work);
     load_codes(numbers, &mut work[codes..words]);
-    load_lines(day, &mut work[words..base]);
+    load_lines(day, options, &mut work[words..base]);
 }

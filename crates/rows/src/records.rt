@@ -42,19 +42,31 @@ fn byte(b: u8) {
 }
 
 fn operands(l: Line) {
-    print::text(b"line");
     operand(l.from as usize);
     operand(l.kind as usize);
     operand(l.class as usize);
     operand(l.sail as usize);
     operand(l.to as usize);
+}
+
+fn untimed(l: Line) {
+    print::text(b"line");
+    operands(l);
+    print::text(b"\n");
+}
+
+fn timed(l: Line, time: u32) {
+    print::text(b"timed line");
+    operands(l);
+    operand(time as usize);
     print::text(b"\n");
 }
 
 // A line read back: a record that passes and has no line i says 18.
 fn line(day: &[u8], i: u16) {
     match record::read_line(day, i) {
-        LineReply::Line(l) => operands(l),
+        LineReply::Line(l) => untimed(l),
+        LineReply::Timed(l, time) => timed(l, time),
         LineReply::Refused(q, second) => refused(q, second),
     }
 }

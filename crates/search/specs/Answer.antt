@@ -1,6 +1,6 @@
--- The finder's answer, as a definition that computes, and demand 3 for it: `answer-none` (none exactly where no chain of any
--- length is accepted) and `answer-some` (a chain that is given is accepted, comes before every other, and is shorter than the search size).
--- The finder's contract rests on these two; `Check` uses `runs`, `ReadBack` `answer-any` (the starts may come in any order).
+-- The first shortest chain over lines and a pattern, as a definition that computes: `solution-none` (none exactly where no chain of any length
+-- matches) and `solution-some` (a chain that is given matches, comes before every other, and is shorter than the search size).
+-- `Asked` has demand 3 from these two; `Check` uses `runs`, `ReadBack` `solution-any` (the starts may come in any order).
 use mathlib.Core.Path.{_≡_, refl, sym, subst}
 use mathlib.Core.List.{List, [], _∷_, List·Memᴰ·eq-of-singleton, Memᴰ·of-map}
 use mathlib.Core.Logic.{_↔_, _⊎_, inl, inr, ⊎-elim}
@@ -11,7 +11,7 @@ use lib.ListN.{length, getD}
 use Rattle.meaning.specs.Record.{Line, boats}
 use Rattle.meaning.specs.Writing.{lineAt}
 use Rattle.meaning.specs.Pattern.{Pattern, unfolded, keeps}
-use Rattle.meaning.specs.Chain.{word, Accepted, LowerAtFirstDifference, Before, First}
+use Rattle.meaning.specs.Chain.{word, Matches, LowerAtFirstDifference, Before, FirstOf}
 use Rattle.meaning.specs.Request.{searchSize}
 use Rattle.lists.specs.Listed.{_∈_}
 use Rattle.automaton.specs.Automaton.{nodes, nodeAt, start}
@@ -41,9 +41,9 @@ setting lines p =
 unfoldable pub starts : Setting → Pattern → ℕ → List ℕ
 starts S p a = starting S a (start p)
 
--- the first shortest chain from a to b that the pattern accepts
-unfoldable pub answer : List Line → ℕ → Pattern → ℕ → ℕ → Option (List ℕ)
-answer lines places p a b =
+-- the first shortest chain from a to b that matches the pattern
+unfoldable pub solution : List Line → ℕ → Pattern → ℕ → ℕ → Option (List ℕ)
+solution lines places p a b =
     let S = setting lines p in
     solve (searchSize lines places p) (goal S b ∷ []) (preds S) (succs S) (length lines) (starts S p a)
 
@@ -77,16 +77,16 @@ module _ (lines : List Line) (places : ℕ) (p : Pattern) (within : LinesWithin 
   unfolding setting searchSize stacks
   below-size = ok-low (setting lines p) places sound
 
-  -- ---- a run from a start along a chain says that the chain is accepted
+  -- ---- a run from a start along a chain says that the chain matches
 
-  pub runs : (a b : ℕ) → a < places → (c : List ℕ) → ((s : ℕ) × (s ∈ starts (setting lines p) p a) × Running (setting lines p) b s c) ↔ Accepted lines p a b c
+  pub runs : (a b : ℕ) → a < places → (c : List ℕ) → ((s : ℕ) × (s ∈ starts (setting lines p) p a) × Running (setting lines p) b s c) ↔ Matches lines p a b c
   unfolding setting starts
   runs a b ha c =
       let r = along (setting lines p) places sound b a ha (start p) (start-within p []) c in
       let l = same-words p (word lines c) in
       (λ x. let (ex, ld, ac) = r .0 x in (ex, ld, l .1 ac), λ x. r .1 (x .0, x .1, l .0 (x .2)))
 
-  -- ---- what the answer says
+  -- ---- what it says
 
   module _ (a b : ℕ) (ha : a < places) (hb : b < places) where
     -- by the search theorem: of runs of states, from valid states X
@@ -106,44 +106,44 @@ module _ (lines : List Line) (places : ℕ) (p : Pattern) (within : LinesWithin 
     abbrev Solves : Option (List ℕ) → Type 0
     Solves o = SolvesFrom (starts (setting lines p) p a) o
 
-    solved : Solves (answer lines places p a b)
-    unfolding answer
+    solved : Solves (solution lines places p a b)
+    unfolding solution
     solved = solved-from (starts (setting lines p) p a) (starts-ok lines places p a ha)
 
     -- and so of chains
     abbrev Says : Option (List ℕ) → Type 0
-    Says none = (c : List ℕ) → Accepted lines p a b c → ⊥
-    Says (some c) = First lines p a b c × (length c < searchSize lines places p)
+    Says none = (c : List ℕ) → Matches lines p a b c → ⊥
+    Says (some c) = FirstOf (Matches lines p a b) c × (length c < searchSize lines places p)
 
     -- of two chains as long, the one that comes no later and is not the other is lower at the first difference
     first-of : {c c′ : List ℕ} → ¬ (c ≡ c′) → (length c < length c′) ⊎ ((length c ≡ length c′) × Lex c c′) → Before c c′
     first-of n (inl l) = inl l
     first-of {c} {c′} n (inr (e, x)) = inr (e, ⊎-elim {C = LowerAtFirstDifference c c′} (λ q. absurd (n q)) (λ d. d) (lex-read c c′ x))
 
-    answer-says : Says (answer lines places p a b)
+    solution-says : Says (solution lines places p a b)
     unfolding setting
-    answer-says = go (answer lines places p a b) solved
+    solution-says = go (solution lines places p a b) solved
       where
         go : (o : Option (List ℕ)) → Solves o → Says o
         go none none-runs = λ c k. let (s, m, r) = runs a b ha c .1 k in none-runs s c m r
         go (some c) (short, run, least) = ((runs a b ha c .0 run, λ c′ k n. let (s, m, r) = runs a b ha c′ .1 k in first-of n (least s c′ m r)), short)
 
-    pub answer-none : (answer lines places p a b ≡ none) ↔ ((c : List ℕ) → Accepted lines p a b c → ⊥)
-    answer-none = go (answer lines places p a b) answer-says
+    pub solution-none : (solution lines places p a b ≡ none) ↔ ((c : List ℕ) → Matches lines p a b c → ⊥)
+    solution-none = go (solution lines places p a b) solution-says
       where
-        go : (o : Option (List ℕ)) → Says o → (o ≡ none) ↔ ((c : List ℕ) → Accepted lines p a b c → ⊥)
+        go : (o : Option (List ℕ)) → Says o → (o ≡ none) ↔ ((c : List ℕ) → Matches lines p a b c → ⊥)
         go none h = (λ e. h, λ k. refl)
         go (some c) h = (λ e. absurd (let z : _≡_ {A = ℕ} 0 1 = cc in omega arith), λ k. absurd (k c (h .0 .0)))
 
-    pub answer-some : (c : List ℕ) → answer lines places p a b ≡ some c → First lines p a b c × (length c < searchSize lines places p)
-    answer-some c e = subst Says e answer-says
+    pub solution-some : (c : List ℕ) → solution lines places p a b ≡ some c → FirstOf (Matches lines p a b) c × (length c < searchSize lines places p)
+    solution-some c e = subst Says e solution-says
 
     -- ---- the starts may come in any order
 
-    pub answer-any : (X : List ℕ) → ((s : ℕ) → (s ∈ X) ↔ (s ∈ starts (setting lines p) p a)) → solveFrom X ≡ answer lines places p a b
-    unfolding answer
-    answer-any X e =
+    pub solution-any : (X : List ℕ) → ((s : ℕ) → (s ∈ X) ↔ (s ∈ starts (setting lines p) p a)) → solveFrom X ≡ solution lines places p a b
+    unfolding solution
+    solution-any X e =
         let S = setting lines p in
-        answer-unique (goal S b ∷ []) (succs S) (length lines) (searchSize lines places p) X (solveFrom X) (answer lines places p a b)
+        answer-unique (goal S b ∷ []) (succs S) (length lines) (searchSize lines places p) X (solveFrom X) (solution lines places p a b)
         (solved-from X (λ s m. starts-ok lines places p a ha s (e s .0 m)))
-        (answer-members (goal S b ∷ []) (succs S) (length lines) (searchSize lines places p) X (starts S p a) e (answer lines places p a b) solved)
+        (answer-members (goal S b ∷ []) (succs S) (length lines) (searchSize lines places p) X (starts S p a) e (solution lines places p a b) solved)

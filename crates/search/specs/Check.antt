@@ -1,5 +1,5 @@
--- Whether a given chain is accepted, as a definition that computes: the set of states moved along the chain.
--- Claimed: `check-says` (it says yes exactly where the chain is accepted), for the checker's contract, and `moved-members`
+-- Whether a given chain matches a pattern, as a definition that computes: the set of states moved along the chain.
+-- Claimed: `checked-says` (it says yes exactly where the chain matches), for `Asked`, and `moved-members`
 -- (the states may come in any order), for the loaded tables.
 use mathlib.Core.Path.{_≡_, refl, sym}
 use mathlib.Core.Bool.{Bool, true, _&&_, and-eq-true-iff}
@@ -11,7 +11,7 @@ use lib.ListN.{length}
 use borrow.Author.Tests.{ltb-true, lt-ltb}
 use Rattle.meaning.specs.Record.{Line}
 use Rattle.meaning.specs.Pattern.{Pattern}
-use Rattle.meaning.specs.Chain.{Exist, exist, Accepted}
+use Rattle.meaning.specs.Chain.{Exist, exist, Matches}
 use Rattle.lists.specs.Listed.{_∈_}
 use Rattle.graph.specs.Plain.{Run, memb, nub, flat}
 use Rattle.graph.specs.Sets.{memb-in, in-memb, nub-in, flat-in}
@@ -26,8 +26,8 @@ unfoldable pub moved : (ℕ → ℕ → List ℕ) → List ℕ → List ℕ → 
 moved next X [] = X
 moved next X (i ∷ c) = moved next (nub (flat (λ s. next s i) X)) c
 
-unfoldable pub check : List Line → Pattern → ℕ → ℕ → List ℕ → Bool
-check lines p a b c =
+unfoldable pub checked : List Line → Pattern → ℕ → ℕ → List ℕ → Bool
+checked lines p a b c =
     let S = setting lines p in
     exist (length lines) c && memb (goal S b) (moved (succs S) (starts S p a) c)
 
@@ -71,9 +71,9 @@ moved-members next (i ∷ c) X Y e s = moved-members next c (go X) (go Y) (λ t.
     over Z W f t m = let (u, k, n) = flat-in (λ u. next u i) Z t .0 (nub-in _ t .0 m) in nub-in _ t .1 (flat-in (λ u. next u i) W t .1 (u, f u k, n))
 
 module _ (lines : List Line) (places : ℕ) (p : Pattern) (within : LinesWithin lines places) (a b : ℕ) (ha : a < places) where
-  pub check-says : (c : List ℕ) → (check lines p a b c ≡ true) ↔ Accepted lines p a b c
-  unfolding check setting
-  check-says c =
+  pub checked-says : (c : List ℕ) → (checked lines p a b c ≡ true) ↔ Matches lines p a b c
+  unfolding checked setting
+  checked-says c =
       let S = setting lines p in
       let X = starts S p a in
       let r = runs lines places p within a b ha c in

@@ -8,6 +8,7 @@ pub mod Moves
 pub mod Traced
 pub mod Answer
 pub mod Check
+pub mod Asked
 pub mod Same
 pub mod TracedRight
 pub mod Front

@@ -24,7 +24,7 @@ wordAt plan g i = getD g (plan .words + i) 0
 
 -- a line as its word says it; its boat stands elsewhere
 abbrev pub lineIn : ℕ → Line
-lineIn w = record { from = fromIn w; kind = kindIn w; boat = noLine .boat; to = toIn w }
+lineIn w = record { from = fromIn w; kind = kindIn w; boat = noLine .boat; to = toIn w; time = noLine .time }
 
 -- the n lines from line i on
 unfoldable pub linesIn : Plan → List ℕ → ℕ → ℕ → List Line

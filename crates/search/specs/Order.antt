@@ -6,8 +6,7 @@ use mathlib.Core.List.{List, [], _∷_, _++_, nil≢cons, cons≢nil, head-eq-of
 use Prim.Native.Nat.{ℕ, _<_}
 use native.Mathlib.Decide.{ℕ-discrete}
 use native.Mathlib.Omega.{arith}
-use Rattle.meaning.specs.Record.{Line}
-use Rattle.meaning.specs.Pattern.{Pattern}
+use Rattle.meaning.specs.Request.{Asked}
 use Rattle.meaning.specs.Chain.{LowerAtFirstDifference, Before, First}
 use Rattle.graph.specs.Plain.{Lex}
 
@@ -51,8 +50,8 @@ equal-or-not (i ∷ c) (j ∷ d) = go (ℕ-discrete i j) (equal-or-not c d)
     go (yes e) (inr n) = inr (λ f. n (tail-eq-of-cons-eq f))
     go (no n) f = inr (λ e. n (head-eq-of-cons-eq e))
 
-pub first-unique : (lines : List Line) (p : Pattern) (a b : ℕ) (c c′ : List ℕ) → First lines p a b c → First lines p a b c′ → c ≡ c′
-first-unique lines p a b c c′ (accepted, first) (accepted′, first′) = go (equal-or-not c c′)
+pub first-unique : (q : Asked) (a b : ℕ) (c c′ : List ℕ) → First q a b c → First q a b c′ → c ≡ c′
+first-unique q a b c c′ (accepted, first) (accepted′, first′) = go (equal-or-not c c′)
   where
     go : (c ≡ c′) ⊎ (¬ (c ≡ c′)) → c ≡ c′
     go (inl e) = e

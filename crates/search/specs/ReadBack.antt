@@ -1,5 +1,5 @@
 -- The loaded words, read back, say the request: `loaded-same`, for a plan with the request's numbers and tables loaded of its lines.
--- So what code finds that searches by them is `answer` and `check`: `loaded-answer`, `loaded-check`, and for counting loops `loaded-ended`.
+-- So what code finds that searches by them is `solution` and `checked`: `loaded-answer`, `loaded-check`, and for counting loops `loaded-ended`.
 use mathlib.Core.Path.{_≡_, refl, sym, ap, _∙_, subst}
 use mathlib.Core.Bool.{Bool, true, false, cond, _&&_, _||_}
 use mathlib.Core.List.{List, [], _∷_, _++_, map, Memᴰ·map, Memᴰ·of-map}
@@ -35,8 +35,8 @@ use Rattle.graph.specs.PhaseTwo.{put, forward}
 use Rattle.graph.specs.Early.{Ended, ended-is}
 use Rattle.search.specs.Product.{Setting, state, passes, succs, preds}
 use Rattle.search.specs.Along.{goal, starting}
-use Rattle.search.specs.Answer.{setting, starts, answer, starts-ok, goal-ok, sound, below-size, answer-any}
-use Rattle.search.specs.Check.{moved, moved-members, check}
+use Rattle.search.specs.Answer.{setting, starts, solution, starts-ok, goal-ok, sound, below-size, solution-any}
+use Rattle.search.specs.Check.{moved, moved-members, checked}
 use Rattle.search.specs.Loaded.{boatAt, codeAt, wordAt, lineIn, linesIn, settingIn}
 use Rattle.search.specs.Steps.{Ok, next-ok, preds-ok}
 use Rattle.search.specs.Same.{Same, same-succs, same-preds, same-goal, same-starting, same-solve, same-moved}
@@ -150,9 +150,9 @@ module _ (q : Asked) (plan : Plan) (area : ℕ) (planned : Planned q plan) (laid
           deepest = planned .keeps-are;
           many = lines-many plan g 0 (plan .lines) ∙ planned .lines-are;
           as-many = refl;
-          from = λ i less. ap (λ (l : Line). l .from) (line-back i less) ∙ line-from (lineAt lines i) (low i less .0) (low i less .1) (fit .kind i less .1);
-          kind = λ i less. ap (λ (l : Line). l .kind) (line-back i less) ∙ line-kind (lineAt lines i) (low i less .0) (low i less .1) (fit .kind i less .1);
-          to = λ i less. ap (λ (l : Line). l .to) (line-back i less) ∙ line-to (lineAt lines i) (low i less .0) (low i less .1) (fit .kind i less .1);
+          from = λ i less. ap (λ (l : Line). l .from) (line-back i less) ∙ line-from (lineAt lines i) (low i less .0) (low i less .1) (fit .kind i less);
+          kind = λ i less. ap (λ (l : Line). l .kind) (line-back i less) ∙ line-kind (lineAt lines i) (low i less .0) (low i less .1) (fit .kind i less);
+          to = λ i less. ap (λ (l : Line). l .to) (line-back i less) ∙ line-to (lineAt lines i) (low i less .0) (low i less .1) (fit .kind i less);
           code = code-back;
           node = compiled .nodes-are;
           pass = λ c v i hc less.
@@ -203,14 +203,14 @@ module _ (q : Asked) (plan : Plan) (area : ℕ) (planned : Planned q plan) (laid
 
         module _ (a b : ℕ) where
           pub loaded-answer : a < places → b < places
-              → solve (plan .size) (goal In b ∷ []) (preds In) (succs In) (plan .lines) (starting In a (members begin)) ≡ answer lines places p a b
+              → solve (plan .size) (goal In b ∷ []) (preds In) (succs In) (plan .lines) (starting In a (members begin)) ≡ solution lines places p a b
           loaded-answer ha hb =
               (λ t. solve (size-asked t) (goal In b ∷ []) (preds In) (succs In) (planned .lines-are t) (starting In a (members begin)))
               ∙ (same-solve loaded-same (searchSize lines places p) a b (members begin)
-              ∙ answer-any lines places p (fit .within) a b ha hb _ (starts-members (setting lines p) p program begin compiled a))
+              ∙ solution-any lines places p (fit .within) a b ha hb _ (starts-members (setting lines p) p program begin compiled a))
 
-          pub loaded-check : (c : List ℕ) → (exist (plan .lines) c && memb (goal In b) (moved (succs In) (starting In a (members begin)) c)) ≡ check lines p a b c
-          unfolding check
+          pub loaded-check : (c : List ℕ) → (exist (plan .lines) c && memb (goal In b) (moved (succs In) (starting In a (members begin)) c)) ≡ checked lines p a b c
+          unfolding checked
           loaded-check c = ap (λ m. exist m c && memb (goal In b) (moved (succs In) (starting In a (members begin)) c)) (planned .lines-are) ∙ go (exist (length lines) c) refl
             where
               T : Setting
@@ -228,7 +228,7 @@ module _ (q : Asked) (plan : Plan) (area : ℕ) (planned : Planned q plan) (laid
               → (fromState : List ℕ → ℕ → ℕ → ℕ → Search → Search) → ((D : List ℕ) (w l s : ℕ) (st : Search) → loop (put D w) (succs In s l) st ≡ fromState D w l s st)
               → a < places → b < places → (k : ℕ)
               → let u = advanceBy expand k (begun (plan .size) (goal In b ∷ [])) in let firsts = starting In a (members begin) in
-              Ended firsts u → forward fromState (plan .size) (plan .lines) firsts (u .table .dist) ≡ answer lines places p a b
+              Ended firsts u → forward fromState (plan .size) (plan .lines) firsts (u .table .dist) ≡ solution lines places p a b
           loaded-ended expand expand-law fromState from-law ha hb k e =
               ended-is (plan .size) (goal In b ∷ []) (preds In) (succs In) (plan .lines) expand expand-law fromState from-law
               Valid valid-low (valid-goal b hb) valid-next valid-preds (starting In a (members begin)) (valid-starts a ha) k e

@@ -12,12 +12,12 @@ use Rattle.meaning.specs.Chain.{exist}
 use Rattle.boats.specs.Codes.{codes}
 use Rattle.graph.specs.Plain.{solve, found, news, look, bfs, chosen, pick, first, next, level, nearest, lesser, isAt, memb, nub, filt, flat, count}
 use Rattle.search.specs.Product.{stacks, state, placeOf, posOf, stackOf, succs, preds}
-use Rattle.search.specs.Answer.{setting, starts, answer}
-use Rattle.search.specs.Check.{moved, check}
+use Rattle.search.specs.Answer.{setting, starts, solution}
+use Rattle.search.specs.Check.{moved, checked}
 
 -- from, kind, class and sail number, to
 ln : ℕ → ℕ → ℕ → ℕ → ℕ → Line
-ln from kind class sail to = record { from = from; kind = kind; boat = record { class = class; sail = sail }; to = to }
+ln from kind class sail to = record { from = from; kind = kind; boat = record { class = class; sail = sail }; to = to; time = none }
 
 -- ---- kept boats
 
@@ -33,8 +33,8 @@ codes-Q : codes Q ≡ 1 ∷ 2 ∷ []
 unfolding codes boatsAfter Q ln
 codes-Q = refl
 
-not-the-same : answer Q 3 (by same) 0 2 ≡ none
-unfolding Q by ln boatsAfter codes solve found news look bfs chosen pick first next level nearest lesser isAt memb nub filt flat count stacks state placeOf posOf stackOf succs preds setting searchSize starts answer
+not-the-same : solution Q 3 (by same) 0 2 ≡ none
+unfolding Q by ln boatsAfter codes solve found news look bfs chosen pick first next level nearest lesser isAt memb nub filt flat count stacks state placeOf posOf stackOf succs preds setting searchSize starts solution
 not-the-same = refl
 
 -- two boats at one place
@@ -45,8 +45,8 @@ B = ln 0 1 1 1 0 ∷ ln 0 1 1 2 0 ∷ []
 N : Pattern
 N = keep 1 0 (then (keep 1 1 (test other 1 0)) (test same 1 0))
 
-inner-keep : answer B 1 N 0 0 ≡ some (0 ∷ 0 ∷ 1 ∷ 0 ∷ [])
-unfolding B N ln boatsAfter codes solve found news look bfs chosen pick first next level nearest lesser isAt memb nub filt flat count stacks state placeOf posOf stackOf succs preds setting searchSize starts answer
+inner-keep : solution B 1 N 0 0 ≡ some (0 ∷ 0 ∷ 1 ∷ 0 ∷ [])
+unfolding B N ln boatsAfter codes solve found news look bfs chosen pick first next level nearest lesser isAt memb nub filt flat count stacks state placeOf posOf stackOf succs preds setting searchSize starts solution
 inner-keep = refl
 
 -- ---- two positions alive after the same lines
@@ -58,12 +58,12 @@ U = ln 0 1 1 1 1 ∷ ln 1 3 1 1 2 ∷ ln 1 2 1 1 2 ∷ []
 A : Pattern
 A = either (then (line 1) (line 2)) (then (line 1) (line 3))
 
-both-followed : answer U 3 A 0 2 ≡ some (0 ∷ 1 ∷ [])
-unfolding U A ln boatsAfter codes solve found news look bfs chosen pick first next level nearest lesser isAt memb nub filt flat count stacks state placeOf posOf stackOf succs preds setting searchSize starts answer
+both-followed : solution U 3 A 0 2 ≡ some (0 ∷ 1 ∷ [])
+unfolding U A ln boatsAfter codes solve found news look bfs chosen pick first next level nearest lesser isAt memb nub filt flat count stacks state placeOf posOf stackOf succs preds setting searchSize starts solution
 both-followed = refl
 
-both-checked : map (check U A 0 2) ((0 ∷ 1 ∷ []) ∷ (0 ∷ 2 ∷ []) ∷ (0 ∷ 3 ∷ []) ∷ []) ≡ true ∷ true ∷ false ∷ []
-unfolding U A ln boatsAfter codes news look memb nub filt flat count stacks state placeOf posOf stackOf succs setting starts exist moved check
+both-checked : map (checked U A 0 2) ((0 ∷ 1 ∷ []) ∷ (0 ∷ 2 ∷ []) ∷ (0 ∷ 3 ∷ []) ∷ []) ≡ true ∷ true ∷ false ∷ []
+unfolding U A ln boatsAfter codes news look memb nub filt flat count stacks state placeOf posOf stackOf succs setting starts exist moved checked
 both-checked = refl
 
 -- ---- unread numbers
@@ -72,21 +72,21 @@ both-checked = refl
 W : List Line
 W = ln 0 1 1 1 1 ∷ ln 1 2 0 0 2 ∷ ln 1 2 1 1 2 ∷ ln 1 2 1 2 2 ∷ []
 
-unread-passed-over : map (λ (r : Rule). answer W 3 (by r) 0 2) (same ∷ other ∷ sister ∷ foreign ∷ []) ≡ some (0 ∷ 2 ∷ []) ∷ some (0 ∷ 3 ∷ []) ∷ some (0 ∷ 3 ∷ []) ∷ none ∷ []
-unfolding W by ln boatsAfter codes solve found news look bfs chosen pick first next level nearest lesser isAt memb nub filt flat count stacks state placeOf posOf stackOf succs preds setting searchSize starts answer
+unread-passed-over : map (λ (r : Rule). solution W 3 (by r) 0 2) (same ∷ other ∷ sister ∷ foreign ∷ []) ≡ some (0 ∷ 2 ∷ []) ∷ some (0 ∷ 3 ∷ []) ∷ some (0 ∷ 3 ∷ []) ∷ none ∷ []
+unfolding W by ln boatsAfter codes solve found news look bfs chosen pick first next level nearest lesser isAt memb nub filt flat count stacks state placeOf posOf stackOf succs preds setting searchSize starts solution
 unread-passed-over = refl
 
-unread-checked : map (check W (by other) 0 2) ((0 ∷ 1 ∷ []) ∷ (0 ∷ 2 ∷ []) ∷ (0 ∷ 3 ∷ []) ∷ []) ≡ false ∷ false ∷ true ∷ []
-unfolding W by ln boatsAfter codes news look memb nub filt flat count stacks state placeOf posOf stackOf succs setting starts exist moved check
+unread-checked : map (checked W (by other) 0 2) ((0 ∷ 1 ∷ []) ∷ (0 ∷ 2 ∷ []) ∷ (0 ∷ 3 ∷ []) ∷ []) ≡ false ∷ false ∷ true ∷ []
+unfolding W by ln boatsAfter codes news look memb nub filt flat count stacks state placeOf posOf stackOf succs setting starts exist moved checked
 unread-checked = refl
 
 -- an unread number entered: no line of it or of another boat is known to be the same, another, or of one class or another
 E : List Line
 E = ln 0 1 0 0 1 ∷ ln 1 2 0 0 1 ∷ ln 1 2 1 1 1 ∷ []
 
-unread-entered : map (λ (p : Pattern). answer E 2 p 0 1) (map by (same ∷ other ∷ sister ∷ foreign ∷ []) ++ (keep 1 0 (line 2) ∷ []))
+unread-entered : map (λ (p : Pattern). solution E 2 p 0 1) (map by (same ∷ other ∷ sister ∷ foreign ∷ []) ++ (keep 1 0 (line 2) ∷ []))
     ≡ none ∷ none ∷ none ∷ none ∷ some (0 ∷ 1 ∷ []) ∷ []
-unfolding E by ln boatsAfter codes solve found news look bfs chosen pick first next level nearest lesser isAt memb nub filt flat count stacks state placeOf posOf stackOf succs preds setting searchSize starts answer
+unfolding E by ln boatsAfter codes solve found news look bfs chosen pick first next level nearest lesser isAt memb nub filt flat count stacks state placeOf posOf stackOf succs preds setting searchSize starts solution
 unread-entered = refl
 
 -- ---- classes
@@ -95,25 +95,25 @@ unread-entered = refl
 C : List Line
 C = ln 0 1 2 1 1 ∷ ln 1 2 1 7 2 ∷ ln 1 2 1 8 2 ∷ ln 1 2 2 1 2 ∷ ln 1 2 2 9 2 ∷ ln 1 2 3 1 2 ∷ []
 
-classes-told : map (λ (r : Rule). answer C 3 (by r) 0 2) (same ∷ other ∷ sister ∷ foreign ∷ [])
+classes-told : map (λ (r : Rule). solution C 3 (by r) 0 2) (same ∷ other ∷ sister ∷ foreign ∷ [])
     ≡ some (0 ∷ 3 ∷ []) ∷ some (0 ∷ 1 ∷ []) ∷ some (0 ∷ 4 ∷ []) ∷ some (0 ∷ 1 ∷ []) ∷ []
-unfolding C by ln boatsAfter codes solve found news look bfs chosen pick first next level nearest lesser isAt memb nub filt flat count stacks state placeOf posOf stackOf succs preds setting searchSize starts answer
+unfolding C by ln boatsAfter codes solve found news look bfs chosen pick first next level nearest lesser isAt memb nub filt flat count stacks state placeOf posOf stackOf succs preds setting searchSize starts solution
 classes-told = refl
 
 -- each line in turn: those of other classes are foreign, one is a sister, and every other is one of the two
-classes-checked : map (λ (r : Rule). map (check C (by r) 0 2) ((0 ∷ 1 ∷ []) ∷ (0 ∷ 2 ∷ []) ∷ (0 ∷ 3 ∷ []) ∷ (0 ∷ 4 ∷ []) ∷ (0 ∷ 5 ∷ []) ∷ [])) (same ∷ other ∷ sister ∷ foreign ∷ [])
+classes-checked : map (λ (r : Rule). map (checked C (by r) 0 2) ((0 ∷ 1 ∷ []) ∷ (0 ∷ 2 ∷ []) ∷ (0 ∷ 3 ∷ []) ∷ (0 ∷ 4 ∷ []) ∷ (0 ∷ 5 ∷ []) ∷ [])) (same ∷ other ∷ sister ∷ foreign ∷ [])
     ≡ (false ∷ false ∷ true ∷ false ∷ false ∷ [])
     ∷ (true ∷ true ∷ false ∷ true ∷ true ∷ [])
     ∷ (false ∷ false ∷ false ∷ true ∷ false ∷ [])
     ∷ (true ∷ true ∷ false ∷ false ∷ true ∷ [])
     ∷ []
-unfolding C by ln boatsAfter codes news look memb nub filt flat count stacks state placeOf posOf stackOf succs setting starts exist moved check
+unfolding C by ln boatsAfter codes news look memb nub filt flat count stacks state placeOf posOf stackOf succs setting starts exist moved checked
 classes-checked = refl
 
 -- boat 1-1 entered: two sisters are passed over, and the first of another class has its number
 D : List Line
 D = ln 0 1 1 1 1 ∷ ln 1 2 1 7 2 ∷ ln 1 2 1 8 2 ∷ ln 1 2 2 1 2 ∷ []
 
-sisters-passed-over : answer D 3 (by foreign) 0 2 ≡ some (0 ∷ 3 ∷ [])
-unfolding D by ln boatsAfter codes solve found news look bfs chosen pick first next level nearest lesser isAt memb nub filt flat count stacks state placeOf posOf stackOf succs preds setting searchSize starts answer
+sisters-passed-over : solution D 3 (by foreign) 0 2 ≡ some (0 ∷ 3 ∷ [])
+unfolding D by ln boatsAfter codes solve found news look bfs chosen pick first next level nearest lesser isAt memb nub filt flat count stacks state placeOf posOf stackOf succs preds setting searchSize starts solution
 sisters-passed-over = refl

@@ -12,6 +12,7 @@ use lib.Seq.{take-all, take-length, length-take-le}
 use borrow.Author.Tests.{eqb-true, eqb-false}
 use Rattle.meaning.specs.Record.{Line, boats}
 use Rattle.meaning.specs.Pattern.{Pattern, unfolded, keeps}
+use Rattle.meaning.specs.Windows.{Options}
 use Rattle.meaning.specs.Request.{Asked, searchSize, sizeOf, searchNeed}
 use Rattle.record.specs.Outcomes.{passed-inj}
 use Rattle.record.specs.Whole.{places-few, lines-few}
@@ -30,14 +31,16 @@ use Rattle.graph.specs.Table.{Search}
 use Rattle.graph.specs.Underway.{Underway, queueOf, takenBy}
 use Rattle.graph.specs.SameSearch.{same-taken}
 use Rattle.graph.specs.Marking.{countMarked, WordsFound}
-use Rattle.request.specs.Layout.{tableWords, boatWords, lineWord, boatsLoaded, table-long, loadedOf, Planned}
+use Rattle.request.specs.Met.{met-long}
+use Rattle.request.specs.Layout.{largest, tableWords, boatWords, lineWord, boatsLoaded, table-long, loadedOf, Planned}
 use Rattle.request.specs.Told.{Parts, search-parts}
 use Rattle.request.specs.declared.Plan.{Plan}
 use Rattle.request.proofs.Sizes.{boats-in-radix}
 use Rattle.search.specs.Product.{state, succs}
 use Rattle.search.specs.Traced.{trace}
 use Rattle.search.specs.TracedRight.{same-trace}
-use Rattle.search.specs.Answer.{setting}
+use Rattle.search.specs.Answer.{LinesWithin, setting}
+use Rattle.search.specs.Asked.{metAsked, met-size}
 use Rattle.search.specs.Loaded.{settingAt}
 use Rattle.search.specs.Front.{stateIn, state-in}
 use Rattle.search.specs.Same.{Same, filt-same, same-state, same-succs}
@@ -47,7 +50,7 @@ use Rattle.area.proofs.Stretches.{stretch-take}
 use Rattle.states.specs.Spots.{Fit, front}
 use Rattle.forward.specs.Firsts.{firstStates}
 use Rattle.forward.specs.Posed.{Posed}
-use Rattle.forward.proofs.Posing.{tables-long, posed-tables, line-is, code-below, fit-from}
+use Rattle.forward.proofs.Posing.{met-fit, tables-long, posed-tables, line-is, code-below, fit-from}
 use Rattle.holding.specs.Holding.{radixIn, placesIn, linesIn, askedIn, countersIn, bytesIn, InRange, PlanIs, StateIs, Sound}
 use Rattle.holding.specs.Plans.{planFor, laid-from, sizeFor, from-numbers}
 use Rattle.holding.specs.declared.Counters.{Counters}
@@ -126,7 +129,11 @@ found-good {N} {st} f = record {
 
 -- ---- an area that was left
 
-module _ {rec pat : List ℕ} {from to : ℕ} {q : Asked} {k : ℕ} {w : List ℕ} (left : Left rec pat from to q k w) where
+module _ {rec pat : List ℕ} {from to : ℕ} {options : Options} {asked : Asked} {k : ℕ} {w : List ℕ} (left : Left rec pat from to options asked k w) where
+  -- the request as the search meets it
+  abbrev q : Asked
+  q = metAsked asked
+
   abbrev lines : List Line
   lines = q .day .lines
 
@@ -140,14 +147,27 @@ module _ {rec pat : List ℕ} {from to : ℕ} {q : Asked} {k : ℕ} {w : List �
   abbrev u : Underway
   u = searchAt q from to k
 
-  pub left-parts : Parts rec pat from to q
-  left-parts = search-parts rec pat from to (length w) q (left .begins .asked) .0
+  pub left-parts : Parts rec pat from to options asked
+  left-parts = search-parts rec pat from to options (length w) asked (left .begins .asked) .0
+
+  -- no line less, and no boat
+  as-many : length lines ≡ length (asked .day .lines)
+  as-many = met-long (asked .options .windows) (asked .day .lines)
 
   pub left-need : searchNeed q ≤ length w
-  left-need = search-parts rec pat from to (length w) q (left .begins .asked) .1
+  left-need = omega (arith, search-parts rec pat from to options (length w) asked (left .begins .asked) .1, met-size asked, as-many)
+
+  pub left-small : sizeOf q ≤ largest
+  left-small = omega (arith, left-parts .small, met-size asked)
+
+  few-lines : length lines ≤ 4096
+  few-lines = omega (arith, as-many, lines-few rec (asked .day) (left-parts .day-read))
+
+  pub left-within : LinesWithin (asked .day .lines) places
+  left-within = record-fits rec (asked .day) (left-parts .day-read) (left .begins .rec-bytes) .within
 
   pub left-fit : RecordFit lines places
-  left-fit = record-fits rec (q .day) (left-parts .day-read) (left .begins .rec-bytes)
+  left-fit = met-fit asked (record-fits rec (asked .day) (left-parts .day-read) (left .begins .rec-bytes))
 
   pub left-short : length pat ≤ 189
   left-short = read-few _ pat tree (left-parts .pattern-read)
@@ -166,8 +186,8 @@ module _ {rec pat : List ℕ} {from to : ℕ} {q : Asked} {k : ℕ} {w : List �
         loaded-long q,
         boats-in-radix (suc (length (boats lines))) (keeps tree),
         few-boats,
-        lines-few rec (q .day) (left-parts .day-read),
-        places-few rec (q .day) (left-parts .day-read) .1,
+        few-lines,
+        places-few rec (asked .day) (left-parts .day-read) .1,
         left-need,
       )
 
@@ -282,7 +302,7 @@ module _ {rec pat : List ℕ} {from to : ℕ} {q : Asked} {k : ℕ} {w : List �
 
     -- ---- by a program that is compiled from the pattern
 
-    module _ {program : List ℕ} {begin : ℕ} (compiled : Compiled (q .pattern) program begin) where
+    module _ {program : List ℕ} {begin : ℕ} (compiled : Compiled (asked .pattern) program begin) where
       pub left-same : Same (settingAt program (s .plan) w) (setting lines tree) (length lines)
       left-same =
           loaded-same q (s .plan) (length w) left-planned (left-posed .laid) (front (s .plan) w) (posed-tables left-posed) left-fit program begin compiled
@@ -322,14 +342,14 @@ module _ {rec pat : List ℕ} {from to : ℕ} {q : Asked} {k : ℕ} {w : List �
 
   left-range : InRange w
   left-range =
-      let (some, few) = places-few rec (q .day) (left-parts .day-read) in
+      let (some, few) = places-few rec (asked .day) (left-parts .day-read) in
       record {
         counts = record {
           some-radix = omega (arith, number 0 (omega arith));
-          few-boats = omega (arith, number 0 (omega arith), few-boats, lines-few rec (q .day) (left-parts .day-read));
+          few-boats = omega (arith, number 0 (omega arith), few-boats, few-lines);
           some-place = omega (arith, number 1 (omega arith), some);
           few-places = omega (arith, number 1 (omega arith), few);
-          few-lines = omega (arith, number 2 (omega arith), lines-few rec (q .day) (left-parts .day-read));
+          few-lines = omega (arith, number 2 (omega arith), few-lines);
         };
         from-low = omega (arith, number 3 (omega arith), number 1 (omega arith), left-parts .from-low);
         short = omega (arith, number 4 (omega arith), left-short);
@@ -347,7 +367,7 @@ module _ {rec pat : List ℕ} {from to : ℕ} {q : Asked} {k : ℕ} {w : List �
   left-plan =
       let small = pattern-small _ pat tree (left-parts .pattern-read) in
       let size = sizeFor w (unfolded tree) (keeps tree) in
-      let few : size ≤ 1048576 = omega (arith, plan-size-for, left-parts .small) in
+      let few : size ≤ 1048576 = omega (arith, plan-size-for, left-small) in
       let boat-words : boatWords (keeps tree) (radixIn w) ≡ boatWords (keeps tree) (suc (length (boats lines))) = ap (boatWords (keeps tree)) (number 0 (omega arith)) in
       let room : 209 + boatWords (keeps tree) (radixIn w) + linesIn w + linesIn w + 4 * size + (placesIn w + 1 + linesIn w) ≤ length w =
       omega (arith, left-room, loaded-long q, boat-words, plan-size-for, number 1 (omega arith), number 2 (omega arith)) in

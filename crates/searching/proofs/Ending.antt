@@ -11,12 +11,14 @@ use native.Mathlib.Decide.{decLt}
 use lib.Dec.{eqb, ltb, leb}
 use lib.ListN.{length, getD, drop}
 use borrow.Author.Tests.{eqb-true, lt-ltb}
+use Rattle.meaning.specs.Windows.{Options}
 use Rattle.meaning.specs.Request.{Asked, sizeOf}
 use Rattle.positions.specs.Program.{Compiled}
 use Rattle.graph.specs.Sweep.{chainIn}
 use Rattle.graph.specs.Underway.{Underway, distOf, queueOf, takenUp, atEnd, outcome}
 use Rattle.search.specs.Product.{Setting, succs}
-use Rattle.search.specs.Answer.{setting, answer}
+use Rattle.search.specs.Answer.{setting}
+use Rattle.search.specs.Asked.{answer, metAsked}
 use Rattle.finder.specs.Promise.{chain, too-long, outAfter}
 use Rattle.finder.specs.Searching.{Searched}
 use Rattle.holding.specs.Holding.{Sound}
@@ -76,8 +78,12 @@ module _ (q : Asked) (from to : ℕ) (h : Proper q from to) where
 
 -- ---- moved on in the area
 
-module _ {rec pat : List ℕ} {from to : ℕ} {q : Asked} {k : ℕ} {w : List ℕ} (left : Left rec pat from to q k w) {s : SearchState} (sound : Sound w pat s)
-    {program : List ℕ} {begin : ℕ} (compiled : Compiled (q .pattern) program begin) {many : ℕ} {g : Going} {v : List ℕ} (on : MovedOn s program begin many w g v) where
+module _ {rec pat : List ℕ} {from to : ℕ} {options : Options} {asked : Asked} {k : ℕ} {w : List ℕ} (left : Left rec pat from to options asked k w) {s : SearchState} (sound : Sound w pat s)
+    {program : List ℕ} {begin : ℕ} (compiled : Compiled (asked .pattern) program begin) {many : ℕ} {g : Going} {v : List ℕ} (on : MovedOn s program begin many w g v) where
+  -- the request as the search meets it
+  abbrev q : Asked
+  q = metAsked asked
+
   abbrev done : ℕ
   done = many - g .left
 
@@ -146,10 +152,10 @@ module _ {rec pat : List ℕ} {from to : ℕ} {q : Asked} {k : ℕ} {w : List �
     abbrev u : Underway
     u = underwayIn (g .state) v
 
-    said : outcome (succs S) lines u ≡ answer (q .day .lines) (q .day .places) (q .pattern) from to
+    said : outcome (succs S) lines u ≡ answer asked from to
     said = ap (outcome (succs S) lines) now-is ∙ finish-is-find q from to (left-proper left) N ended
 
-    pub finished-in : {out : List ℕ} {r : ℕ} {after : List ℕ} → ReadOut (g .state) v out r after → Searched (answer (q .day .lines) (q .day .places) (q .pattern) from to) r out after
+    pub finished-in : {out : List ℕ} {r : ℕ} {after : List ℕ} → ReadOut (g .state) v out r after → Searched (answer asked from to) r out after
     unfolding outcome underwayIn reachedIn found
     finished-in {out} {r} {after} read =
         let p = g .state .plan in

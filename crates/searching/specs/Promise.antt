@@ -1,6 +1,7 @@
 -- What a search that is begun, moved on and finished promises (document 02, request Five).
--- `searchAt` is the search of a request after so many states, `heldIn` every word of the area that holds it. Begin leaves `heldIn … 0`; a move by an
--- amount makes of `heldIn … k` `heldIn … (k + amount)`, and finish says what the finder says of the record at the beginning.
+-- `searchAt` is the search of a request after so many states, `heldIn` every word of the area that holds it. Begin leaves `heldIn … 0` of the request
+-- with its lines as the search meets them (`metAsked`); a move by an amount makes of `heldIn … k` `heldIn … (k + amount)`, and finish says what the
+-- finder says of the record at the beginning.
 -- Move and finish see the area alone. `Moving` and `Finishing` name three cases: the area that a begin and its moves left, an area without a search,
 -- and any other, which was altered or cut short.
 use mathlib.Core.Path.{_≡_}
@@ -10,6 +11,7 @@ use lib.ListN.{length, getD, replicate}
 use Rattle.meaning.specs.Outcome.{Outcome, refused, passed, Reply, value, refusal}
 use Rattle.meaning.specs.Record.{boats}
 use Rattle.meaning.specs.Pattern.{unfolded, keeps}
+use Rattle.meaning.specs.Windows.{Options}
 use Rattle.meaning.specs.Request.{Asked, sizeOf, askSearch}
 use Rattle.automaton.specs.Automaton.{start}
 use Rattle.graph.specs.Plain.{memb, filt, count}
@@ -18,7 +20,8 @@ use Rattle.request.specs.Layout.{loadedOf}
 use Rattle.search.specs.Product.{succs}
 use Rattle.search.specs.Along.{goal, starting}
 use Rattle.search.specs.Traced.{trace}
-use Rattle.search.specs.Answer.{setting, answer}
+use Rattle.search.specs.Answer.{setting}
+use Rattle.search.specs.Asked.{answer, metAsked}
 use Rattle.finder.specs.Promise.{settled, Said, found, none-found, refusal as refusing, said, outAfter, Demand3}
 use Rattle.searching.specs.declared.BeginReply.{BeginReply}
 use Rattle.searching.specs.declared.BeginReply.the-variants as Begin
@@ -83,18 +86,18 @@ begunTold (passed q) = value 0
 -- the area after it, whatever it held
 abbrev pub begunAfter : Outcome Asked → List ℕ → ℕ → ℕ → List ℕ → List ℕ
 begunAfter (refused number) pat from to w = w
-begunAfter (passed q) pat from to w = heldIn q pat from to (length w) 0
+begunAfter (passed q) pat from to w = heldIn (metAsked q) pat from to (length w) 0
 
 -- a begin of these bytes with an area of so many words is not refused
-pub record Begins (rec pat : List ℕ) (from to words : ℕ) (q : Asked) : Type 0 where
+pub record Begins (rec pat : List ℕ) (from to : ℕ) (options : Options) (words : ℕ) (q : Asked) : Type 0 where
   pub rec-bytes : (i : ℕ) → getD rec i 0 < 256
   pub pat-bytes : (i : ℕ) → getD pat i 0 < 256
-  pub asked : askSearch rec pat from to words ≡ passed q
+  pub asked : askSearch rec pat from to options words ≡ passed q
 
 -- the area w is as such a begin and moves by k states left it
-pub record Left (rec pat : List ℕ) (from to : ℕ) (q : Asked) (k : ℕ) (w : List ℕ) : Type 0 where
-  pub begins : Begins rec pat from to (length w) q
-  pub held : w ≡ heldIn q pat from to (length w) k
+pub record Left (rec pat : List ℕ) (from to : ℕ) (options : Options) (q : Asked) (k : ℕ) (w : List ℕ) : Type 0 where
+  pub begins : Begins rec pat from to options (length w) q
+  pub held : w ≡ heldIn (metAsked q) pat from to (length w) k
 
 -- ---- move
 
@@ -108,8 +111,8 @@ MoveHarmless amount (value n) w v = (n ≤ amount) × (n ≤ 2097154)
 MoveHarmless amount (refusal number second) w v = (number ≡ 26) × (second ≡ 0) × (v ≡ w)
 
 pub record Moving (amount : ℕ) (w : List ℕ) (r : Reply ℕ) (v : List ℕ) : Type 0 where
-  pub begun : (rec pat : List ℕ) (from to : ℕ) (q : Asked) (k : ℕ) → Left rec pat from to q k w
-      → (r ≡ value (takenUp (searchAt q from to (k + amount)) - takenUp (searchAt q from to k))) × (v ≡ heldIn q pat from to (length w) (k + amount))
+  pub begun : (rec pat : List ℕ) (from to : ℕ) (options : Options) (q : Asked) (k : ℕ) → Left rec pat from to options q k w
+      → (r ≡ value (takenUp (searchAt (metAsked q) from to (k + amount)) - takenUp (searchAt (metAsked q) from to k))) × (v ≡ heldIn (metAsked q) pat from to (length w) (k + amount))
   pub none-begun : getD w 0 0 ≡ 0 → (r ≡ refusal 26 0) × (v ≡ w)
   pub altered : (length v ≡ length w) × MoveHarmless amount r w v
 
@@ -127,8 +130,8 @@ FinishHarmless (refusing number second) w v out out′ =
 
 pub record Finishing (w out : List ℕ) (r : Said) (v out′ : List ℕ) : Type 0 where
   -- what the finder says of the record at the beginning, and demand 3
-  pub begun : (rec pat : List ℕ) (from to : ℕ) (q : Asked) (k : ℕ) → Left rec pat from to q k w
-      → let finding = settled (length out) (answer (q .day .lines) (q .day .places) (q .pattern) from to) in
-      (r ≡ said finding) × (v ≡ replicate (length w) 0) × (out′ ≡ outAfter finding out) × Demand3 rec pat from to (length out) r out′
+  pub begun : (rec pat : List ℕ) (from to : ℕ) (options : Options) (q : Asked) (k : ℕ) → Left rec pat from to options q k w
+      → let finding = settled (length out) (answer q from to) in
+      (r ≡ said finding) × (v ≡ replicate (length w) 0) × (out′ ≡ outAfter finding out) × Demand3 rec pat from to options (length out) r out′
   pub none-begun : getD w 0 0 ≡ 0 → (r ≡ refusing 26 0) × (v ≡ w) × (out′ ≡ out)
   pub altered : (length v ≡ length w) × (length out′ ≡ length out) × FinishHarmless r w v out out′

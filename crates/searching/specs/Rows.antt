@@ -3,11 +3,12 @@
 use mathlib.Core.Path.{_≡_, refl}
 use mathlib.Core.Bool.{true, false}
 use mathlib.Core.List.{List, [], _∷_, _++_, map}
-use mathlib.Core.Option.{some}
+use mathlib.Core.Option.{none, some}
 use Prim.Native.Nat.{ℕ, _-_}
 use lib.ListN.{length, replicate}
 use Rattle.meaning.specs.Record.{Line, boatsAfter}
 use Rattle.meaning.specs.Pattern.{test, same, keep}
+use Rattle.meaning.specs.Windows.{plain}
 use Rattle.meaning.specs.Request.{Asked, searchSize}
 use Rattle.boats.specs.Codes.{codes}
 use Rattle.boats.specs.Table.{boatTable}
@@ -30,11 +31,11 @@ use Rattle.searching.specs.Promise.{searchAt, padded, heldOf, heldIn}
 
 -- from, kind, class and sail number, to
 ln : ℕ → ℕ → ℕ → ℕ → ℕ → Line
-ln from kind class sail to = record { from = from; kind = kind; boat = record { class = class; sail = sail }; to = to }
+ln from kind class sail to = record { from = from; kind = kind; boat = record { class = class; sail = sail }; to = to; time = none }
 
 -- boat 1-1 entered; then from one place another boat, and that boat
 asked : Asked
-asked = record { day = record { places = 2; lines = ln 0 1 1 1 1 ∷ ln 1 2 1 2 0 ∷ ln 1 2 1 1 0 ∷ [] }; pattern = keep 1 0 (test same 2 0) }
+asked = record { day = record { places = 2; lines = ln 0 1 1 1 1 ∷ ln 1 2 1 2 0 ∷ ln 1 2 1 1 0 ∷ [] }; pattern = keep 1 0 (test same 2 0); options = plain }
 
 -- the pattern's bytes
 bytes : List ℕ

@@ -5,10 +5,11 @@ use mathlib.Core.List.{List, [], _∷_, _++_}
 use Prim.Native.Nat.{ℕ, _+_, _-_, _≤_, _<_}
 use lib.Dec.{eqb, ltb, leb}
 use lib.ListN.{length, take, drop, replicate}
+use Rattle.meaning.specs.Windows.{Options}
 use Rattle.meaning.specs.Request.{Asked}
 use Rattle.graph.specs.Underway.{takenUp}
 use Rattle.request.specs.declared.Plan.{Plan}
-use Rattle.search.specs.Answer.{answer}
+use Rattle.search.specs.Asked.{answer, metAsked}
 use Rattle.area.specs.Area.{stretch}
 use Rattle.forward.specs.Posed.{Posed}
 use Rattle.finder.specs.Searching.{Searched}
@@ -45,8 +46,8 @@ pub record MovedIn (s : SearchState) (pat : List ℕ) (amount : ℕ) (w : List �
   pub few : r ≤ amount
   pub small : r ≤ 2097154
   pub long : length v ≡ length w
-  pub begun : (rec : List ℕ) (from to : ℕ) (q : Asked) (k : ℕ) → Left rec pat from to q k w
-      → (r ≡ takenUp (searchAt q from to (k + amount)) - takenUp (searchAt q from to k)) × (v ≡ heldIn q pat from to (length w) (k + amount))
+  pub begun : (rec : List ℕ) (from to : ℕ) (options : Options) (q : Asked) (k : ℕ) → Left rec pat from to options q k w
+      → (r ≡ takenUp (searchAt (metAsked q) from to (k + amount)) - takenUp (searchAt (metAsked q) from to k)) × (v ≡ heldIn (metAsked q) pat from to (length w) (k + amount))
 
 -- ---- finish
 
@@ -64,4 +65,4 @@ pub record FinishedIn (s : SearchState) (pat w out : List ℕ) (r : ℕ) (after 
   pub long : length after ≡ length out
   pub none-out : r ≡ 0 → after ≡ out
   pub too-long-out : length out < r - 1 → after ≡ out
-  pub begun : (rec : List ℕ) (from to : ℕ) (q : Asked) (k : ℕ) → Left rec pat from to q k w → Searched (answer (q .day .lines) (q .day .places) (q .pattern) from to) r out after
+  pub begun : (rec : List ℕ) (from to : ℕ) (options : Options) (q : Asked) (k : ℕ) → Left rec pat from to options q k w → Searched (answer q from to) r out after

@@ -14,6 +14,7 @@ use lib.ListN.{length, getD}
 use Rattle.meaning.specs.Outcome.{passed}
 use Rattle.meaning.specs.Record.{Day, readRecord}
 use Rattle.meaning.specs.Pattern.{Pattern, unfolded}
+use Rattle.meaning.specs.Windows.{Options}
 use Rattle.meaning.specs.Request.{Asked, sizeOf, askSearch}
 use Rattle.lists.specs.Listed.{_∈_}
 use Rattle.record.specs.Fit.{record-fits}
@@ -37,7 +38,8 @@ use Rattle.search.specs.Moves.{expand, expand-law, fromState, from-law}
 use Rattle.search.specs.Traced.{trace, trace-table, trace-long}
 use Rattle.search.specs.TracedRight.{trace-right}
 use Rattle.search.specs.Along.{goal, starting}
-use Rattle.search.specs.Answer.{setting, starts, answer, starts-ok, goal-ok, LinesWithin, sound, below-size, answer-any}
+use Rattle.search.specs.Answer.{setting, starts, solution, starts-ok, goal-ok, LinesWithin, sound, below-size, solution-any}
+use Rattle.search.specs.Asked.{metAsked, met-within}
 use Rattle.searching.specs.Promise.{firstsOf, searchAt, begunTold, begunAfter, Begins}
 use Rattle.searching.specs.Words.{Sized}
 
@@ -47,10 +49,11 @@ pub record Proper (q : Asked) (from to : ℕ) : Type 0 where
   pub from-low : from < q .day .places
   pub to-low : to < q .day .places
 
-pub begins-proper : (rec pat : List ℕ) (from to words : ℕ) (q : Asked) → Begins rec pat from to words q → Proper q from to
-begins-proper rec pat from to words q b =
-    let parts = search-parts rec pat from to words q (b .asked) .0 in
-    record { within = record-fits rec (q .day) (parts .day-read) (b .rec-bytes) .within; from-low = parts .from-low; to-low = parts .to-low }
+-- its lines as the search meets them
+pub begins-proper : (rec pat : List ℕ) (from to : ℕ) (options : Options) (words : ℕ) (q : Asked) → Begins rec pat from to options words q → Proper (metAsked q) from to
+begins-proper rec pat from to options words q b =
+    let parts = search-parts rec pat from to options words q (b .asked) .0 in
+    record { within = met-within q (record-fits rec (q .day) (parts .day-read) (b .rec-bytes) .within); from-low = parts .from-low; to-low = parts .to-low }
 
 -- ---- amounts of at least 1
 
@@ -259,12 +262,12 @@ module _ (q : Asked) (from to : ℕ) where
 
     -- it says what the unbroken search says
     pub finish-is-find : (k : ℕ) → atEnd (searchAt q from to k) ≡ true
-        → outcome (succs S) (length (q .day .lines)) (searchAt q from to k) ≡ answer (q .day .lines) (q .day .places) (q .pattern) from to
+        → outcome (succs S) (length (q .day .lines)) (searchAt q from to k) ≡ solution (q .day .lines) (q .day .places) (q .pattern) from to
     unfolding searchAt
     finish-is-find k e =
         Finishing.finish-is (sizeOf q) (goal S to) (preds S) (succs S) m (expand S) (expand-law S) (fromState S) (from-law S)
         Valid low goals-ok after-ok before-ok both-ways firsts firsts-ok (trace S) (trace-table S) k e
-        ∙ answer-any (q .day .lines) (q .day .places) (q .pattern) (h .within) from to (h .from-low) (h .to-low) firsts firsts-same
+        ∙ solution-any (q .day .lines) (q .day .places) (q .pattern) (h .within) from to (h .from-low) (h .to-low) firsts firsts-same
 
 -- ---- two days with the same places and lines
 
@@ -272,15 +275,15 @@ pub same-read : (rec₁ rec₂ : List ℕ) (day₁ day₂ : Day) → readRecord 
     → day₁ .places ≡ day₂ .places → day₁ .lines ≡ day₂ .lines → readRecord rec₁ ≡ readRecord rec₂
 same-read rec₁ rec₂ day₁ day₂ r₁ r₂ places lines = r₁ ∙ ((λ i. passed (record { places = places i; lines = lines i })) ∙ sym r₂)
 
-pub same-day : (rec₁ rec₂ pat : List ℕ) (from to words : ℕ) → readRecord rec₁ ≡ readRecord rec₂ → askSearch rec₁ pat from to words ≡ askSearch rec₂ pat from to words
+pub same-day : (rec₁ rec₂ pat : List ℕ) (from to : ℕ) (options : Options) (words : ℕ) → readRecord rec₁ ≡ readRecord rec₂ → askSearch rec₁ pat from to options words ≡ askSearch rec₂ pat from to options words
 unfolding askSearch
-same-day rec₁ rec₂ pat from to words e = rw e
+same-day rec₁ rec₂ pat from to options words e = rw e
 
 -- so begin says the same and leaves the same area, and move and finish see the area alone
-pub same-told : (rec₁ rec₂ pat : List ℕ) (from to words : ℕ) → readRecord rec₁ ≡ readRecord rec₂
-    → begunTold (askSearch rec₁ pat from to words) ≡ begunTold (askSearch rec₂ pat from to words)
-same-told rec₁ rec₂ pat from to words e = ap begunTold (same-day rec₁ rec₂ pat from to words e)
+pub same-told : (rec₁ rec₂ pat : List ℕ) (from to : ℕ) (options : Options) (words : ℕ) → readRecord rec₁ ≡ readRecord rec₂
+    → begunTold (askSearch rec₁ pat from to options words) ≡ begunTold (askSearch rec₂ pat from to options words)
+same-told rec₁ rec₂ pat from to options words e = ap begunTold (same-day rec₁ rec₂ pat from to options words e)
 
-pub same-after : (rec₁ rec₂ pat : List ℕ) (from to : ℕ) (w : List ℕ) → readRecord rec₁ ≡ readRecord rec₂
-    → begunAfter (askSearch rec₁ pat from to (length w)) pat from to w ≡ begunAfter (askSearch rec₂ pat from to (length w)) pat from to w
-same-after rec₁ rec₂ pat from to w e = ap (λ o. begunAfter o pat from to w) (same-day rec₁ rec₂ pat from to (length w) e)
+pub same-after : (rec₁ rec₂ pat : List ℕ) (from to : ℕ) (options : Options) (w : List ℕ) → readRecord rec₁ ≡ readRecord rec₂
+    → begunAfter (askSearch rec₁ pat from to options (length w)) pat from to w ≡ begunAfter (askSearch rec₂ pat from to options (length w)) pat from to w
+same-after rec₁ rec₂ pat from to options w e = ap (λ o. begunAfter o pat from to w) (same-day rec₁ rec₂ pat from to options (length w) e)

@@ -3,7 +3,9 @@
 ghost use mathlib.Core.Path.{_≡_};
 ghost use Prim.Native.Nat.{_+_, _*_, _≤_, _<_, min};
 ghost use lib.ListN.{length};
+ghost use Rattle.meaning.specs.Windows.{plain};
 ghost use Rattle.meaning.specs.Request.{askSearch};
+ghost use Rattle.windows.specs.Promise.{optionsShown};
 ghost use Rattle.finder.specs.Promise.{findReply};
 ghost use Rattle.holding.specs.Holding.{tablesAt, Sound};
 ghost use Rattle.stepping.specs.Stepping.{Standing};
@@ -17,6 +19,7 @@ use request::Plan;
 use request::Request;
 use request::TABLES;
 use stepping::Going;
+use windows::Options;
 
 // What begin says, and what a move says: how many states it took up.
 pub enum BeginReply {
@@ -80,21 +83,36 @@ fn begin_loaded(work: &mut [u32], plan: Plan, pattern: &[u8], from: usize, to: u
     begun.at.put_back(work);
 }
 
-// Questions 1 to 17, where 17 asks for three more words for each line. Lines and pattern are taken into the area, and no state is taken up. The area
-// stays untouched where a question is answered no.
-pub fn begin_search(day: &[u8], pattern: &[u8], from: u16, to: u16, work: &mut [u32]) -> BeginReply
-    ensures reply { λ r. ⌜ beginReply r ≡ begunTold (askSearch (now (day .entry)) (now (pattern .entry)) from to (length (now (work .entry)))) ⌝ }
-    ensures workspace { λ _. ⌜ now (work .exit) ≡ begunAfter (askSearch (now (day .entry)) (now (pattern .entry)) from to (length (now (work .entry)))) (now (pattern .entry)) from to (now (work .entry)) ⌝ }
+// All questions up to 17, where 17 asks for three more words for each line. Lines and pattern are taken into the area, and no state is taken up. The
+// area stays untouched where a question is answered no.
+pub fn begin_search_with(
+    day: &[u8],
+    pattern: &[u8],
+    from: u16,
+    to: u16,
+    options: Options,
+    work: &mut [u32],
+) -> BeginReply
+    ensures reply { λ r. ⌜ beginReply r ≡ begunTold (askSearch (now (day .entry)) (now (pattern .entry)) from to (optionsShown options) (length (now (work .entry)))) ⌝ }
+    ensures workspace { λ _. ⌜ now (work .exit) ≡ begunAfter (askSearch (now (day .entry)) (now (pattern .entry)) from to (optionsShown options) (length (now (work .entry)))) (now (pattern .entry)) from to (now (work .entry)) ⌝ }
 {
     let mut numbers: [u16; 4096] = [0; 4096];
-    let asked = request::ask_search(day, pattern, from, to, work.len(), &mut numbers);
+    let asked = request::ask_search(day, pattern, from, to, options, work.len(), &mut numbers);
     let Request::Asked(plan) = asked else {
         return BeginReply::Refused(asked.number(), 0);
     };
     request::clear(work);
-    request::load(day, plan, &numbers, work);
+    request::load(day, plan, &numbers, options, work);
     begin_loaded(work, plan, pattern, from as usize, to as usize);
     BeginReply::Begun
+}
+
+// The same for the whole day.
+pub fn begin_search(day: &[u8], pattern: &[u8], from: u16, to: u16, work: &mut [u32]) -> BeginReply
+    ensures reply { λ r. ⌜ beginReply r ≡ begunTold (askSearch (now (day .entry)) (now (pattern .entry)) from to plain (length (now (work .entry)))) ⌝ }
+    ensures workspace { λ _. ⌜ now (work .exit) ≡ begunAfter (askSearch (now (day .entry)) (now (pattern .entry)) from to plain (length (now (work .entry)))) (now (pattern .entry)) from to (now (work .entry)) ⌝ }
+{
+    begin_search_with(day, pattern, from, to, windows::whole_day(), work)
 }
 
 // ---- move

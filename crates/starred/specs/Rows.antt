@@ -1,21 +1,22 @@
 -- Document 01's starred rows, "A day at the hut", computed from the bytes, of the definitions that the promises of the finder and the
 -- checker cite: one table, one theorem, `rows-right`. `more-right` has rows that the starred ones do not tell apart, `lists-right` rows of all
--- starts in one go. Nothing to believe.
+-- starts in one go, `windows-right` rows of windows, and `full-right` records of 4,096 lines and more. Nothing to believe.
 use mathlib.Core.Path.{_≡_, refl}
 use mathlib.Core.Bool.{Bool, true, false, cond, not, _&&_}
-use mathlib.Core.List.{List, [], _∷_, _++_}
-use Prim.Native.Nat.{ℕ}
+use mathlib.Core.List.{List, [], _∷_, _++_, map}
+use Prim.Native.Nat.{ℕ, zero, suc, _-_}
 use lib.Dec.{eqb}
 use Rattle.meaning.specs.Outcome.{Outcome, refused, passed}
-use Rattle.meaning.specs.Record.{boatsAfter, entryAt, linesFrom, readRecord}
+use Rattle.meaning.specs.Record.{Day, boatsAfter, entryAt, linesFrom, readRecord}
 use Rattle.meaning.specs.Pattern.{readPattern, readAt, commandAt, shapeOf}
 use Rattle.meaning.specs.Request.{searchSize, askRequest, allBelow, askStarts}
-use Rattle.meaning.specs.Chain.{exist}
+use Rattle.meaning.specs.Windows.{Windows, Options, firstAllowed, plain}
+use Rattle.meaning.specs.Chain.{exist, masked}
 use Rattle.boats.specs.Codes.{codes}
 use Rattle.graph.specs.Plain.{solve, found, news, look, bfs, chosen, pick, first, next, level, nearest, lesser, isAt, memb, nub, filt, flat, count}
 use Rattle.search.specs.Product.{stacks, state, placeOf, posOf, stackOf, succs, preds}
-use Rattle.search.specs.Answer.{setting, starts, answer}
-use Rattle.search.specs.Check.{moved, check}
+use Rattle.search.specs.Answer.{setting, starts, solution}
+use Rattle.search.specs.Check.{moved, checked}
 use Rattle.checker.specs.Promise.{checkOf}
 use Rattle.finder.specs.Promise.{Finding, stopped, nowhere, chain, too-long, findOf}
 use Rattle.starts.specs.Promise as All
@@ -125,15 +126,15 @@ sameCheck (passed a) (refused m) = false
 sameCheck (passed a) (passed b) = agrees a b
 
 right : Row → Bool
-right (finds rec pat a b room f) = sameFinding (findOf rec pat a b 16384 room) f
-right (checks rec pat a b c o) = sameCheck (checkOf rec pat a b c 16384) o
+right (finds rec pat a b room f) = sameFinding (findOf rec pat a b plain 16384 room) f
+right (checks rec pat a b c o) = sameCheck (checkOf rec pat a b c plain 16384) o
 
 allRight : List Row → Bool
 allRight [] = true
 allRight (r ∷ rs) = right r && allRight rs
 
 rows-right : allRight rows ≡ true
-unfolding allRight right sameCheck agrees sameFinding isStopped isNowhere isChain isLong sameChain rows R R-more R-less head-R line-bytes T E P S findOf checkOf askRequest readRecord linesFrom entryAt readPattern readAt commandAt shapeOf searchSize boatsAfter codes solve found news look bfs chosen pick first next level nearest lesser isAt memb nub filt flat count stacks state placeOf posOf stackOf succs preds setting starts answer exist moved check
+unfolding allRight right sameCheck agrees sameFinding isStopped isNowhere isChain isLong sameChain rows R R-more R-less head-R line-bytes T E P S findOf checkOf askRequest readRecord linesFrom entryAt readPattern readAt commandAt shapeOf searchSize boatsAfter codes solve found news look bfs chosen pick first next level nearest lesser isAt memb nub filt flat count stacks state placeOf posOf stackOf succs preds setting starts solution exist moved checked masked firstAllowed
 rows-right = refl
 
 -- ---- more rows
@@ -205,7 +206,7 @@ more =
     ∷ []
 
 more-right : allRight more ≡ true
-unfolding allRight right sameCheck agrees sameFinding isStopped isNowhere isChain isLong sameChain more C entered lap laps R R-more R-less head-R line-bytes T E P S findOf checkOf askRequest readRecord linesFrom entryAt readPattern readAt commandAt shapeOf searchSize boatsAfter codes solve found news look bfs chosen pick first next level nearest lesser isAt memb nub filt flat count stacks state placeOf posOf stackOf succs preds setting starts answer exist moved check
+unfolding allRight right sameCheck agrees sameFinding isStopped isNowhere isChain isLong sameChain more C entered lap laps R R-more R-less head-R line-bytes T E P S findOf checkOf askRequest readRecord linesFrom entryAt readPattern readAt commandAt shapeOf searchSize boatsAfter codes solve found news look bfs chosen pick first next level nearest lesser isAt memb nub filt flat count stacks state placeOf posOf stackOf succs preds setting starts solution exist moved checked masked firstAllowed
 more-right = refl
 
 -- ---- all starts in one go
@@ -256,12 +257,109 @@ isStart (All.lengths k) (All.too-short n) = false
 isStart (All.lengths k) (All.lengths l) = sameChain k l
 
 rightList : ListRow → Bool
-rightList (lists rec pat starts to words room s) = isStart (startsOf rec pat starts to words room) s
+rightList (lists rec pat starts to words room s) = isStart (startsOf rec pat starts to plain words room) s
 
 allRightLists : List ListRow → Bool
 allRightLists [] = true
 allRightLists (r ∷ rs) = rightList r && allRightLists rs
 
 lists-right : allRightLists lists-of ≡ true
-unfolding allRightLists rightList isStart lists-of away someLines none sameChain R head-R line-bytes P startsOf askStarts allBelow readRecord linesFrom entryAt readPattern readAt commandAt shapeOf searchSize boatsAfter codes solve found news look bfs chosen pick first next level nearest lesser isAt memb nub filt flat count stacks state placeOf posOf stackOf succs preds setting starts answer
+unfolding allRightLists rightList isStart lists-of away someLines none sameChain R head-R line-bytes P startsOf askStarts allBelow readRecord linesFrom entryAt readPattern readAt commandAt shapeOf searchSize boatsAfter codes solve found news look bfs chosen pick first next level nearest lesser isAt memb nub filt flat count stacks state placeOf posOf stackOf succs preds setting starts solution masked firstAllowed
 lists-right = refl
+
+-- ---- windows of the day
+
+-- the same with a time below 256
+timed-bytes : ℕ → ℕ → ℕ → ℕ → ℕ → ℕ → List ℕ
+timed-bytes from kind class sail to time = 0x03 ∷ 0 ∷ from ∷ kind ∷ class ∷ 0 ∷ 0 ∷ sail ∷ 0 ∷ to ∷ 0 ∷ 0 ∷ 0 ∷ time ∷ []
+
+-- so many times a number
+times : ℕ → ℕ → List ℕ → List ℕ
+times zero n rest = rest
+times (suc k) n rest = n ∷ times k n rest
+
+-- the whole day for all kinds but one, which has so many before it
+but : ℕ → ℕ → ℕ → Options
+but before opens closes =
+    record { windows = record { opens = times before 0 (opens ∷ times (14 - before) 0 []); closes = times before 86400 (closes ∷ times (14 - before) 86400 []) } }
+
+-- one line of kind 1, at 5; two more of kinds 2 and 1, at 7 and untimed, on to the next place
+one-timed : List ℕ
+one-timed = 0x01 ∷ 0 ∷ 1 ∷ (timed-bytes 0 1 1 1 0 5 ++ (0x00 ∷ []))
+
+three-lines : List ℕ
+three-lines = 0x01 ∷ 0 ∷ 2 ∷ (timed-bytes 0 1 1 1 1 5 ++ (timed-bytes 0 2 1 2 1 7 ++ (line-bytes 0 1 1 3 1 ++ (0x00 ∷ []))))
+
+-- a line of kind 1, or one of kind 2
+either-kind : List ℕ
+either-kind = 0x24 ∷ 0x21 ∷ 1 ∷ 0x21 ∷ 2 ∷ []
+
+data WindowRow : Type 0 where
+  finds-in : List ℕ → List ℕ → ℕ → ℕ → Options → ℕ → Finding → WindowRow
+  checks-in : List ℕ → List ℕ → ℕ → ℕ → List ℕ → Options → Outcome Bool → WindowRow
+  starts-in : List ℕ → List ℕ → List ℕ → ℕ → Options → ℕ → Starting → WindowRow
+
+window-rows : List WindowRow
+window-rows =
+    -- the opening second is inside, the closing second is not
+    finds-in one-timed (0x21 ∷ 1 ∷ []) 0 0 (but 0 5 6) 16384 (chain (0 ∷ []))
+    ∷ finds-in one-timed (0x21 ∷ 1 ∷ []) 0 0 (but 0 0 5) 16384 nowhere
+    ∷ finds-in one-timed (0x21 ∷ 1 ∷ []) 0 0 (but 0 6 7) 16384 nowhere
+    -- lines keep their numbers, and an untimed line is inside the whole day alone
+    ∷ finds-in three-lines (0x21 ∷ 1 ∷ []) 0 1 (but 0 6 86400) 16384 nowhere
+    ∷ finds-in three-lines either-kind 0 1 (but 0 6 86400) 16384 (chain (1 ∷ []))
+    ∷ finds-in three-lines either-kind 0 1 (but 1 0 7) 16384 (chain (0 ∷ []))
+    ∷ finds-in three-lines (0x21 ∷ 2 ∷ []) 0 1 (but 1 0 7) 16384 nowhere
+    ∷ finds-in three-lines (0x21 ∷ 1 ∷ []) 0 1 (but 14 5 6) 16384 (chain (0 ∷ []))
+    -- a line outside is no, and not 18; a line that is not there is 18
+    ∷ checks-in three-lines either-kind 0 1 (0 ∷ []) (but 0 6 7) (passed false)
+    ∷ checks-in three-lines either-kind 0 1 (1 ∷ []) (but 0 6 7) (passed true)
+    ∷ checks-in three-lines either-kind 0 1 (2 ∷ []) (but 0 0 86399) (passed false)
+    ∷ checks-in three-lines either-kind 0 1 (3 ∷ []) (but 0 6 7) (refused 18)
+    -- all starts see the windows too
+    ∷ starts-in three-lines (0x21 ∷ 2 ∷ []) (0 ∷ 1 ∷ []) 1 (but 1 7 8) 16384 (All.lengths (1 ∷ none ∷ []))
+    ∷ starts-in three-lines (0x21 ∷ 2 ∷ []) (0 ∷ 1 ∷ []) 1 (but 1 8 9) 16384 (All.lengths (none ∷ none ∷ []))
+    -- 27 of a kind that no line has, after 15 and before 17
+    ∷ finds-in three-lines either-kind 0 1 (but 14 5 5) 0 (stopped 27)
+    ∷ finds-in three-lines either-kind 0 1 (but 14 5 86401) 16384 (stopped 27)
+    ∷ finds-in three-lines either-kind 0 2 (but 14 5 5) 0 (stopped 15)
+    ∷ starts-in three-lines either-kind (0 ∷ []) 1 (but 14 6 5) 0 (All.stopped 27)
+    -- the boats of lines outside count: with two more boats the size is 2 × 3 × 4, and one word less is too few
+    ∷ finds-in three-lines (0x27 ∷ 1 ∷ 0 ∷ 0x20 ∷ []) 0 1 (but 0 5 6) 8288 (chain (0 ∷ []))
+    ∷ finds-in three-lines (0x27 ∷ 1 ∷ 0 ∷ 0x20 ∷ []) 0 1 (but 0 5 6) 8287 (stopped 17)
+    ∷ []
+
+rightIn : WindowRow → Bool
+rightIn (finds-in rec pat a b o words f) = sameFinding (findOf rec pat a b o words 16) f
+rightIn (checks-in rec pat a b c o r) = sameCheck (checkOf rec pat a b c o 16384) r
+rightIn (starts-in rec pat l to o words r) = isStart (startsOf rec pat l to o words 16) r
+
+allRightIn : List WindowRow → Bool
+allRightIn [] = true
+allRightIn (r ∷ rs) = rightIn r && allRightIn rs
+
+windows-right : allRightIn window-rows ≡ true
+unfolding allRightIn rightIn window-rows one-timed three-lines either-kind but times timed-bytes isStart none sameCheck agrees sameFinding isStopped isNowhere isChain isLong sameChain line-bytes findOf checkOf startsOf askRequest askStarts allBelow readRecord linesFrom entryAt readPattern readAt commandAt shapeOf searchSize boatsAfter codes solve found news look bfs chosen pick first next level nearest lesser isAt memb nub filt flat count stacks state placeOf posOf stackOf succs preds setting starts solution exist moved checked masked firstAllowed
+windows-right = refl
+
+-- ---- full records
+
+-- so many lines, and what follows them
+many : ℕ → List ℕ → List ℕ → List ℕ
+many zero line rest = rest
+many (suc n) line rest = line ++ many n line rest
+
+full : List ℕ → List ℕ → List ℕ
+full line rest = 0x01 ∷ 0 ∷ 1 ∷ many 4096 line rest
+
+numberOf : Outcome Day → ℕ
+numberOf (refused n) = n
+numberOf (passed day) = 0
+
+-- 4,096 lines with times and without; a 4,097th of either sort, whole or cut, before 4; a byte that is no line; bytes after the end
+full-right : map (λ s. numberOf (readRecord s))
+    (full (line-bytes 0 1 1 1 0) (0x00 ∷ []) ∷ full (timed-bytes 0 1 1 1 0 5) (0x00 ∷ []) ∷ full (line-bytes 0 1 1 1 0) (line-bytes 0 1 1 1 0 ++ (0x00 ∷ []))
+    ∷ full (line-bytes 0 1 1 1 0) (0x03 ∷ []) ∷ full (timed-bytes 0 1 1 1 0 5) [] ∷ full (line-bytes 0 1 1 1 0) (0x04 ∷ []) ∷ full (timed-bytes 0 1 1 1 0 5) (0x00 ∷ 0x00 ∷ []) ∷ [])
+    ≡ 0 ∷ 0 ∷ 22 ∷ 22 ∷ 3 ∷ 3 ∷ 1 ∷ []
+unfolding full many numberOf line-bytes timed-bytes readRecord linesFrom entryAt
+full-right = refl

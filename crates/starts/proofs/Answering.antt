@@ -16,7 +16,7 @@ use Rattle.graph.specs.PhaseOne.{waiting, queue-distinct, queue-room}
 use Rattle.graph.specs.Queue.{Distinct}
 use Rattle.graph.specs.PhaseTwo.{nearestWord, wordOf, forward-word}
 use Rattle.search.specs.Along.{goal, starting}
-use Rattle.search.specs.Answer.{answer}
+use Rattle.search.specs.Answer.{solution}
 use Rattle.search.specs.Loaded.{settingIn}
 use Rattle.search.specs.Moves.{expand, fromState, expand-law, from-law}
 use Rattle.search.specs.Product.{Setting, preds}
@@ -26,7 +26,7 @@ use Rattle.forward.specs.Posed.{Posed}
 use Rattle.forward.proofs.Firsts.{first-states}
 use Rattle.forward.proofs.Posing.{posed-tables}
 use Rattle.states.specs.Spots.{front}
-use Rattle.starts.specs.Promise.{lengthFrom, lengthsOf, lengths, lengthsAfter}
+use Rattle.starts.specs.Promise.{lengthOf, lengths, lengthsAfter}
 use Rattle.starts.specs.Highest.{all-below}
 use Rattle.starts.specs.Lengths.{lengthBy, by-word, lengthAt, reachedIn, Searched}
 
@@ -43,14 +43,14 @@ module _ {q : Asked} {pat : List ℕ} {plan : Plan} {to : ℕ} {w : List ℕ} (p
   from a = starting In a (members begin)
 
   -- the length from one place
-  one : (a : ℕ) → a < q .day .places → lengthAt plan begin D a ≡ lengthFrom q to a
+  one : (a : ℕ) → a < q .day .places → lengthAt plan begin D a ≡ lengthOf (solution (q .day .lines) (q .day .places) (q .pattern) a to)
   one a low =
       let first = first-states program plan (length w) (posed .laid) (front plan w) begin a (λ k m. omega (arith, posed .planned .done-is, compiled-start compiled k m .0)) in
       let is = loaded-ended q plan (length w) (posed .planned) (posed .laid) (front plan w) (posed-tables posed) (posed .fit) program begin compiled a to
       (expand In) (expand-law In) (fromState In) (from-law In) low (posed .to-low) (s .count) (inl (ended-none _ (s .ended))) in
       ap (λ firsts. lengthBy (nearestWord D firsts)) first
       ∙ (ap lengthBy (sym (forward-word (fromState In) (plan .size) (plan .lines) (from a) D))
-      ∙ (ap (λ o. lengthBy (wordOf o)) is ∙ by-word (answer (q .day .lines) (q .day .places) (q .pattern) a to)))
+      ∙ (ap (λ o. lengthBy (wordOf o)) is ∙ by-word (solution (q .day .lines) (q .day .places) (q .pattern) a to)))
 
   -- the states that the search took up are its queue's, of which none stands there twice, and which has at most as many as the search size
   pub posed-once : let u = reachedIn In plan to (s .count) in (waiting u ≡ []) × Distinct (u .table .queue) × (length (u .table .queue) ≤ plan .size)
@@ -65,8 +65,8 @@ module _ {q : Asked} {pat : List ℕ} {plan : Plan} {to : ℕ} {w : List ℕ} (p
         queue-room (preds In) (expand In) (expand-law In) (plan .size) _ low ok (goal In to ∷ []) goal-in (s .count),
       )
 
-  pub posed-lengths : allBelow (plan .places) starts ≡ true → after ≡ lengthsAfter (lengths (lengthsOf q starts to)) old
+  pub posed-lengths : allBelow (plan .places) starts ≡ true → after ≡ lengthsAfter (lengths (map (λ a. lengthOf (solution (q .day .lines) (q .day .places) (q .pattern) a to)) starts)) old
   posed-lengths below =
-      let f = lengthFrom q to in
+      let f : ℕ → ℕ = λ a. lengthOf (solution (q .day .lines) (q .day .places) (q .pattern) a to) in
       let all = map-same (lengthAt plan begin D) f starts (λ a m. one a (omega (arith, all-below (plan .places) starts below a m, posed .planned .places-are))) in
       s .after-is ∙ (ap (_++ drop (length starts) old) all ∙ ap (λ n. map f starts ++ drop n old) (sym (length-map starts f)))

@@ -15,7 +15,8 @@ use borrow.Author.Tests.{ltb-true, lt-ltb, le-ltb}
 use Rattle.lists.specs.Listed.{_∈_, none-in}
 use Rattle.record.specs.Outcomes.{passed-inj, and-true, ask-passed, andThen-passed}
 use Rattle.meaning.specs.Outcome.{passed, ask, andThen}
-use Rattle.meaning.specs.Request.{Asked, sizeOf, need, askBoth, askRequest, allBelow, askStarts}
+use Rattle.meaning.specs.Windows.{Options, windowsAllowed}
+use Rattle.meaning.specs.Request.{Asked, sizeOf, need, askBoth, askWindows, askRequest, allBelow, askStarts}
 
 -- the higher of two places
 unfoldable pub higherOf : ℕ → ℕ → ℕ
@@ -84,9 +85,9 @@ below-all count (a ∷ rest) most =
 
 -- ---- the questions
 
-pub starts-asked : (rec pat starts : List ℕ) (to words : ℕ) → askStarts rec pat starts to words ≡ askRequest rec pat (highestOf starts to) to words
+pub starts-asked : (rec pat starts : List ℕ) (to : ℕ) (options : Options) (words : ℕ) → askStarts rec pat starts to options words ≡ askRequest rec pat (highestOf starts to) to options words
 unfolding askStarts askRequest
-starts-asked rec pat starts to words = ap (andThen (askBoth rec pat)) (fun-ext (λ q. ap (λ t. ask t 15 (ask (leb (sizeOf q) 1048576) 16 (ask (leb (need (sizeOf q)) words) 17 (passed q)))) (sym (same (q .day .places)))))
+starts-asked rec pat starts to options words = ap (andThen (askBoth rec pat options)) (fun-ext (λ q. ap (λ t. ask t 15 (askWindows q (ask (leb (sizeOf q) 1048576) 16 (ask (leb (need (sizeOf q)) words) 17 (passed q))))) (sym (same (q .day .places)))))
   where
     -- the finishing place is below the count where the highest is
     again : (x y : Bool) → ((x && y) && y) ≡ (x && y)
@@ -108,20 +109,21 @@ all-below count (b ∷ rest) h a i =
     ⊎-elim (λ e. subst (_< count) (sym e) (ltb-true _ _ low)) (λ j. all-below count rest later a j) (List·Memᴰ·cases-cons i)
 
 -- what passes the questions of all starts passes those of a request from a listed place
-pub asked-from : (rec pat starts : List ℕ) (to words : ℕ) (q : Asked) → askStarts rec pat starts to words ≡ passed q → (a : ℕ) → a ∈ starts → askRequest rec pat a to words ≡ passed q
+pub asked-from : (rec pat starts : List ℕ) (to : ℕ) (options : Options) (words : ℕ) (q : Asked) → askStarts rec pat starts to options words ≡ passed q → (a : ℕ) → a ∈ starts → askRequest rec pat a to options words ≡ passed q
 unfolding askStarts askRequest
-asked-from rec pat starts to words q h a i =
-    let (b, e, rest) = andThen-passed (askBoth rec pat) _ q h in
+asked-from rec pat starts to options words q h a i =
+    let (b, e, rest) = andThen-passed (askBoth rec pat options) _ q h in
     let (places, more) = ask-passed (allBelow (b .day .places) starts && ltb to (b .day .places)) 15 _ q rest in
     let (all, low) = and-true (allBelow (b .day .places) starts) (ltb to (b .day .places)) places in
     rw (e, lt-ltb a (b .day .places) (all-below (b .day .places) starts all a i), low) more
 
 -- and all listed places are below its count
-pub asked-below : (rec pat starts : List ℕ) (to words : ℕ) (q : Asked) → askStarts rec pat starts to words ≡ passed q → allBelow (q .day .places) starts ≡ true
+pub asked-below : (rec pat starts : List ℕ) (to : ℕ) (options : Options) (words : ℕ) (q : Asked) → askStarts rec pat starts to options words ≡ passed q → allBelow (q .day .places) starts ≡ true
 unfolding askStarts
-asked-below rec pat starts to words q h =
-    let (b, e, rest) = andThen-passed (askBoth rec pat) _ q h in
+asked-below rec pat starts to options words q h =
+    let (b, e, rest) = andThen-passed (askBoth rec pat options) _ q h in
     let (places, more) = ask-passed (allBelow (b .day .places) starts && ltb to (b .day .places)) 15 _ q rest in
-    let (small, last) = ask-passed (leb (sizeOf b) 1048576) 16 _ q more in
+    let (windows, sized) = ask-passed (windowsAllowed (b .options .windows)) 27 _ q more in
+    let (small, last) = ask-passed (leb (sizeOf b) 1048576) 16 _ q sized in
     let (room, same) = ask-passed (leb (need (sizeOf b)) words) 17 (passed b) q last in
     subst (λ (z : Asked). allBelow (z .day .places) starts ≡ true) (passed-inj same) (and-true (allBelow (b .day .places) starts) (ltb to (b .day .places)) places .0)

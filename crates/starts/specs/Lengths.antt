@@ -12,12 +12,13 @@ use Rattle.graph.specs.Early.{Ended}
 use Rattle.graph.specs.PhaseOne.{Progress, advanceBy}
 use Rattle.graph.specs.PhaseTwo.{nearestWord, wordOf}
 use Rattle.graph.specs.Table.{blank}
+use Rattle.search.specs.Answer.{solution}
 use Rattle.search.specs.Moves.{expand}
 use Rattle.search.specs.Product.{Setting}
 use Rattle.forward.specs.Firsts.{firstStates}
 use Rattle.forward.specs.Posed.{Posed}
 use Rattle.backward.specs.Stopped.{fromGoals}
-use Rattle.starts.specs.Promise.{noLength, lengthOf, lengthsOf, lengths, lengthsAfter}
+use Rattle.starts.specs.Promise.{noLength, lengthOf, lengths, lengthsAfter}
 
 -- ---- one place
 
@@ -64,4 +65,4 @@ pub record Searched (S : Setting) (plan : Plan) (begin : ℕ) (starts : List ℕ
 
 -- for every request that the area is of
 abbrev pub RightFor : List ℕ → Plan → List ℕ → ℕ → List ℕ → List ℕ → List ℕ → Type 0
-RightFor pat plan starts to w old after = (q : Asked) → Posed q pat plan to to w → after ≡ lengthsAfter (lengths (lengthsOf q starts to)) old
+RightFor pat plan starts to w old after = (q : Asked) → Posed q pat plan to to w → after ≡ lengthsAfter (lengths (map (λ a. lengthOf (solution (q .day .lines) (q .day .places) (q .pattern) a to)) starts)) old

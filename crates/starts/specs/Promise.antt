@@ -9,11 +9,12 @@ use Prim.Native.Nat.{ℕ, _<_}
 use lib.Dec.{leb}
 use lib.ListN.{length, drop, getD}
 use Rattle.meaning.specs.Outcome.{Outcome, refused, passed, Reply, value, refusal}
-use Rattle.meaning.specs.Record.{Line, Day, readRecord}
+use Rattle.meaning.specs.Record.{Day, readRecord}
 use Rattle.meaning.specs.Pattern.{Pattern, readPattern, noneGiven}
+use Rattle.meaning.specs.Windows.{Options}
 use Rattle.meaning.specs.Chain.{Accepted, First}
 use Rattle.meaning.specs.Request.{Asked, askStarts}
-use Rattle.search.specs.Answer.{answer}
+use Rattle.search.specs.Asked.{answer}
 use Rattle.starts.specs.declared.StartsReply.{StartsReply}
 use Rattle.starts.specs.declared.StartsReply.the-variants as Starts
 
@@ -28,7 +29,7 @@ lengthOf (some c) = length c
 
 -- from the place a to the place `to`
 abbrev pub lengthFrom : Asked → ℕ → ℕ → ℕ
-lengthFrom q to a = lengthOf (answer (q .day .lines) (q .day .places) (q .pattern) a to)
+lengthFrom q to a = lengthOf (answer q a to)
 
 -- from the listed places, in the list's order
 abbrev pub lengthsOf : Asked → List ℕ → ℕ → List ℕ
@@ -45,9 +46,10 @@ abbrev pub searched : Outcome Asked → List ℕ → ℕ → ℕ → Starting
 searched (refused number) starts to room = stopped number
 searched (passed q) starts to room = cond (leb (length starts) room) (lengths (lengthsOf q starts to)) (too-short (length starts))
 
--- the whole reply: record, pattern, listed places, finishing place, work area of so many words, room for so many lengths
-unfoldable pub startsOf : List ℕ → List ℕ → List ℕ → ℕ → ℕ → ℕ → Starting
-startsOf rec pat starts to words room = searched (askStarts rec pat starts to words) starts to room
+-- the whole reply: record, pattern, listed places, finishing place, what goes with the question, work area of so many words, room for so many
+-- lengths
+unfoldable pub startsOf : List ℕ → List ℕ → List ℕ → ℕ → Options → ℕ → ℕ → Starting
+startsOf rec pat starts to options words room = searched (askStarts rec pat starts to options words) starts to room
 
 -- ---- the documents' number and values of each reply
 
@@ -72,15 +74,15 @@ lengthsAfter (lengths l) old = l ++ drop (length l) old
 -- ---- demand 3: each length, in terms of accepted chains of any length
 
 -- the mark: no chain of any length is accepted. Any other: a chain of that length is accepted and comes before every other
-pub record LengthSays (lines : List Line) (p : Pattern) (a b n : ℕ) : Type 0 where
-  pub none-accepted : n ≡ noLength → (c : List ℕ) → Accepted lines p a b c → ⊥
-  pub first-has : (n ≡ noLength → ⊥) → (c : List ℕ) × First lines p a b c × (length c ≡ n)
+pub record LengthSays (q : Asked) (a b n : ℕ) : Type 0 where
+  pub none-accepted : n ≡ noLength → (c : List ℕ) → Accepted q a b c → ⊥
+  pub first-has : (n ≡ noLength → ⊥) → (c : List ℕ) × First q a b c × (length c ≡ n)
 
 -- where the reply is no refusal it is the count of the listed places, and each has its length, for every record and pattern that the bytes
 -- read as
-abbrev pub Shortest : List ℕ → List ℕ → List ℕ → ℕ → Reply ℕ → List ℕ → Type 0
-Shortest rec pat starts to (refusal number second) after = Unit {0}
-Shortest rec pat starts to (value n) after =
+abbrev pub Shortest : List ℕ → List ℕ → List ℕ → ℕ → Options → Reply ℕ → List ℕ → Type 0
+Shortest rec pat starts to options (refusal number second) after = Unit {0}
+Shortest rec pat starts to options (value n) after =
     (n ≡ length starts)
     × ((day : Day) (p : Pattern) → readRecord rec ≡ passed day → readPattern noneGiven pat ≡ passed p
-    → (i : ℕ) → i < length starts → LengthSays (day .lines) p (getD starts i 0) to (getD after i 0))
+    → (i : ℕ) → i < length starts → LengthSays (record { day = day; pattern = p; options = options }) (getD starts i 0) to (getD after i 0))

@@ -5,7 +5,9 @@ ghost use mathlib.Core.Path.{_≡_};
 ghost use mathlib.Core.Bool.{true};
 ghost use Prim.Native.Nat.{_<_, _≤_};
 ghost use lib.ListN.{length, getD};
+ghost use Rattle.meaning.specs.Windows.{plain};
 ghost use Rattle.meaning.specs.Request.{allBelow, askStarts, workAfter};
+ghost use Rattle.windows.specs.Promise.{optionsShown};
 ghost use Rattle.request.specs.Layout.{Laid};
 ghost use Rattle.search.specs.Loaded.{settingAt};
 ghost use Rattle.states.specs.Pairs.{distances};
@@ -16,6 +18,7 @@ ghost use Rattle.starts.specs.Lengths.{lengthBy, lengthAt, written, Sear
 ghost use Rattle.starts.specs.Promise.{startsReply, startsOf, told, lengthsAfter, Shortest};
 use request::Plan;
 use request::Request;
+use windows::Options;
 
 // What is said of all starts: how many lengths were written, one for each listed place, or a refusal.
 pub enum StartsReply {
@@ -128,10 +131,41 @@ fn search_loaded(
     search_once(work, plan, &program, begin, starts, to, lengths)
 }
 
-// Questions 1 to 17, of every listed place and of the finishing place, then 19: do the lengths fit? Then the search: the length of the
+// All questions, 15 of every listed place and of the finishing place, then 19: do the lengths fit? Then the search: the length of the
 // first shortest chain from each listed place to the finishing place, or 4,294,967,295 where there is none. The area stays untouched where
 // a question up to 17 is answered no, and is all zeros after every other reply; the lengths stand in front, in the list's order, and all
 // other words stay.
+pub fn all_starts_with(
+    day: &[u8],
+    pattern: &[u8],
+    starts: &[u16],
+    to: u16,
+    options: Options,
+    work: &mut [u32],
+    lengths: &mut [u32],
+) -> StartsReply
+    ensures reply { λ r. ⌜ startsReply r ≡ told (startsOf (now (day .entry)) (now (pattern .entry)) (now (starts .entry)) to (optionsShown options) (length (now (work .entry))) (length (now (lengths .entry)))) ⌝ }
+    ensures workspace { λ _. ⌜ now (work .exit) ≡ workAfter (askStarts (now (day .entry)) (now (pattern .entry)) (now (starts .entry)) to (optionsShown options) (length (now (work .entry)))) (now (work .entry)) ⌝ }
+    ensures lengths { λ _. ⌜ now (lengths .exit) ≡ lengthsAfter (startsOf (now (day .entry)) (now (pattern .entry)) (now (starts .entry)) to (optionsShown options) (length (now (work .entry))) (length (now (lengths .entry)))) (now (lengths .entry)) ⌝ }
+    ensures shortest { λ r. ⌜ Shortest (now (day .entry)) (now (pattern .entry)) (now (starts .entry)) to (optionsShown options) (startsReply r) (now (lengths .exit)) ⌝ }
+{
+    let mut numbers: [u16; 4096] = [0; 4096];
+    let most = highest(starts, to);
+    let asked = request::ask_request(day, pattern, most, to, options, work.len(), &mut numbers);
+    let Request::Asked(plan) = asked else {
+        return StartsReply::Refused(asked.number(), 0);
+    };
+    if lengths.len() < starts.len() {
+        request::clear(work);
+        return StartsReply::Refused(19, starts.len());
+    }
+    request::load(day, plan, &numbers, options, work);
+    search_loaded(pattern, plan, starts, to as usize, work, lengths);
+    request::clear(work);
+    StartsReply::Lengths(starts.len())
+}
+
+// The same for the whole day.
 pub fn all_starts(
     day: &[u8],
     pattern: &[u8],
@@ -140,23 +174,18 @@ pub fn all_starts(
     work: &mut [u32],
     lengths: &mut [u32],
 ) -> StartsReply
-    ensures reply { λ r. ⌜ startsReply r ≡ told (startsOf (now (day .entry)) (now (pattern .entry)) (now (starts .entry)) to (length (now (work .entry))) (length (now (lengths .entry)))) ⌝ }
-    ensures workspace { λ _. ⌜ now (work .exit) ≡ workAfter (askStarts (now (day .entry)) (now (pattern .entry)) (now (starts .entry)) to (length (now (work .entry)))) (now (work .entry)) ⌝ }
-    ensures lengths { λ _. ⌜ now (lengths .exit) ≡ lengthsAfter (startsOf (now (day .entry)) (now (pattern .entry)) (now (starts .entry)) to (length (now (work .entry))) (length (now (lengths .entry)))) (now (lengths .entry)) ⌝ }
-    ensures shortest { λ r. ⌜ Shortest (now (day .entry)) (now (pattern .entry)) (now (starts .entry)) to (startsReply r) (now (lengths .exit)) ⌝ }
+    ensures reply { λ r. ⌜ startsReply r ≡ told (startsOf (now (day .entry)) (now (pattern .entry)) (now (starts .entry)) to plain (length (now (work .entry))) (length (now (lengths .entry)))) ⌝ }
+    ensures workspace { λ _. ⌜ now (work .exit) ≡ workAfter (askStarts (now (day .entry)) (now (pattern .entry)) (now (starts .entry)) to plain (length (now (work .entry)))) (now (work .entry)) ⌝ }
+    ensures lengths { λ _. ⌜ now (lengths .exit) ≡ lengthsAfter (startsOf (now (day .entry)) (now (pattern .entry)) (now (starts .entry)) to plain (length (now (work .entry))) (length (now (lengths .entry)))) (now (lengths .entry)) ⌝ }
+    ensures shortest { λ r. ⌜ Shortest (now (day .entry)) (now (pattern .entry)) (now (starts .entry)) to plain (startsReply r) (now (lengths .exit)) ⌝ }
 {
-    let mut numbers: [u16; 4096] = [0; 4096];
-    let most = highest(starts, to);
-    let asked = request::ask_request(day, pattern, most, to, work.len(), &mut numbers);
-    let Request::Asked(plan) = asked else {
-        return StartsReply::Refused(asked.number(), 0);
-    };
-    if lengths.len() < starts.len() {
-        request::clear(work);
-        return StartsReply::Refused(19, starts.len());
-    }
-    request::load(day, plan, &numbers, work);
-    search_loaded(pattern, plan, starts, to as usize, work, lengths);
-    request::clear(work);
-    StartsReply::Lengths(starts.len())
+    all_starts_with(
+        day,
+        pattern,
+        starts,
+        to,
+        windows::whole_day(),
+        work,
+        lengths,
+    )
 }

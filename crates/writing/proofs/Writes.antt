@@ -5,21 +5,21 @@ use mathlib.Core.Bool.{Bool, true, false}
 use mathlib.Core.List.{List, [], _∷_, _++_, append-nil}
 use Prim.Native.Nat.{ℕ, _+_, _-_, _<_, _≤_}
 use native.Mathlib.Omega.{arith}
-use lib.Dec.{ltb, leb}
 use lib.ListN.{length, take, drop, length-drop, drop-of-length-le}
 use lib.Seq.{drop-drop, take-length, length-take-le}
-use borrow.Author.Tests.{ltb-true, leb-true, le-leb}
+use borrow.Author.Tests.{le-leb}
 use borrow.Rule.Slice.PartMut.{putMid}
 use types.Run.{OneOf}
 use denote.Enum.Declared.{tagOf}
 use Rattle.meaning.specs.Outcome.{Outcome, refused, passed, ask, told}
-use Rattle.meaning.specs.Record.{Line, line, askLine, placesBelow, kindAllowed, readRecord}
-use Rattle.meaning.specs.Writing.{written, unlessRefused, askNew, addOf}
+use Rattle.meaning.specs.Record.{Line, line, width, askLine, placesBelow, kindAllowed, timeAllowed, bytesOf, readRecord}
+use Rattle.meaning.specs.Writing.{written, unlessRefused, askNew, addOf, addAfter}
 use Rattle.record.specs.Reading.{entryTold, entryNumber, readingTold}
 use Rattle.writing.specs.Promise.{writeReply}
 use Rattle.writing.specs.Asking.{writeTold}
-use Rattle.record.specs.Outcomes.{passed-inj, ask-passed}
+use Rattle.writing.specs.Added.{adds}
 use Rattle.record.specs.Whole.{record-length, reading-passed}
+use Rattle.writing.specs.declared.WriteReply.{WriteReply}
 use Rattle.writing.specs.declared.WriteReply.the-variants as Write
 use Rattle.record.specs.declared.Entry.{Entry as EntryEnum}
 use Rattle.record.specs.declared.Entry.the-variants as At
@@ -34,50 +34,28 @@ put-written at new buf last e =
     let nothing-after : drop (length buf - at) (drop at buf) ≡ [] = drop-of-length-le (drop at buf) {i = length buf - at} (omega (arith, length-drop at buf)) in
     rw (nothing-after, append-nil, back)
 
--- ---- replies
-
-pub reply-told : (o : Outcome ℕ) → writeReply (writeTold o) ≡ told o
-reply-told (refused number) = refl
-reply-told (passed n) = refl
-
--- a reply that is a refusal leaves the buffer, one that is a length changes it
-pub refusal-keeps : (o : Outcome ℕ) (number second : ℕ) (changed buffer : List ℕ) → Write.Refused number second ≡ writeTold o → unlessRefused o changed buffer ≡ buffer
-refusal-keeps (refused q) number second changed buffer h = refl
-refusal-keeps (passed n) number second changed buffer h = absurd (let z : _≡_ {A = ℕ} 0 1 = cc in omega arith)
-
-pub length-told : (o : Outcome ℕ) (n : ℕ) → Write.Length n ≡ writeTold o → o ≡ passed n
-length-told (refused q) n h = absurd (let z : _≡_ {A = ℕ} 0 1 = cc in omega arith)
-length-told (passed m) n h = ap passed cc
-
 -- ---- the questions about a new line
 
 module _ (places : ℕ) (l : Line) where
-  -- told a line, questions 5 and 6 passed, and the others come next
-  pub line-asked : At.Line ≡ entryTold (askLine places l (passed (line l))) → (rest : Outcome ℕ) → askLine places l rest ≡ rest
-  line-asked t rest = go (placesBelow places l) (kindAllowed (l .kind)) t
+  -- told a line of so many bytes, questions 5, 6 and 28 passed, and the others come next
+  pub line-asked : (n : ℕ) → At.Line n ≡ entryTold (askLine places l (passed (line l))) → (n ≡ width l) × ((rest : Outcome ℕ) → askLine places l rest ≡ rest)
+  line-asked n t = go (placesBelow places l) (kindAllowed (l .kind)) (timeAllowed (l .time)) t
     where
-      go : (b d : Bool) → At.Line ≡ entryTold (ask b 5 (ask d 6 (passed (line l)))) → ask b 5 (ask d 6 rest) ≡ rest
-      go true true h = refl
-      go true false h = absurd (let z : _≡_ {A = ℕ} 0 1 = cc in omega arith)
-      go false d h = absurd (let z : _≡_ {A = ℕ} 0 1 = cc in omega arith)
+      go : (b d m : Bool) → At.Line n ≡ entryTold (ask b 5 (ask d 6 (ask m 28 (passed (line l))))) → (n ≡ width l) × ((rest : Outcome ℕ) → ask b 5 (ask d 6 (ask m 28 rest)) ≡ rest)
+      go true true true h = (cc, λ rest. refl)
+      go true true false h = absurd (let z : _≡_ {A = ℕ} 0 1 = cc in omega arith)
+      go true false m h = absurd (let z : _≡_ {A = ℕ} 0 1 = cc in omega arith)
+      go false d m h = absurd (let z : _≡_ {A = ℕ} 0 1 = cc in omega arith)
 
   -- told anything else, its number is the reply's
   pub line-refused : (e : EntryEnum) → OneOf (1 ∷ 2 ∷ []) (tagOf the-type e) → e ≡ entryTold (askLine places l (passed (line l))) → (rest : Outcome ℕ) → Write.Refused (entryNumber e) 0 ≡ writeTold (askLine places l rest)
-  line-refused e tag t rest = go (placesBelow places l) (kindAllowed (l .kind)) t
+  line-refused e tag t rest = go (placesBelow places l) (kindAllowed (l .kind)) (timeAllowed (l .time)) t
     where
-      go : (b d : Bool) → e ≡ entryTold (ask b 5 (ask d 6 (passed (line l)))) → Write.Refused (entryNumber e) 0 ≡ writeTold (ask b 5 (ask d 6 rest))
-      go true true h = absurd (not-line e tag h)
-      go true false h = ap (λ (x : EntryEnum). Write.Refused (entryNumber x) 0) h
-      go false d h = ap (λ (x : EntryEnum). Write.Refused (entryNumber x) 0) h
-
-pub new-fits : (places lines room len : ℕ) (l : Line) (n : ℕ) → askNew places lines room len l ≡ passed n → (l .boat .sail < 16777216) × (len + 10 ≤ room) × (n ≡ len + 10)
-new-fits places lines room len l n h =
-    let (a, g) = ask-passed (placesBelow places l) 5 _ n h in
-    let (b, f) = ask-passed (kindAllowed (l .kind)) 6 _ n g in
-    let (c, e) = ask-passed (ltb (l .boat .sail) 16777216) 21 _ n f in
-    let (d, i) = ask-passed (ltb lines 4096) 22 _ n e in
-    let (j, k) = ask-passed (leb (len + 10) room) 23 _ n i in
-    (ltb-true _ _ c, leb-true _ _ j, sym (passed-inj k))
+      go : (b d m : Bool) → e ≡ entryTold (ask b 5 (ask d 6 (ask m 28 (passed (line l))))) → Write.Refused (entryNumber e) 0 ≡ writeTold (ask b 5 (ask d 6 (ask m 28 rest)))
+      go true true true h = absurd (not-line e tag (width l) h)
+      go true true false h = ap (λ (x : EntryEnum). Write.Refused (entryNumber x) 0) h
+      go true false m h = ap (λ (x : EntryEnum). Write.Refused (entryNumber x) 0) h
+      go false d m h = ap (λ (x : EntryEnum). Write.Refused (entryNumber x) 0) h
 
 -- ---- adding a line
 
@@ -87,14 +65,49 @@ module _ (buffer : List ℕ) (len : ℕ) (l : Line) (inside : len ≤ length buf
   add-refused number e = simp (le-leb _ _ inside, e)
 
   -- the record read, the reply is that about the new line
-  pub add-asked : (places lines : ℕ) → Reading.Record places lines ≡ readingTold (readRecord (take len buffer)) → addOf buffer len l ≡ askNew places lines (length buffer) len l
+  pub add-asked : (places lines : ℕ) (r : WriteReply) → Reading.Record places lines ≡ readingTold (readRecord (take len buffer)) → r ≡ writeTold (askNew places lines (length buffer) len l) → r ≡ writeTold (addOf buffer len l)
   unfolding addOf
-  add-asked places lines t =
+  add-asked places lines r t h =
       let (day, e, p, m) = reading-passed (readRecord (take len buffer)) places lines t in
-      simp (le-leb _ _ inside, e) (ap (λ (x : ℕ). askNew x (length (day .lines)) (length buffer) len l) (sym p) ∙ ap (λ (x : ℕ). askNew places x (length buffer) len l) (sym m))
+      rw (le-leb len (length buffer) inside, e) (h ∙ (λ i. writeTold (askNew (p i) (m i) (length buffer) len l)))
 
-  -- and the record is four bytes long at least
-  pub add-long : (places lines : ℕ) → Reading.Record places lines ≡ readingTold (readRecord (take len buffer)) → 4 ≤ len
-  add-long places lines t =
-      let (day, e, p, m) = reading-passed (readRecord (take len buffer)) places lines t in
-      omega (arith, record-length (take len buffer) day e, length-take-le len buffer inside)
+-- ---- the reply to adding a line, and the buffer after it
+
+reply-told : (o : Outcome ℕ) → writeReply (writeTold o) ≡ told o
+reply-told (refused number) = refl
+reply-told (passed n) = refl
+
+length-told : (o : Outcome ℕ) (n : ℕ) → Write.Length n ≡ writeTold o → o ≡ passed n
+length-told (refused q) n h = absurd (let z : _≡_ {A = ℕ} 0 1 = cc in omega arith)
+length-told (passed m) n h = ap passed cc
+
+refusal-keeps : (o : Outcome ℕ) (number second : ℕ) (changed buffer : List ℕ) → Write.Refused number second ≡ writeTold o → buffer ≡ unlessRefused o changed buffer
+refusal-keeps (refused q) number second changed buffer h = refl
+refusal-keeps (passed n) number second changed buffer h = absurd (let z : _≡_ {A = ℕ} 0 1 = cc in omega arith)
+
+module _ (buffer : List ℕ) (len : ℕ) (l : Line) (r : WriteReply) (asked : r ≡ writeTold (addOf buffer len l)) where
+  -- what the caller is told and finds
+  abbrev pub Meets : List ℕ → Type 0
+  Meets after = (writeReply r ≡ told (addOf buffer len l)) × (after ≡ addAfter buffer len l)
+
+  said : writeReply r ≡ told (addOf buffer len l)
+  said = ap writeReply asked ∙ reply-told (addOf buffer len l)
+
+  -- a refusal leaves the buffer
+  pub add-kept : (number second : ℕ) → r ≡ Write.Refused number second → Meets buffer
+  add-kept number second h = (said, refusal-keeps (addOf buffer len l) number second _ buffer (sym h ∙ asked))
+
+  passes : (n : ℕ) → r ≡ Write.Length n → addOf buffer len l ≡ passed n
+  passes n h = length-told (addOf buffer len l) n (sym h ∙ asked)
+
+  -- where it is a length, the sail number has three bytes, the line fits, and there is an old end byte to begin at
+  pub add-fits : (n : ℕ) → r ≡ Write.Length n → (l .boat .sail < 16777216) × (len + width l ≤ length buffer) × (4 ≤ len)
+  add-fits n h =
+      let a = adds buffer len l n (passes n h) in
+      (a .sail, a .room, omega (arith, record-length (take len buffer) (a .day) (a .reads), length-take-le len buffer (a .inside)))
+
+  -- and the line's bytes written there are all that changes
+  pub add-done : (n : ℕ) → r ≡ Write.Length n → (new after : List ℕ) → new ≡ bytesOf l ++ (0 ∷ []) → after ≡ written (len - 1) new buffer → Meets after
+  add-done n h new after e w =
+      let all = written (len - 1) (bytesOf l ++ (0 ∷ [])) buffer in
+      (said, w ∙ (ap (λ (x : List ℕ). written (len - 1) x buffer) e ∙ ap (λ o. unlessRefused o all buffer) (sym (passes n h))))

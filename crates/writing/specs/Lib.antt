@@ -1,3 +1,4 @@
 pub mod Promise
 pub mod Asking
 pub mod Added
+pub mod Before

@@ -1,15 +1,16 @@
-//! This program once more behind the thirteen functions, with one fault in it.
+//! This program once more behind the eighteen functions, with one fault in it.
 
 use super::counting::counted;
 use super::listing;
-use super::reading::{self, asked_of_line, fits_machine, misread, places_pass};
+use super::reading::{self, fits_machine, misread, places_pass};
 use super::searching;
 use super::stepping;
+use super::windowing;
 use super::Fault::{self, *};
 use crate::chains::{search, Asked};
-use crate::library::{Ask, Library, Listed};
+use crate::library::{fields_of, Ask, Library, Listed};
 use crate::pattern::{Pattern, MOST_COMMANDS};
-use crate::record::{Line, Record, LONGEST, MOST_LINES, SAIL_LIMIT, UNREAD};
+use crate::record::{line_starts, width, Line, Record, LONGEST, MOST_LINES, UNREAD};
 use crate::request::{refused, search_size, LARGEST, NO_CHAIN};
 
 pub struct Faulty(pub Fault);
@@ -44,29 +45,47 @@ impl Faulty {
         }
     }
 
-    /// Questions 1 to 17, 24 and 25.
+    /// The size that 16 and 17 go by, the lines inside being known.
+    fn asked_size(&self, record: &Record, inside: &[bool], pattern: &Pattern, ask: Ask) -> u128 {
+        if !self.is(BoatsInside) {
+            return self.size(record, pattern, ask.pat.len());
+        }
+        let lines = record.lines.iter().zip(inside);
+        let usable = Record {
+            places: record.places,
+            lines: lines.filter(|(_, &is)| is).map(|(line, _)| *line).collect(),
+        };
+        self.size(&usable, pattern, ask.pat.len())
+    }
+
+    /// Questions 1 to 17, 22, 24, 25, 27 and 28.
     fn ask(&self, ask: Ask, work: &mut [u32]) -> Result<Asked, u8> {
         let mut record = reading::read_record(self.0, ask.rec)?;
         let later = self.is(Asks25After15);
         let reader = if later { Asks25AsWritten } else { self.0 };
         let mut pattern = reading::read_pattern(reader, ask.pat)?;
-        let size = self.size(&record, &pattern, ask.pat.len());
-        let order = match self.0 {
-            Asks16Before15 => [16, 15, 17],
-            Asks17Before15 => [16, 17, 15],
-            Asks17Before16 => [15, 17, 16],
-            _ => [15, 16, 17],
+        let inside = windowing::inside(self.0, ask.options, &record.lines);
+        let size = self.asked_size(&record, &inside, &pattern, ask);
+        let order: &[u8] = match self.0 {
+            Asks16Before15 => &[16, 15, 27, 17],
+            Asks17Before15 => &[16, 17, 15, 27],
+            Asks17Before16 => &[15, 27, 17, 16],
+            Asks25After15 => &[15, 25, 27, 16, 17],
+            Asks27Before15 => &[27, 15, 16, 17],
+            Asks27After16 => &[15, 16, 27, 17],
+            Asks27After17 => &[15, 16, 17, 27],
+            _ => &[15, 27, 16, 17],
         };
         let fails = |question: &u8| match question {
             15 => ask.from >= record.places || ask.to >= record.places,
             25 => later && pattern.unfolded > MOST_COMMANDS,
+            27 => windowing::refuses(self.0, ask.options, &record, &pattern.root),
             16 => size > LARGEST,
             _ => (work.len() as u128) < 4 * size + 8_192,
         };
-        let order = [order[0], 25, order[1], order[2]];
-        if let Some(number) = order.into_iter().find(fails) {
+        if let Some(number) = order.iter().copied().find(fails) {
             match (self.0, number) {
-                (ClearsAt16, 16) | (ClearsAt17, 17) => work.fill(0),
+                (ClearsAt16, 16) | (ClearsAt17, 17) | (ClearsAt27, 27) => work.fill(0),
                 (CountsInArea, 16) => {
                     for (word, line) in work.iter_mut().zip(&record.lines) {
                         *word = line.sail;
@@ -87,6 +106,7 @@ impl Faulty {
         pattern.root = misread(self.0, pattern.root);
         Ok(Asked {
             record,
+            inside,
             pattern,
             from: ask.from,
             to: ask.to,
@@ -95,7 +115,14 @@ impl Faulty {
 
     /// Yes or no, or 18.
     fn checked(&self, mut asked: Asked, chain: &[u16], dirty: bool) -> u64 {
-        let line = |number: &u16| asked.record.lines.get(*number as usize).copied();
+        if self.is(CheckWithoutWindows) {
+            asked.inside.fill(true);
+        }
+        let line = |number: &u16| {
+            let number = *number as usize;
+            let line = asked.record.lines.get(number).copied();
+            line.filter(|_| !self.is(Outside18) || asked.inside[number])
+        };
         if let Some(missing) = chain.iter().position(|number| line(number).is_none()) {
             let mut place = asked.from;
             let joins = chain[..missing].iter().filter_map(line).all(|line| {
@@ -124,6 +151,9 @@ impl Faulty {
     }
 
     fn first(&self, asked: &Asked, dirty: bool) -> Option<Vec<u16>> {
+        if self.is(Renumbered) {
+            return search(asked).map(|chain| windowing::renumbered(chain, &asked.inside));
+        }
         let no_longer = |most: usize| search(asked).filter(|chain| chain.len() <= most);
         match self.0 {
             _ if !fits_machine(&asked.pattern.root) => None,
@@ -197,48 +227,76 @@ impl Faulty {
         if self.is(AddAsks7OfBuffer) && len != buf.len() {
             return Err(7);
         }
-        asked_of_line(self.0, &line, record.places)?;
-        if line.sail >= SAIL_LIMIT {
-            return Err(21);
-        }
-        if record.lines.len() >= MOST_LINES + self.is(OneLineMore) as usize {
-            return Err(22);
-        }
-        let mut bytes = line.bytes();
-        if self.is(SailTurned) {
-            bytes.swap(5, 7);
-        }
+        let bytes = self.bytes_added(line);
+        let order: &[u8] = match self.0 {
+            Add28Before6 => &[5, 28, 6, 21, 22, 23],
+            Never28OfAdded => &[5, 6, 21, 22, 23],
+            Add21Before28 => &[5, 6, 21, 28, 22, 23],
+            Add22Before21 => &[5, 6, 28, 22, 21, 23],
+            Add23Before22 => &[5, 6, 28, 21, 23, 22],
+            _ => &[5, 6, 28, 21, 22, 23],
+        };
+        let wanted = match self.0 {
+            TenBytesFor23 => 10,
+            _ => bytes.len(),
+        };
+        let fails = |question: &u8| match question {
+            22 => record.lines.len() >= MOST_LINES + self.is(OneLineMore) as usize,
+            23 => len + wanted > buf.len(),
+            _ => reading::fails(self.0, &line, record.places, *question),
+        };
+        let failing = order.iter().copied().find(fails);
         let mut at = len - 1;
-        if len + 10 > buf.len() {
-            if self.is(WritesBefore23) {
+        if let Some(number) = failing {
+            if number == 23 && self.is(WritesBefore23) {
                 let fits = buf.len() - at;
                 buf[at..].copy_from_slice(&bytes[..fits]);
             }
-            return Err(23);
+            return Err(number);
         }
-        if self.is(AddsAfterEnd) && len + 10 < buf.len() {
+        if self.is(AddsAfterEnd) && len + bytes.len() < buf.len() {
             at = len;
         }
         if !self.is(OnlyReports) {
-            buf[at..at + 10].copy_from_slice(&bytes);
+            let mut written = bytes.clone();
             if !self.is(NoEndByte) {
-                buf[at + 10] = 0;
+                written.push(0);
             }
+            // All of it fits, but where 23 asked for too little.
+            let fits = written.len().min(buf.len() - at);
+            buf[at..at + fits].copy_from_slice(&written[..fits]);
         }
-        Ok(len + 10)
+        match self.0 {
+            SaysTenMore => Ok(len + 10),
+            _ => Ok(len + bytes.len()),
+        }
+    }
+
+    /// The bytes that are written for a line.
+    fn bytes_added(&self, line: Line) -> Vec<u8> {
+        let mut bytes = line.bytes();
+        match self.0 {
+            SailTurned => bytes.swap(5, 7),
+            TimeTurned => bytes[10..].reverse(),
+            AddsWithoutTime => bytes = Line { time: None, ..line }.bytes(),
+            _ => {}
+        }
+        bytes
     }
 }
 
 /// The first shortest chain of the lines in the opposite order.
 fn last_chain(asked: &Asked) -> Option<Vec<u16>> {
-    let mut lines = asked.record.lines.clone();
+    let (mut lines, mut inside) = (asked.record.lines.clone(), asked.inside.clone());
     lines.reverse();
+    inside.reverse();
     let last = lines.len().wrapping_sub(1) as u16;
     let turned = Asked {
         record: Record {
             places: asked.record.places,
             lines,
         },
+        inside,
         pattern: asked.pattern.clone(),
         ..*asked
     };
@@ -274,9 +332,10 @@ impl Library for Faulty {
 
     fn read(&self, rec: &[u8], number: u16, fields: &mut [u32]) -> u64 {
         let mut asked = rec.to_vec();
-        let end = 13 + 10 * number as usize;
-        if self.is(ReadsToLine) && end < rec.len() && rec.len() <= LONGEST {
-            asked.truncate(end);
+        let start = line_starts(rec).get(number as usize).copied();
+        let end = start.and_then(|start| Some(start + width(rec[start])?));
+        if self.is(ReadsToLine) && end.is_some_and(|end| end < rec.len()) && rec.len() <= LONGEST {
+            asked.truncate(end.unwrap_or(0));
             asked.push(0);
         }
         let record = match reading::read_record(self.0, &asked) {
@@ -286,23 +345,28 @@ impl Library for Faulty {
         let Some(line) = record.lines.get(number as usize) else {
             return refused(18, 0);
         };
-        let values = [
-            line.from as u32,
-            line.kind as u32,
-            line.class as u32,
-            line.sail,
-            line.to as u32,
-        ];
-        if fields.len() < 5 && !self.is(ShortFields) {
+        let mut values = fields_of(line);
+        match self.0 {
+            ReadsAtTen => {
+                values = fields_of(&reading::line_at(self.0, rec, 3 + 10 * number as usize))
+            }
+            UntimedAtZero if line.time.is_none() => values.push(0),
+            TimeLost => values.truncate(5),
+            FiveOfSix if fields.len() == 5 => values.truncate(5),
+            _ => {}
+        }
+        let fits = fields.len() >= values.len();
+        let written = fits || (self.is(ShortFields) && fields.len() < 5);
+        if !written {
             return 0;
         }
-        for (field, value) in fields.iter_mut().zip(values) {
-            *field = value;
+        for (field, value) in fields.iter_mut().zip(&values) {
+            *field = *value;
         }
-        if fields.len() < 5 {
-            0
+        if fits {
+            values.len() as u64
         } else {
-            5
+            0
         }
     }
 
@@ -396,10 +460,13 @@ impl Library for Faulty {
 
     fn find(&self, ask: Ask, work: &mut [u32], out: &mut [u16]) -> u64 {
         let dirty = work.iter().any(|&word| word != 0);
-        let asked = match self.ask(ask, work) {
+        let mut asked = match self.ask(ask, work) {
             Ok(asked) => asked,
             Err(number) => return refused(number, 0),
         };
+        if self.is(FindWithoutWindows) {
+            asked.inside.fill(true);
+        }
         let reply = self.fitted(self.first(&asked, dirty), out);
         self.clear(ask, work, reply);
         reply

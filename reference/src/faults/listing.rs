@@ -9,6 +9,7 @@ use crate::library::Listed;
 use crate::pattern::read_pattern;
 use crate::record::read_record;
 use crate::request::{refused, search_size, LARGEST, NO_CHAIN};
+use crate::windows::Windows;
 use std::collections::{BTreeMap, BTreeSet};
 
 /// The mark for none.
@@ -73,25 +74,34 @@ fn ask(fault: Fault, listed: Listed, work_len: usize, lengths_len: usize) -> Res
         EmptyAsksNoFinish => !starts.is_empty(),
         _ => true,
     };
+    let windows = Windows::of(listed.options);
     let missing = |place: &u16| *place >= record.places;
     let fails = |question: &u8| match question {
         15 => starts_asked.iter().any(missing) || (finish_asked && missing(&listed.to)),
+        27 => !windows.pass(),
         16 => size > LARGEST,
         17 => (work_len as u128) < 4 * size + 8_192,
         _ => count > lengths_len,
     };
     let order: &[u8] = match fault {
-        List16Before15 => &[16, 15, 17],
-        List17Before16 => &[15, 17, 16],
-        List19Before15 => &[19, 15, 16, 17],
-        List19Before17 => &[15, 16, 19, 17],
-        _ => &[15, 16, 17],
+        List16Before15 => &[16, 15, 27, 17],
+        List17Before16 => &[15, 27, 17, 16],
+        List19Before15 => &[19, 15, 27, 16, 17],
+        List19Before17 => &[15, 27, 16, 19, 17],
+        List27Before15 => &[27, 15, 16, 17],
+        List27NotAsked => &[15, 16, 17],
+        _ => &[15, 27, 16, 17],
     };
     let failing: Vec<u8> = order.iter().copied().filter(fails).collect();
     if !matches!(failing[..], [] | [19]) {
         return Err(failing[0]);
     }
+    let windows = match fault {
+        ListWithoutWindows => Windows::of(None),
+        _ => windows,
+    };
     Ok(Asked {
+        inside: windows.inside(&record.lines),
         record,
         pattern,
         from: listed.to,

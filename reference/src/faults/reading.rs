@@ -2,7 +2,7 @@
 
 use super::Fault::{self, *};
 use crate::pattern::{Node, Pattern, Rule, DEEPEST, MOST_COMMANDS, MOST_ROUNDS};
-use crate::record::{Line, Record, LONGEST, MOST_PLACES};
+use crate::record::{Line, Record, DAY, LONGEST, MOST_LINES, MOST_PLACES, SAIL_LIMIT};
 use std::collections::BTreeSet;
 
 // ---- records
@@ -16,72 +16,122 @@ pub fn places_pass(fault: Fault, places: u16) -> bool {
     }
 }
 
-/// Questions 5 and 6 of a line.
-pub fn asked_of_line(fault: Fault, line: &Line, places: u16) -> Result<(), u8> {
-    places_of_line(fault, line, places)?;
-    kind_of_line(line)
+/// Does a line fail question 5, 6, 28 or else 21?
+pub fn fails(fault: Fault, line: &Line, places: u16, question: u8) -> bool {
+    let day = match fault {
+        DayPasses => DAY + 1,
+        LastSecondRefused => DAY - 1,
+        _ => DAY,
+    };
+    match question {
+        5 => line.from >= places || (line.to >= places && fault != AsksFromOnly),
+        6 => !(1..=15).contains(&line.kind),
+        28 => line.time.is_some_and(|time| time >= day),
+        _ => line.sail >= SAIL_LIMIT,
+    }
 }
 
-fn places_of_line(fault: Fault, line: &Line, places: u16) -> Result<(), u8> {
-    if line.from >= places || (line.to >= places && fault != AsksFromOnly) {
-        return Err(5);
-    }
-    Ok(())
-}
-
-fn kind_of_line(line: &Line) -> Result<(), u8> {
-    if (1..=15).contains(&line.kind) {
-        Ok(())
-    } else {
-        Err(6)
-    }
+/// The questions of a line of a record, in order.
+fn asked_of_line(fault: Fault, line: &Line, places: u16) -> Result<(), u8> {
+    let order: &[u8] = match fault {
+        QuestionByQuestion => &[],
+        Asks28Before6 => &[5, 28, 6],
+        Never28OfRecord => &[5, 6],
+        _ => &[5, 6, 28],
+    };
+    let failing = order.iter().find(|q| fails(fault, line, places, **q));
+    failing.map_or(Ok(()), |number| Err(*number))
 }
 
 pub fn read_record(fault: Fault, bytes: &[u8]) -> Result<Record, u8> {
-    if bytes.len() > LONGEST {
+    let longest = match fault {
+        LimitAsBefore => 4 + 10 * MOST_LINES,
+        _ => LONGEST,
+    };
+    if bytes.len() > longest {
         return Err(1);
     }
-    let &[0x01, high, low, ref rest @ ..] = bytes else {
+    let &[0x01, high, low, ..] = bytes else {
         return Err(2);
     };
     let places = u16::from_be_bytes([high, low]);
     if !places_pass(fault, places) {
         return Err(2);
     }
-    let mut record = Record {
-        places,
-        lines: Vec::new(),
-    };
-    let mut rest = rest;
+    let mut lines: Vec<Line> = Vec::new();
+    let mut at = 3;
     loop {
-        match rest {
-            [0x02, o, p, kind, class, s, t, u, q, r, after @ ..] => {
-                let line = Line {
-                    from: u16::from_be_bytes([*o, *p]),
-                    kind: *kind,
-                    class: *class,
-                    sail: u32::from_be_bytes([0, *s, *t, *u]),
-                    to: u16::from_be_bytes([*q, *r]),
-                };
-                if fault != QuestionByQuestion {
-                    asked_of_line(fault, &line, places)?;
-                }
-                record.lines.push(line);
-                rest = after;
-            }
-            [0x02, ..] => return Err(4),
-            [0x00] => break,
-            [0x00, ..] => return Err(7),
+        let timed = match bytes.get(at) {
+            Some(0x02) => false,
+            Some(0x03) if fault != TimedRefused => true,
+            Some(0x00) if at + 1 == bytes.len() => break,
+            Some(0x00) => return Err(7),
             _ => return Err(3),
+        };
+        let wanted = if timed && fault != TenBytesFor4 {
+            14
+        } else {
+            10
+        };
+        let cut = bytes.len() - at < wanted;
+        if cut && fault == Asks22After4 {
+            return Err(4);
+        }
+        if is_full(fault, &lines, timed) {
+            return Err(22);
+        }
+        if cut {
+            return Err(4);
+        }
+        let line = line_at(fault, bytes, at);
+        asked_of_line(fault, &line, places)?;
+        lines.push(line);
+        at += if timed && fault != OffsetByTen {
+            14
+        } else {
+            10
+        };
+    }
+    if fault == QuestionByQuestion {
+        for question in [5, 6, 28] {
+            if lines
+                .iter()
+                .any(|line| fails(fault, line, places, question))
+            {
+                return Err(question);
+            }
         }
     }
-    for line in &record.lines {
-        places_of_line(fault, line, places)?;
+    Ok(Record { places, lines })
+}
+
+/// Has a record of these lines no room for one more, timed or not?
+fn is_full(fault: Fault, lines: &[Line], timed: bool) -> bool {
+    let alike = lines.iter().filter(|line| line.time.is_some() == timed);
+    match fault {
+        Never22OfRecord => false,
+        TimedCountedApart if lines.len() >= MOST_LINES => alike.count() == MOST_LINES,
+        _ => lines.len() >= MOST_LINES,
     }
-    for line in &record.lines {
-        kind_of_line(line)?;
+}
+
+/// The line that stands at a place of a record; bytes that are not there are 0.
+pub fn line_at(fault: Fault, bytes: &[u8], at: usize) -> Line {
+    let byte = |more: usize| bytes.get(at + more).copied().unwrap_or(0);
+    let time = [byte(10), byte(11), byte(12), byte(13)];
+    let time = match fault {
+        TimeLowFirst => u32::from_le_bytes(time),
+        TimeIn16Bits => u32::from_be_bytes(time) & 0xFFFF,
+        _ => u32::from_be_bytes(time),
+    };
+    Line {
+        from: u16::from_be_bytes([byte(1), byte(2)]),
+        kind: byte(3),
+        class: byte(4),
+        sail: u32::from_be_bytes([0, byte(5), byte(6), byte(7)]),
+        to: u16::from_be_bytes([byte(8), byte(9)]),
+        time: (byte(0) == 0x03).then_some(time),
     }
-    Ok(record)
 }
 
 // ---- patterns

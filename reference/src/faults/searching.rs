@@ -38,7 +38,7 @@ impl Course<'_> {
             machine: Machine::new(&asked.pattern.root),
             seen: seen_of_runs(asked, fault, &boats),
             boats,
-            lines_from: asked.lines_from(),
+            lines_from: asked.usable_from(),
         }
     }
 
@@ -412,7 +412,7 @@ pub fn any_state(asked: &Asked) -> Option<usize> {
 
 /// Is the chain accepted, by what the fault takes the tests for?
 pub fn checked(asked: &Asked, fault: Fault, chain: &[u16]) -> bool {
-    if !asked.leads(chain) {
+    if !asked.leads(chain) || !asked.is_inside(chain) {
         return false;
     }
     let course = Course::with(asked, fault);
@@ -431,5 +431,7 @@ pub fn one_state_checked(asked: &Asked, chain: &[u16]) -> bool {
     for &number in chain {
         standing = standing.and_then(|standing| course.after(standing, number).first().copied());
     }
-    asked.leads(chain) && standing.is_some_and(|standing| course.accepting(&standing))
+    asked.leads(chain)
+        && asked.is_inside(chain)
+        && standing.is_some_and(|standing| course.accepting(&standing))
 }

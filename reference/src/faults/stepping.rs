@@ -2,10 +2,12 @@
 //! begin asks, and which chains are accepted, is right here: such faults are in the finder's calls.
 
 use super::Fault::{self, *};
+use crate::chains::Asked;
 use crate::library::Ask;
 use crate::pattern::read_pattern;
 use crate::request::{self, refused};
 use crate::search::{self, tag, under_way, Course, Phase, Search, LOADED, NO_SEARCH};
+use crate::windows::Windows;
 
 /// A search, and what is wrong with the way in which it is taken up.
 struct Stepper {
@@ -122,16 +124,49 @@ pub fn words(fault: Fault, rec: &[u8], pat: &[u8]) -> u64 {
     words.unwrap_or_else(|number| refused(number, 0))
 }
 
-pub fn begin(fault: Fault, ask: Ask, work: &mut [u32]) -> u64 {
-    let asked = match request::ask(ask.rec, ask.pat, ask.from, ask.to, usize::MAX) {
-        Ok(asked) => asked,
-        Err(number) => return refused(number, 0),
+/// The questions of begin but 17, and what is searched by the fault.
+fn asked(fault: Fault, ask: Ask) -> Result<Asked, u8> {
+    let questions = match fault {
+        Begin27NotAsked => Ask {
+            options: None,
+            ..ask
+        },
+        _ => ask,
     };
-    let needed = match fault {
+    let mut asked = request::ask(questions, usize::MAX)?;
+    let windows = match fault {
+        BeginWithoutWindows => Windows::of(None),
+        _ => Windows::of(ask.options),
+    };
+    asked.inside = windows.inside(&asked.record.lines);
+    if fault == LoadsInsideOnly {
+        let mut inside = asked.inside.iter();
+        asked.record.lines.retain(|_| inside.next() == Some(&true));
+        asked.inside = vec![true; asked.record.lines.len()];
+    }
+    Ok(asked)
+}
+
+/// The words that begin asks for.
+fn needed(fault: Fault, ask: Ask, asked: &Asked) -> u64 {
+    let outside = asked.inside.iter().filter(|&&inside| !inside).count() as u64;
+    let words = match fault {
         SearchAsks17AsFind => request::words(ask.rec, ask.pat),
         _ => search::words(ask.rec, ask.pat),
     };
-    if needed.is_ok_and(|needed| (work.len() as u64) < needed) {
+    let words = words.unwrap_or(0);
+    match fault {
+        Begin17ByInside => words - 3 * outside,
+        _ => words,
+    }
+}
+
+pub fn begin(fault: Fault, ask: Ask, work: &mut [u32]) -> u64 {
+    let asked = match asked(fault, ask) {
+        Ok(asked) => asked,
+        Err(number) => return refused(number, 0),
+    };
+    if (work.len() as u64) < needed(fault, ask, &asked) {
         return refused(17, 0);
     }
     let search = Search::new(Course::of(&asked, ask.pat), ask.to);
@@ -143,10 +178,18 @@ pub fn begin(fault: Fault, ask: Ask, work: &mut [u32]) -> u64 {
     let mut after = stepper.search.put_back(work.len());
     let course = &stepper.search.course;
     let lines = course.lines.len();
+    // The boats' numbers of all lines, and then a word for each line.
+    let (numbers, words) = (
+        LOADED + course.boats.len(),
+        LOADED + course.boats.len() + lines,
+    );
+    let outside = (0..lines).filter(|&line| !asked.inside[line]);
     match fault {
         NumbersWhereKept if course.boats.is_empty() => after[LOADED..LOADED + lines].fill(0),
+        OutsideWordZero => outside.for_each(|line| after[words + line] = 0),
+        OutsideBoatZero => outside.for_each(|line| after[numbers + line] = 0),
         BeginLeavesRest => {
-            let used = LOADED + course.boats.len() + 2 * lines + 4 * course.size();
+            let used = words + lines + 4 * course.size();
             after[used..].copy_from_slice(&work[used..]);
         }
         _ => {}

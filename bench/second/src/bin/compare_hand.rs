@@ -20,6 +20,8 @@ type Find = unsafe extern "C" fn(
     pat_len: usize,
     from: u16,
     to: u16,
+    options: *const u32,
+    options_len: usize,
     work: *mut u32,
     work_len: usize,
     out: *mut u16,
@@ -35,6 +37,8 @@ type Starts = unsafe extern "C" fn(
     starts: *const u16,
     starts_len: usize,
     to: u16,
+    options: *const u32,
+    options_len: usize,
     work: *mut u32,
     work_len: usize,
     lengths: *mut u32,
@@ -51,6 +55,8 @@ extern "C" {
         pat_len: usize,
         from: u16,
         to: u16,
+        options: *const u32,
+        options_len: usize,
         work: *mut u32,
         work_len: usize,
         out: *mut u16,
@@ -64,6 +70,8 @@ extern "C" {
         pat_len: usize,
         from: u16,
         to: u16,
+        options: *const u32,
+        options_len: usize,
         work: *mut u32,
         work_len: usize,
         out: *mut u16,
@@ -78,6 +86,8 @@ extern "C" {
         starts: *const u16,
         starts_len: usize,
         to: u16,
+        options: *const u32,
+        options_len: usize,
         work: *mut u32,
         work_len: usize,
         lengths: *mut u32,
@@ -92,6 +102,8 @@ extern "C" {
         starts: *const u16,
         starts_len: usize,
         to: u16,
+        options: *const u32,
+        options_len: usize,
         work: *mut u32,
         work_len: usize,
         lengths: *mut u32,
@@ -107,6 +119,8 @@ extern "C" {
         to: u16,
         chain: *const u16,
         chain_len: usize,
+        options: *const u32,
+        options_len: usize,
         work: *mut u32,
         work_len: usize,
     ) -> u64;
@@ -146,6 +160,7 @@ impl Library for Hand {
     }
 
     fn check(&self, ask: Ask, chain: &[u16], work: &mut [u32]) -> u64 {
+        let options = ask.options.unwrap_or(&[]);
         unsafe {
             hand_check(
                 ask.rec.as_ptr(),
@@ -156,6 +171,8 @@ impl Library for Hand {
                 ask.to,
                 chain.as_ptr(),
                 chain.len(),
+                options.as_ptr(),
+                options.len(),
                 work.as_mut_ptr(),
                 work.len(),
             )
@@ -163,6 +180,7 @@ impl Library for Hand {
     }
 
     fn find(&self, ask: Ask, work: &mut [u32], out: &mut [u16]) -> u64 {
+        let options = ask.options.unwrap_or(&[]);
         unsafe {
             (self.find)(
                 ask.rec.as_ptr(),
@@ -171,6 +189,8 @@ impl Library for Hand {
                 ask.pat.len(),
                 ask.from,
                 ask.to,
+                options.as_ptr(),
+                options.len(),
                 work.as_mut_ptr(),
                 work.len(),
                 out.as_mut_ptr(),
@@ -197,6 +217,7 @@ impl Library for Hand {
     }
 
     fn starts(&self, listed: Listed, work: &mut [u32], lengths: &mut [u32]) -> u64 {
+        let options = listed.options.unwrap_or(&[]);
         unsafe {
             (self.starts)(
                 listed.rec.as_ptr(),
@@ -206,6 +227,8 @@ impl Library for Hand {
                 listed.starts.as_ptr(),
                 listed.starts.len(),
                 listed.to,
+                options.as_ptr(),
+                options.len(),
                 work.as_mut_ptr(),
                 work.len(),
                 lengths.as_mut_ptr(),

@@ -3,6 +3,7 @@ use mathlib.Core.Path.{sym, subst}
 use Prim.Native.Nat.{ℕ, _<_}
 use native.Mathlib.Omega.{arith}
 use lib.ListN.{getD}
+use Rattle.meaning.specs.Windows.{plain}
 use Rattle.finder.specs.Promise.{findReply}
 use Rattle.finder.specs.Demand.{Bounds, find-bounds}
 use borrow.Author.Needs.{needs}
@@ -25,7 +26,7 @@ render-requires : tie.Need-render-requires
 render-requires c κs =
     let a = c .before .before .before .before .before .before .before .before .before .before in
     let low : (i : ℕ) → getD (a .args .day .now) i 0 < 256 = λ i. omega (arith, c .before .before .before .before .before .before .before .before .shared-slice-known .given i) in
-    let small = subst (Bounds 2048) (sym (c .before .before .before .before .find .ensures .0)) (find-bounds (a .args .day .now) (a .args .pattern .now) (a .args .from) (a .args .to) 16384 2048 low) in
+    let small = subst (Bounds 2048) (sym (c .before .before .before .before .find .ensures .0)) (find-bounds (a .args .day .now) (a .args .pattern .now) (a .args .from) (a .args .to) plain 16384 2048 low) in
     (omega (arith, slice-aggregate-render c, a .pre), subst (λ n. Bounds n (findReply (c .before .before .before .before .find .result))) (slice-aggregate-render c) small)
 
 same-length : tie.Need-same-length

@@ -3,6 +3,7 @@ use mathlib.Core.Path.{sym, ap, _∙_, subst}
 use Prim.Native.Nat.{ℕ, _<_}
 use native.Mathlib.Omega.{arith}
 use lib.ListN.{length, getD}
+use Rattle.meaning.specs.Windows.{plain}
 use Rattle.finder.specs.Promise.{findOf, said}
 use Rattle.finder.specs.Demand.{find-bounds}
 use Rattle.exports.specs.Promise.{findNumber}
@@ -22,8 +23,8 @@ find-requires c κs = search needs
 find-number-requires : tie.Need-find-number-requires
 find-number-requires c κs =
     let x = c .before .before .before .before .before .before .before .before .before .before .before .args in
-    let said-of = said (findOf (x .rec .now) (x .pat .now) (x .from) (x .to) (length (x .work .now)) (length (x .out .now))) in
-    let small = find-bounds (x .rec .now) (x .pat .now) (x .from) (x .to) (length (x .work .now)) (length (x .out .now)) (low (c .before .before .before .before .before .before .before .before .before .before)) in
+    let said-of = said (findOf (x .rec .now) (x .pat .now) (x .from) (x .to) plain (length (x .work .now)) (length (x .out .now))) in
+    let small = find-bounds (x .rec .now) (x .pat .now) (x .from) (x .to) plain (length (x .work .now)) (length (x .out .now)) (low (c .before .before .before .before .before .before .before .before .before .before)) in
     subst SaidFits (sym (c .before .before .before .before .find .ensures .0)) (bounds-fit (length (x .out .now)) said-of small)
 
 same-length : tie.Need-same-length
@@ -37,7 +38,7 @@ returns c =
     let b = c .before .before .before .before .before .find .ensures in
     let x = c .before .before .before .before .before .before .before .before .before .before .before .before .args in
     let n = c .find-number .ensures ∙ ap findNumber (b .0) in
-    (n, (b .1 .0, (b .1 .1 .0, find-number (x .rec .now) (x .pat .now) (x .from) (x .to) (length (x .work .now)) (length (x .out .now)) _ (low (c .before .before .before .before .before .before .before .before .before .before .before)) _ (b .0) (b .1 .1 .1) _ n)))
+    (n, (b .1 .0, (b .1 .1 .0, find-number (x .rec .now) (x .pat .now) (x .from) (x .to) plain (length (x .work .now)) (length (x .out .now)) _ (low (c .before .before .before .before .before .before .before .before .before .before .before)) _ (b .0) (b .1 .1 .1) _ n)))
 
 pub chains-find-spec : {M : Type 1} → statement M
 chains-find-spec =

@@ -30,8 +30,20 @@ returns c =
 put-fields-requires : tie.Need-put-fields-requires
 put-fields-requires c κs = search needs
 
+enum-known-l-2 : tie.Need-enum-known-l-2
+enum-known-l-2 c = search needs
+
 returns-2 : tie.Need-returns-2
 returns-2 c =
+    let b = c .before .before .before .before in
+    let a = b .before .before .before .args in
+    rw (told-passed (readOf (a .rec .now) (a .line)) _ (ap lineReply (sym (c .before .before .l2 .given .1)) ∙ b .read-line .ensures), lt-leb _ _ (c .if2 .taken)) (refl, refl)
+
+put-timed-requires : tie.Need-put-timed-requires
+put-timed-requires c κs = search needs
+
+returns-3 : tie.Need-returns-3
+returns-3 c =
     let b = c .before .before .before .before in
     let a = b .before .before .before .args in
     rw (told-refused (readOf (a .rec .now) (a .line)) _ _ (ap lineReply (sym (c .before .before .q .given .1)) ∙ b .read-line .ensures)) (refused-is _ _ (c .refusal .ensures), refl)
@@ -39,12 +51,22 @@ returns-2 c =
 same-length : tie.Need-same-length
 same-length c = search needs
 
-returns-3 : tie.Need-returns-3
-returns-3 c =
+returns-4 : tie.Need-returns-4
+returns-4 c =
     let d = c .before .before .before .before in
     let b = d .before .before .before .before in
     let a = b .before .before .before .args in
     rw (told-passed (readOf (a .rec .now) (a .line)) _ (ap lineReply (sym (d .before .before .l .given .1)) ∙ b .read-line .ensures), le-leb _ _ (d .if1 .left)) (refl, c .before .before .put-fields .ensures)
+
+same-length-2 : tie.Need-same-length-2
+same-length-2 c = search needs
+
+returns-5 : tie.Need-returns-5
+returns-5 c =
+    let d = c .before .before .before .before in
+    let b = d .before .before .before .before in
+    let a = b .before .before .before .args in
+    rw (told-passed (readOf (a .rec .now) (a .line)) _ (ap lineReply (sym (d .before .before .l2 .given .1)) ∙ b .read-line .ensures), le-leb _ _ (d .if2 .left)) (refl, c .before .before .put-timed .ensures)
 
 pub chains-read-spec : {M : Type 1} → statement M
 chains-read-spec =
@@ -56,6 +78,11 @@ chains-read-spec =
     enum-known-l
     returns
     put-fields-requires
+    enum-known-l-2
     returns-2
+    put-timed-requires
+    returns-3
     same-length
-    returns-3)
+    returns-4
+    same-length-2
+    returns-5)

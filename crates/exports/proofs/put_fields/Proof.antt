@@ -3,7 +3,7 @@ use mathlib.Core.Path.{_≡_, refl, _∙_}
 use Prim.Native.Nat.{_-_, _<_, _≤_}
 use native.Mathlib.Omega.{arith}
 use lib.ListN.{length, length-set}
-use Rattle.request.proofs.Fills.{filled, fill-next}
+use Rattle.lists.specs.Filled.{filled, fill-next}
 use borrow.Author.Needs.{needs}
 use Rattle.exports.proofs.put_fields.Statement.{statement}
 use Rattle.exports.proofs.put_fields.Tie as tie

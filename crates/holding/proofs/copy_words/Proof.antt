@@ -3,7 +3,7 @@ use mathlib.Core.Path.{_≡_, refl, _∙_}
 use Prim.Native.Nat.{_-_, _<_, _≤_}
 use native.Mathlib.Omega.{arith}
 use lib.ListN.{length, length-set}
-use Rattle.request.proofs.Fills.{filled, fill-next, fill-all}
+use Rattle.lists.specs.Filled.{filled, fill-next, fill-all}
 use borrow.Author.Needs.{needs}
 use Rattle.holding.proofs.copy_words.Statement.{statement}
 use Rattle.holding.proofs.copy_words.Tie as tie

@@ -3,7 +3,7 @@ use mathlib.Core.Path.{_≡_, refl, ap, _∙_}
 use Prim.Native.Nat.{_-_, _<_, _≤_}
 use native.Mathlib.Omega.{arith}
 use lib.ListN.{length, getD, take, length-set}
-use Rattle.request.proofs.Fills.{filled, fill-next}
+use Rattle.lists.specs.Filled.{filled, fill-next}
 use Rattle.holding.specs.Holding.{bytesOf}
 use Rattle.holding.proofs.Bytes.{bytes-long, byte-at, bytes-all}
 use borrow.Author.Needs.{needs}

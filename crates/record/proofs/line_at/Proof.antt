@@ -1,57 +1,56 @@
--- `record::line_at` meets its contract: line i of a record that passes stands at byte 3 + 10 · i. Assumes nothing.
-use mathlib.Core.Path.{sym, ap, _∙_}
-use Prim.Native.Nat.{ℕ, _+_, _*_, _-_, _≤_}
+-- `record::line_at` meets its contract. The invariant: k lines were passed, and the next begins here. Assumes nothing.
+use mathlib.Core.Path.{_≡_, sym, ap, _∙_}
+use Prim.Native.Nat.{ℕ, suc, _+_, _-_, _<_, _≤_}
 use native.Mathlib.Omega.{arith}
-use borrow.Author.Needs.{needs}
-use lib.ListN.{length, length-drop}
-use Rattle.meaning.specs.Record.{lineOf}
-use Rattle.record.specs.Whole.{line-read, lines-short}
-use Rattle.record.proofs.Loop.{lent}
+use lib.ListN.{length}
+use Rattle.record.specs.Whole.{linesOf, lines-short}
+use Rattle.record.specs.Cursor.{startOf, start-first}
 use Rattle.record.proofs.line_at.Statement.{statement}
 use Rattle.record.proofs.line_at.Tie as tie
 
--- its bytes are there
-there : (c : tie.After-shared-slice-known) → 13 + 10 * c .before .args .i ≤ length (c .before .args .day .now)
-there c = line-read (c .before .args .day .now) (c .before .args .i) (c .before .pre) .0
+abbrev Inv-loop : tie.InvT-loop
+Inv-loop day i at₀ k₀ at k = (k ≤ i) × (i < length (linesOf day)) × (at ≡ startOf (linesOf day) k)
 
-few : (c : tie.After-shared-slice-known) → c .before .args .i ≤ 4096
-few c = omega (arith, c .before .pre, lines-short (c .before .args .day .now))
+abbrev μ-loop : tie.MeasureT-loop
+μ-loop day i at₀ k₀ at k = i - k
 
-mul-at : tie.Need-mul-at
-mul-at c = omega (arith, few c)
+loop-holds : tie.Need-loop-holds Inv-loop μ-loop
+loop-holds c = (omega arith, c .before .pre, sym (start-first (linesOf (c .before .args .day .now))))
 
-add-at : tie.Need-add-at
-add-at c = omega (arith, few c)
+pass-line-requires : tie.Need-pass-line-requires Inv-loop μ-loop
+pass-line-requires c κs = (omega (arith, c .loop-test .taken, c .before .loop .inv .1), c .before .loop .inv .2)
 
-sub-line-of : tie.Need-sub-line-of
-sub-line-of c = omega (arith, there c)
+add-k : tie.Need-add-k Inv-loop μ-loop
+add-k c = omega (arith, c .before .loop-test .taken, c .before .before .loop .inv .1, lines-short (c .before .before .before .before .args .day .now))
 
-part-line-of-start : tie.Need-part-line-of-start
-part-line-of-start c = omega (arith, there c)
+loop-less : tie.Need-loop-less Inv-loop μ-loop
+loop-less c = omega (arith, c .before .loop-test .taken)
 
-part-line-of-end : tie.Need-part-line-of-end
-part-line-of-end c = search needs
+loop-again : tie.Need-loop-again Inv-loop μ-loop
+loop-again c =
+    let b = c .before .before in
+    let next : suc (b .loop .k) ≡ b .loop .k + 1 = omega arith in
+    (omega (arith, c .before .loop-test .taken), b .loop .inv .1, c .pass-line .ensures .1 ∙ ap (startOf (linesOf (b .before .before .args .day .now))) next)
 
-line-of-requires : tie.Need-line-of-requires
-line-of-requires c κs =
-    let a = c .before .before .args in
-    let at : ℕ = 3 + 10 * a .i in
-    omega (arith, ap length (lent (a .day .now) at), length-drop at (a .day .now), there (c .before))
+pass-line-requires-2 : tie.Need-pass-line-requires-2 Inv-loop μ-loop
+pass-line-requires-2 c κs =
+    let b = c .before in
+    let all : b .loop .k ≡ b .before .before .args .i = omega (arith, c .loop-test .left, b .loop .inv .0) in
+    (b .loop .inv .1, b .loop .inv .2 ∙ ap (startOf (linesOf (b .before .before .args .day .now))) all)
 
-returns : tie.Need-returns
-returns c =
-    let b = c .before .before .before in
-    let s = b .args .day .now in
-    (c .line-of .ensures .0 ∙ (ap lineOf (lent s (3 + 10 * b .args .i)) ∙ sym (line-read s (b .args .i) (b .pre) .1)), c .line-of .ensures .1)
+returns : tie.Need-returns Inv-loop μ-loop
+returns c = c .before .pass-line2 .ensures .0 .0
 
 pub line-at-spec : {M : Type 1} → statement M
 line-at-spec =
     tie.close
     (tie.spec
-    mul-at
-    add-at
-    sub-line-of
-    part-line-of-start
-    part-line-of-end
-    line-of-requires
+    Inv-loop
+    μ-loop
+    loop-holds
+    pass-line-requires
+    add-k
+    loop-less
+    loop-again
+    pass-line-requires-2
     returns)

@@ -1,4 +1,4 @@
--- `record::line_of` meets its contract: field by field, what the reads of two and three bytes ensure.
+-- `record::line_of` meets its contract: field by field, what the reads of two and three bytes ensure; the time is left out.
 -- Assumes nothing.
 use borrow.Author.Needs.{needs}
 use Rattle.record.proofs.line_of.Statement.{statement}

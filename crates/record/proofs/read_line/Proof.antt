@@ -54,12 +54,15 @@ line-at-requires c κs =
     let here : length (linesOf (bytes (c .before))) ≡ length (day .lines) = ap (λ o. length (linesIn o)) e in
     omega (arith, here, n, c .if1 .left)
 
+told-line-requires : tie.Need-told-line-requires
+told-line-requires c κs = search needs
+
 returns-3 : tie.Need-returns-3
 returns-3 c =
-    let b = c .before .before in
+    let b = c .before .before .before in
     let (day, e, p, n) = passes b in
-    rw (read-passed (bytes b) _ day e, lt-ltb _ _ (rw n at (c .before .if1 .left)))
-    (ap value (c .line-at .ensures .0 ∙ ap (λ o. lineAt (linesIn o) (b .before .before .before .before .before .args .i)) e))
+    rw (read-passed (bytes b) _ day e, lt-ltb _ _ (rw n at (c .before .before .if1 .left)))
+    (c .told-line .ensures ∙ ap value (c .before .line-at .ensures ∙ ap (λ o. lineAt (linesIn o) (b .before .before .before .before .before .args .i)) e))
 
 pub read-line-spec : {M : Type 1} → statement M
 read-line-spec =
@@ -72,4 +75,5 @@ read-line-spec =
     returns
     returns-2
     line-at-requires
+    told-line-requires
     returns-3)

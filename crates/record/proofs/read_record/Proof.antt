@@ -43,7 +43,7 @@ returns-3 c =
     let s = b .before .before .before .args .day .now in
     let h = head-right s _ (sym (c .before .before .head .given .1) ∙ b .head-of .ensures) in
     c .lines-from .ensures
-    ∙ simp (le-leb _ _ (b .before .if1 .left), h .0) (ap (λ (n : ℕ). countedWith n 0 (linesFrom (length s) n (drop 3 s))) (h .1) ∙ counted-whole (two s 1) (linesFrom (length s) (two s 1) (drop 3 s)))
+    ∙ simp (le-leb _ _ (b .before .if1 .left), h .0) (ap (λ (n : ℕ). countedWith n 0 (linesFrom (length s) n 0 (drop 3 s))) (h .1) ∙ counted-whole (two s 1) (linesFrom (length s) (two s 1) 0 (drop 3 s)))
 
 pub read-record-spec : {M : Type 1} → statement M
 read-record-spec =

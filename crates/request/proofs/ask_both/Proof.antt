@@ -4,9 +4,11 @@ use mathlib.Core.List.{List}
 use Prim.Native.Nat.{ℕ}
 use native.Mathlib.Omega.{arith}
 use lib.ListN.{length}
-use Rattle.meaning.specs.Outcome.{passed}
+use Rattle.meaning.specs.Outcome.{refused, passed}
 use Rattle.meaning.specs.Record.{Day, readRecord}
 use Rattle.meaning.specs.Pattern.{readPattern, noneGiven}
+use Rattle.meaning.specs.Windows.{Options}
+use Rattle.meaning.specs.Request.{askBoth}
 use Rattle.record.specs.Reading.{readingNumber}
 use Rattle.record.specs.Whole.{reading-refused, reading-passed, places-few, lines-few}
 use Rattle.pattern.specs.Promise.{patternReply, Small}
@@ -33,8 +35,8 @@ returns : tie.Need-returns
 returns c =
     let a = c .before .before .before .before .before .before .args in
     let t = c .before .enum-told .given .1 in
-    let e = both-first (a .day .now) (a .pattern .now) _ (reading-refused (readRecord (a .day .now)) _ (sym t ∙ c .before .before .before .read-record .ensures)) in
-    (ap Both.Refused (c .number .ensures ∙ ap readingNumber t) ∙ sym (ap bothTold e), tt)
+    let e : (options : Options) → askBoth (a .day .now) (a .pattern .now) options ≡ refused _ = λ options. both-first (a .day .now) (a .pattern .now) options _ (reading-refused (readRecord (a .day .now)) _ (sym t ∙ c .before .before .before .read-record .ensures)) in
+    (λ options. ap Both.Refused (c .number .ensures ∙ ap readingNumber t) ∙ sym (ap bothTold (e options)), tt)
 
 read-pattern-requires : tie.Need-read-pattern-requires
 read-pattern-requires c κs = search needs
@@ -65,7 +67,7 @@ returns-2 c =
     let (day, e, places, lines) = passes b in
     let t = c .before .enum-told2 .given .1 in
     let f = tree-refused (readPattern noneGiven (pat b)) _ _ (ap patternReply (sym t) ∙ c .before .before .before .read-pattern .ensures .0) in
-    (ap Both.Refused (c .pattern-number .ensures ∙ ap patternNumber t) ∙ sym (ap bothTold (both-second (rec b) (pat b) day e _ f)), tt)
+    (λ options. ap Both.Refused (c .pattern-number .ensures ∙ ap patternNumber t) ∙ sym (ap bothTold (both-second (rec b) (pat b) options day e _ f)), tt)
 
 returns-3 : tie.Need-returns-3
 returns-3 c =
@@ -76,7 +78,7 @@ returns-3 c =
     let (p, f, n, k) = tree-passed (readPattern noneGiven (pat b)) _ _ _ (ap patternReply (sym t) ∙ said .0) in
     let small = subst Small t (said .1) in
     let few = places-few (rec b) day e in (
-      cc (places, lines, n, k, ap bothTold (both-passed (rec b) (pat b) day e p f)),
+      λ options. cc (places, lines, n, k, ap bothTold (both-passed (rec b) (pat b) options day e p f)),
       (omega (arith, places, few .0), omega (arith, places, few .1), omega (arith, lines, lines-few (rec b) day e), small .1, small .2),
     )
 

@@ -1,9 +1,13 @@
 -- `request::load` meets its contract: three stretches written end to end. Assumes nothing.
-use mathlib.Core.Path.{_≡_, ap, _∙_}
+use mathlib.Core.Path.{_≡_, sym, ap, _∙_}
+use mathlib.Core.List.{[], _++_, map}
 use Prim.Native.Nat.{_-_}
 use lib.ListN.{length, take, drop}
 use Rattle.boats.specs.Codes.{codes}
 use Rattle.record.specs.Whole.{linesOf}
+use Rattle.windows.specs.Promise.{optionsShown}
+use Rattle.request.specs.Layout.{lineWord, metBy}
+use Rattle.request.specs.Met.{met-loaded}
 use Rattle.request.proofs.Tables.{codes-long, tables-loaded}
 use borrow.Author.Needs.{needs}
 use Rattle.request.proofs.load.Statement.{statement}
@@ -53,9 +57,10 @@ returns c =
     let a = s .args in
     let p = s .pre in
     let lines = linesOf (a .day .now) in
-    let long : length (take (a .plan .words - a .plan .codes) (drop (a .plan .codes) (t .load-table .last .1 .1 .1 .0))) ≡ a .plan .lines = ap (λ u. length (take (a .plan .words - a .plan .codes) (drop (a .plan .codes) u))) (t .load-table .ensures) ∙ codes-long lines (a .plan) (a .work .now) (p .0 .0) (p .0 .1) (p .1 .1) in
+    let long : length (take (a .plan .words - a .plan .codes) (drop (a .plan .codes) (t .load-table .last .1 .1 .1 .0))) ≡ a .plan .lines = ap (λ u. length (take (a .plan .words - a .plan .codes) (drop (a .plan .codes) u))) (t .load-table .ensures) ∙ codes-long lines (a .plan) (a .work .now) (p .0 .0) (p .0 .1) (p .1 .1) [] in
     let numbered : o .load-codes .last .1 .0 ≡ codes lines = o .load-codes .ensures ∙ (ap (λ n. take n (a .numbers .now)) long ∙ p .1 .0) in
-    rw (c .before .before .load-lines .ensures, numbered, t .load-table .ensures) (tables-loaded lines (a .plan) (a .work .now) (p .0 .0) (p .0 .1) (p .1 .1))
+    let w = optionsShown (a .options) .windows in
+    rw (c .before .before .load-lines .ensures, numbered, t .load-table .ensures) (tables-loaded lines (a .plan) (a .work .now) (p .0 .0) (p .0 .1) (p .1 .1) (map lineWord (metBy w lines)) ∙ ap (λ g. take (a .plan .boats) (a .work .now) ++ (g ++ drop (a .plan .base) (a .work .now))) (sym (met-loaded w lines (a .plan .keeps))))
 
 pub load-spec : {M : Type 1} → statement M
 load-spec =

@@ -4,7 +4,7 @@ use Prim.Native.Nat.{_-_, _<_, _≤_}
 use native.Mathlib.Omega.{arith}
 use lib.ListN.{length, getD, take, length-set}
 use lib.Seq.{length-take-le, getD-take}
-use Rattle.request.proofs.Fills.{filled, fill-next, fill-all}
+use Rattle.lists.specs.Filled.{filled, fill-next, fill-all}
 use borrow.Author.Needs.{needs}
 use Rattle.request.proofs.load_codes.Statement.{statement}
 use Rattle.request.proofs.load_codes.Tie as tie

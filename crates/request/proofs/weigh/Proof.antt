@@ -7,6 +7,7 @@ use Prim.Native.Nat.{ℕ, suc, _*_, _^_, _<_, _≤_}
 use lib.Dec.{leb}
 use lib.ListN.{length}
 use Rattle.meaning.specs.Record.{boats}
+use Rattle.meaning.specs.Windows.{plain}
 use Rattle.meaning.specs.Request.{askBoth}
 use Rattle.record.specs.Whole.{linesOf}
 use Rattle.request.specs.Layout.{largest}
@@ -33,7 +34,7 @@ returns : tie.Need-returns
 returns c =
     let a = c .before .before .before .before .before .before .args in
     let t = c .before .enum-told .given .1 in
-    let e = both-refused (askBoth (a .day .now) (a .pattern .now)) _ (sym t ∙ c .before .before .before .ask-both .ensures .0) in
+    let e = both-refused (askBoth (a .day .now) (a .pattern .now) plain) _ (sym t ∙ c .before .before .before .ask-both .ensures .0 plain) in
     (ap Weighing.Refused (c .number .ensures ∙ ap bothNumber t) ∙ sym (ap weighingTold (weight-refused (a .day .now) (a .pattern .now) _ e)), tt)
 
 -- ---- where record and pattern have been read
@@ -56,8 +57,8 @@ unfolded c = c .before .both .given .0 .1 .1 .0
 abbrev keeps : tie.After-known-told → ℕ
 keeps c = c .before .both .given .0 .1 .1 .1 .0
 
-passes : (c : tie.After-known-told) → Counted (rec c) (pat c) (places c) (lines c) (unfolded c) (keeps c)
-passes c = both-counted (rec c) (pat c) _ _ _ _ (sym (c .before .both .given .1) ∙ c .before .before .before .ask-both .ensures .0)
+passes : (c : tie.After-known-told) → Counted (rec c) (pat c) plain (places c) (lines c) (unfolded c) (keeps c)
+passes c = both-counted (rec c) (pat c) plain _ _ _ _ (sym (c .before .both .given .1) ∙ c .before .before .before .ask-both .ensures .0 plain)
 
 small : (c : tie.After-known-told) → (0 < places c) × (places c ≤ 1024) × (lines c ≤ 4096) × (unfolded c ≤ 63) × (keeps c ≤ 3)
 small c = subst Small (c .before .both .given .1) (c .before .before .before .ask-both .ensures .1)
@@ -83,7 +84,7 @@ returns-2 c =
     let b = c .before .before .before in
     let h = passes b in
     let no = told-above (size b) (sym (c .enum-told2 .given .1) ∙ c .before .before .sized .ensures) in
-    (sym (ap weighingTold (weight-above (rec b) (pat b) (h .asked) (h .both) (ap (λ (n : ℕ). leb n largest) (sym (counted-size _ _ _ _ _ _ h)) ∙ no))), tt)
+    (sym (ap weighingTold (weight-above (rec b) (pat b) (h .asked) (h .both) (ap (λ (n : ℕ). leb n largest) (sym (counted-size _ _ _ _ _ _ _ h)) ∙ no))), tt)
 
 -- ---- where the size is known
 
@@ -96,7 +97,7 @@ returns-3 c =
     let b = c .before .before .before .before in
     let h = passes b in
     let yes = size-is c in
-    let whole = counted-size _ _ _ _ _ _ h in
+    let whole = counted-size _ _ _ _ _ _ _ h in
     let is = weight-is (rec b) (pat b) (h .asked) (h .both) (ap (λ (n : ℕ). leb n largest) (sym whole) ∙ yes .0) in
     (cc (h .lines-are, yes .1, whole, ap weighingTold is), (small b .2, yes .2))
 

@@ -4,6 +4,7 @@ use mathlib.Core.Path.{_≡_, ap, _∙_}
 use Prim.Native.Nat.{ℕ, _+_, _*_}
 use Rattle.meaning.specs.Request.{sizeOf}
 use Rattle.stepping.specs.Stepping.{Standing}
+use Rattle.search.specs.Asked.{metAsked}
 use Rattle.searching.proofs.Bridge.{sound-standing, sound-fit, left-parts, left-size}
 use Rattle.searching.proofs.Ending.{finished-in}
 use borrow.Author.Needs.{needs}
@@ -46,9 +47,9 @@ returns c =
       long = same-length-2 c;
       none-out = read .none-out;
       too-long-out = read .too-long-out;
-      begun = λ rec from to q k left.
+      begun = λ rec from to options q k left.
           let compiled = made .0 (q .pattern) (left-parts left .pattern-read) in
-          let is : c .before .before .before .before .before .before .before .before .before .before .all-turns .result ≡ 2 * sizeOf q + 2 = all ∙ ap (λ (n : ℕ). 2 * n + 2) (left-size left (a .pre)) in
+          let is : c .before .before .before .before .before .before .before .before .before .before .all-turns .result ≡ 2 * sizeOf (metAsked q) + 2 = all ∙ ap (λ (n : ℕ). 2 * n + 2) (left-size left (a .pre)) in
           finished-in left (a .pre) compiled on is read;
     }
 

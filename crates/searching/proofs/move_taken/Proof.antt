@@ -8,6 +8,7 @@ use Rattle.meaning.specs.Request.{sizeOf}
 use Rattle.request.specs.Layout.{tableWords}
 use Rattle.area.specs.Area.{patch}
 use Rattle.area.proofs.Stretches.{patch-length}
+use Rattle.search.specs.Asked.{metAsked}
 use Rattle.holding.specs.Holding.{numbersOf}
 use Rattle.sweeping.specs.Sweeping.{indexAt}
 use Rattle.stepping.specs.Stepping.{Standing}
@@ -86,9 +87,9 @@ returns c =
       few = omega (arith, many);
       small = omega (arith, many, all, stands a .laid .small);
       long = same-length c;
-      begun = λ rec from to q k left.
+      begun = λ rec from to options q k left.
           let compiled = made .0 (q .pattern) (left-parts left .pattern-read) in
-          let is : c .before .before .before .before .before .before .before .before .before .before .before .before .before .before .before .before .before .before .before .fewer .result ≡ min (a .args .amount) (2 * sizeOf q + 2) = many ∙ ap (λ (n : ℕ). min (a .args .amount) n) (all ∙ ap (λ (n : ℕ). 2 * n + 2) (left-size left (a .pre))) in
+          let is : c .before .before .before .before .before .before .before .before .before .before .before .before .before .before .before .before .before .before .before .fewer .result ≡ min (a .args .amount) (2 * sizeOf (metAsked q) + 2) = many ∙ ap (λ (n : ℕ). min (a .args .amount) n) (all ∙ ap (λ (n : ℕ). 2 * n + 2) (left-size left (a .pre))) in
           let put = c .before .before .before .put-back .ensures ∙ ap (patch 5 7 (numbersOf (c .before .before .before .before .before .before .before .before .before .before .before .before .before .before .before .before .moved .result .state .at))) (c .before .before .before .before .before .before .before .before .clear-stretch .ensures ∙ ap (λ (n : ℕ). patch (indexAt p) n (replicate n 0) v) (table (p .places) (p .lines))) in
           (moved-count left (a .pre) compiled on (a .args .amount) is, put ∙ moved-held left (a .pre) compiled on (a .args .amount) is);
     }

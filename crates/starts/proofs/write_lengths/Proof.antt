@@ -6,7 +6,7 @@ use native.Mathlib.Omega.{arith}
 use lib.ListN.{length, getD, take, drop, length-map, length-set}
 use lib.Seq.{take-length}
 use Rattle.area.specs.Area.{stretch}
-use Rattle.request.proofs.Fills.{filled, fill-next}
+use Rattle.lists.specs.Filled.{filled, fill-next}
 use Rattle.starts.specs.Highest.{all-below}
 use Rattle.starts.specs.Lengths.{lengthAt, written}
 use Rattle.starts.specs.Theorems.{entry-in, entry-map}
