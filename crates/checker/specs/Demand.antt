@@ -1,19 +1,24 @@
 -- Demand 2 of the checker's definition: `check-demand`, for every request, since a chain is checked exactly where all questions are passed.
--- For callers `check-late`: where the bytes are read as a record and a pattern, refusals are 15 and later.
+-- For callers `check-late`: where the bytes are read as a record and a pattern, refusals are 15 and later. Where no windows are given, what is
+-- accepted is what it is without them: `whole-day-accepted`.
 use mathlib.Core.Path.{_≡_, refl, sym, _∙_, subst}
 use mathlib.Core.Bool.{Bool, true, false, false≢true}
 use mathlib.Core.List.{List}
+use mathlib.Core.Logic.{_↔_}
 use Prim.Native.Nat.{ℕ, _<_}
 use native.Mathlib.Omega.{arith}
 use lib.ListN.{getD}
 use Rattle.meaning.specs.Outcome.{Outcome, refused, passed, ask, andThen, told}
 use Rattle.meaning.specs.Record.{Day, readRecord}
 use Rattle.meaning.specs.Pattern.{Pattern, readPattern, noneGiven}
-use Rattle.meaning.specs.Windows.{Options}
+use Rattle.meaning.specs.Windows.{Options, plain}
 use Rattle.meaning.specs.Request.{Asked, askRequest}
+use Rattle.meaning.specs.Chain.{Matches, Accepted}
 use Rattle.record.specs.Outcomes.{passed-inj}
+use Rattle.record.specs.Whole.{line-passes}
 use Rattle.record.specs.Fit.{record-fits}
 use Rattle.pattern.specs.Kinds.{read-kinds}
+use Rattle.pattern.specs.Masked.{whole-day-accepts}
 use Rattle.request.specs.Told.{Parts, asked-parts, Late, asked-late}
 use Rattle.search.specs.Asked.{check, check-says}
 use Rattle.checker.specs.Promise.{linesExist, checkOf, Says, Demand2}
@@ -62,3 +67,9 @@ check-late rec pat from to chain options words day p r s = go (askRequest rec pa
     go : (o : Outcome Asked) → Late o → Late (andThen o (λ q. ask (linesExist q chain) 18 (passed (check q from to chain))))
     go (refused number) late = late
     go (passed q) late = existing (linesExist q chain) (check q from to chain)
+
+-- ---- the whole day, for every record that passes its questions
+
+pub whole-day-accepted : (rec : List ℕ) (day : Day) (p : Pattern) → readRecord rec ≡ passed day → (a b : ℕ) (c : List ℕ)
+    → Accepted (record { day = day; pattern = p; options = plain }) a b c ↔ Matches (day .lines) p a b c
+whole-day-accepted rec day p e = whole-day-accepts day p (λ i less. let (least, most, time) = line-passes rec day e i less in (most, time))
