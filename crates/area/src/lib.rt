@@ -1,6 +1,8 @@
 // The words of the lent work area: a word of a stretch, a stretch cleared, and the search that a pair of stretches holds. Each function that
 // changes the pair promises a `Step`: what the pair holds afterwards, and that every other word is as it was. Between the calls of a search in steps
 // the area is the caller's: `push_if_new` and `waiting_checked` keep to the pair whatever words stand in it.
+#![tactic(auto)]
+
 ghost use Rattle.std.specs.Prelude.{◌≡◌, suc, ◌+◌, ◌≤◌, ◌<◌, length, get_or, set, replicate};
 ghost use Rattle.graph.specs.Table.{push};
 ghost use Rattle.area.specs.Area.{patch, Good, found, Ready, Room, StepAny};

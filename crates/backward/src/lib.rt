@@ -1,4 +1,6 @@
 // Phase one: the distances of states to the goal, by expanding states backward, until none waits or a first state is met.
+#![tactic(auto)]
+
 ghost use Rattle.std.specs.Prelude.{◌≡◌, [], ◌∷◌, ◌<◌, length};
 ghost use Rattle.request.specs.Layout.{Laid};
 ghost use Rattle.search.specs.Loaded.{setting_at};

@@ -1,4 +1,6 @@
 // The different boats of a day's record: counted, and numbered from 1 in order of first appearance.
+#![tactic(auto)]
+
 ghost use Rattle.std.specs.Prelude.{◌≡◌, suc, ◌<◌, ◌≤◌, length, take};
 ghost use Rattle.meaning.specs.Count.{reads, count_of};
 ghost use Rattle.meaning.specs.Outcome.{told};
@@ -13,21 +15,21 @@ ghost use Rattle.record.specs.Whole.{lines_of};
 use record::{Line, Reading};
 
 // How many different boats there are, and how many earlier lines were read to tell.
-#[derive(Drop)]
+#[derive(Clone, Copy)]
 pub struct BoatCount {
     pub boats: usize,
     pub reads: usize,
 }
 
 // What counting a record's boats says.
-#[derive(Drop)]
+#[derive(Clone, Copy)]
 pub enum CountReply {
     Count(BoatCount),
     Refused(u8, usize),
 }
 
 // The lines gone over so far: the next line and the byte at which it begins, the different boats, and the earlier lines read.
-#[derive(Drop)]
+#[derive(Clone, Copy)]
 pub struct Tally {
     pub line: usize,
     pub at: usize,

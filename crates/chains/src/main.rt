@@ -1,5 +1,7 @@
 // The small program: a question in two files, and its answer as one line of text.
 // The file day.rec has the record; ask.pat has the two places, in two bytes each, and then the pattern.
+#![tactic(auto)]
+
 ghost use Rattle.std.specs.Prelude.{◌≡◌, ◌+◌, ◌*◌, ◌<◌, ◌≤◌, length};
 ghost use Rattle.io.specs.Counts.{IsPrefixLen};
 ghost use Rattle.finder.specs.Promise.{find_reply};

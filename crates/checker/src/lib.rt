@@ -1,5 +1,7 @@
 // Is a chain accepted? The set of states that the chain can be in is moved along it, line by line, inside one lent work area.
 // Marks and frontier hold the set; the list before them holds the states of the line before, so that a line's work goes by the states alive.
+#![tactic(auto)]
+
 ghost use Rattle.std.specs.Prelude.{◌≡◌, true, ◌+◌, ◌≤◌, ◌<◌, length};
 ghost use Rattle.meaning.specs.Outcome.{told};
 ghost use Rattle.meaning.specs.Windows.{plain};
@@ -20,7 +22,7 @@ use request::{Plan, Request};
 use windows::Options;
 
 // Document 01's reply: yes, no, or a refused question's number and second number.
-#[derive(Drop)]
+#[derive(Clone, Copy)]
 pub enum CheckReply {
     Yes,
     No,

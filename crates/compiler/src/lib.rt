@@ -1,6 +1,8 @@
 // The compiler: from a pattern's bytes to its position automaton, written into a program.
 // Two passes over the bytes, both by recursion: what a pattern begins with, and with that the entries of its positions. A counted
 // pattern has the positions of its inside as often as it may come, one round after the other.
+#![tactic(auto)]
+
 ghost use Rattle.std.specs.Prelude.{◌<◌, ◌≤◌, ◌≡◌, ◌||◌, [], ◌∷◌, eqb};
 ghost use Rattle.meaning.specs.Pattern.{nothing};
 ghost use Rattle.automaton.specs.Automaton.{silent, before};
@@ -32,7 +34,7 @@ const SISTER: u8 = 0x28;
 const COUNTED: u8 = 0x2A;
 
 // A command that passed its questions: its byte, its two operands, the count of patterns after it, the place after it.
-#[derive(Drop)]
+#[derive(Clone, Copy)]
 pub struct Step {
     pub code: u8,
     pub first: u8,
@@ -108,7 +110,7 @@ fn in_rounds(c: Step) -> bool
 // ---- what a pattern begins with
 
 // The place after a pattern, the position after its own, the positions of its first letters, and whether it has the empty word.
-#[derive(Drop)]
+#[derive(Clone, Copy)]
 pub struct Begin {
     pub next: usize,
     pub after: usize,
@@ -167,7 +169,7 @@ fn begin_leaf(c: Step, base: usize) -> Begin
 // ---- the rounds of a counted pattern
 
 // One round: the positions of its first letters, whether it may be empty, and how many positions it has.
-#[derive(Drop)]
+#[derive(Clone, Copy)]
 pub struct Round {
     pub heads: u64,
     pub nullable: bool,
@@ -309,7 +311,7 @@ fn begin_at(src: &[u8], at: usize, base: usize) -> Begin
 
 // A pattern to compile: the place of its bytes, its first position, for each slot the level and one of the innermost keep around it
 // (0 where there is none), how many keeps are around it, and the positions that may come after it.
-#[derive(Drop)]
+#[derive(Clone, Copy)]
 pub struct Task {
     pub at: usize,
     pub base: usize,
@@ -397,7 +399,7 @@ fn second_task(task: Task, p: Begin) -> Task
 
 // Rounds of a counted pattern that are to be compiled: the task of the next one, except that `after` is what may come after the last;
 // how many of them are needed, and how many there are.
-#[derive(Drop)]
+#[derive(Clone, Copy)]
 pub struct Rounds {
     pub task: Task,
     pub lowest: usize,
@@ -489,7 +491,7 @@ fn rest(rounds: Rounds, p: Begin) -> Rounds
 // ---- the entries of a position
 
 // What the program gets at one position.
-#[derive(Drop)]
+#[derive(Clone, Copy)]
 pub struct Entry {
     pub row: Row,
     pub follow: u64,

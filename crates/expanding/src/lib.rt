@@ -1,4 +1,6 @@
 // A state expanded, backward: each state before it that has no word gets one, by the sorted lines where they are there.
+#![tactic(auto)]
+
 ghost use Rattle.std.specs.Prelude.{◌≡◌, true, suc, ◌+◌, ◌*◌, ◌-◌, ◌^◌, ◌/◌, ◌%◌, ◌≤◌, ◌<◌, length, get_or};
 ghost use Rattle.positions.specs.Program.{bit_of, follow_at};
 ghost use Rattle.automaton.specs.Shape.{deeper};
@@ -56,7 +58,7 @@ fn one_stack(
 }
 
 // The stacks after a position that are undone: x * weight + stack, for each x below `count`. The states before get the word `d`.
-#[derive(Drop)]
+#[derive(Clone, Copy)]
 pub struct Undo {
     pub spot: Spot,
     pub weight: usize,

@@ -1,5 +1,7 @@
 // The library's boundary for C and Rust: every reply as one number of 64 bits, n · 2^32 + value. n is 0, or the number of the
 // question that failed, and value is then the refusal's second number.
+#![tactic(auto)]
+
 ghost use Rattle.std.specs.Prelude.{◌≡◌, ◌∷◌, ◌++◌, ◌+◌, ◌*◌, ◌<◌, ◌≤◌, length, drop, set};
 ghost use Rattle.std.proofs.Math.Option.{none, some};
 ghost use Rattle.meaning.specs.Count.{count_of};

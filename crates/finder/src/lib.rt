@@ -1,6 +1,8 @@
 // The finder: the first shortest chain that a pattern accepts between two places, or that there is none.
 // Phase one gives states their distances to the end until a first state is met; phase two takes, line by line, the least line that
 // leads one nearer.
+#![tactic(auto)]
+
 ghost use Rattle.std.specs.Prelude.{◌≡◌, ◌<◌, length};
 ghost use Rattle.meaning.specs.Windows.{plain};
 ghost use Rattle.meaning.specs.Request.{ask_request, work_after};
@@ -17,7 +19,7 @@ use request::{Plan, Request};
 use windows::Options;
 
 // What the finder says: the length of the chain that it wrote to the output, that there is none, or a refusal.
-#[derive(Drop)]
+#[derive(Clone, Copy)]
 pub enum FindReply {
     Found(usize),
     NoChain,

@@ -1,5 +1,7 @@
 // Forward by one line from one state: the states to which it leads are visited; and the first states of a search. Marks and frontier are
 // phase two's pair of stretches, after the distances. The checker and both phases of the finder go by this.
+#![tactic(auto)]
+
 ghost use Rattle.std.specs.Prelude.{◌≡◌, ℕ, ◌+◌, ◌^◌, ◌%◌, ◌≤◌, ◌<◌, length};
 ghost use Rattle.positions.specs.Program.{depth_at};
 ghost use Rattle.request.specs.Layout.{Laid};
@@ -79,7 +81,7 @@ pub fn over_next(
 }
 
 // A line as it is loaded: the places that it comes from and leads to, its kind, and its boat's number.
-#[derive(Drop)]
+#[derive(Clone, Copy)]
 pub struct Lead {
     pub from: usize,
     pub to: usize,

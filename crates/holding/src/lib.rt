@@ -1,6 +1,8 @@
 // The search that a work area holds between its calls, taken out and put back. In front stand the numbers and the pattern's bytes, then what is
 // loaded of the record, then four stretches. Every number of front and lines is checked before it is used: an area that fails a check holds no search.
 // Of the four stretches no word is read here: there are up to four million, and a state taken up meets a few. Who reads one checks it.
+#![tactic(auto)]
+
 ghost use Rattle.std.specs.Prelude.{◌≡◌, true, ◌+◌, ◌%◌, ◌≤◌, ◌<◌, length, take};
 ghost use Rattle.request.specs.Layout.{Laid};
 ghost use Rattle.area.specs.Area.{patch};
@@ -22,7 +24,7 @@ const LONGEST: usize = 192;
 
 // The numbers of a search under way, as they stand in the area: the phase, how many states are expanded, found, the word of the nearest first
 // state, how many the sweep has left, the line chosen and the line noted.
-#[derive(Drop)]
+#[derive(Clone, Copy)]
 pub struct Counters {
     pub phase: u32,
     pub expanded: u32,
@@ -179,7 +181,7 @@ pub fn pattern_bytes(work: &[u32], bytes: &mut [u8; 192]) -> usize
 
 // ---- the plan
 
-#[derive(Drop)]
+#[derive(Clone, Copy)]
 pub enum Planning {
     Laid(Plan),
     Altered,
@@ -267,14 +269,14 @@ fn lines_sound(work: &[u32], plan: Plan) -> bool
 // ---- the search
 
 // A search under way: where everything stands, the place asked about, and the numbers that move.
-#[derive(Drop)]
+#[derive(Clone, Copy)]
 pub struct SearchState {
     pub plan: Plan,
     pub from: usize,
     pub at: Counters,
 }
 
-#[derive(Drop)]
+#[derive(Clone, Copy)]
 pub enum Taken {
     Search(SearchState),
     Altered,

@@ -1,1 +1,3 @@
 // What a reader must believe stands in specs/; no code is here.
+#![tactic(auto)]
+

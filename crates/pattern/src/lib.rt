@@ -1,4 +1,6 @@
 // Reading a pattern: its bytes are asked questions 8 to 13 and 24 command by command, then questions 14 and 25 (documents 01 and 02).
+#![tactic(auto)]
+
 ghost use Rattle.std.specs.Prelude.{◌≡◌, true, ◌+◌, ◌<◌, ◌≤◌, max, length};
 ghost use Rattle.meaning.specs.Outcome.{told};
 ghost use Rattle.meaning.specs.Pattern.{shape_of, operand, operands_allowed, counts_allowed, slot_known, keep_fits, is_test, is_keep, command_at, outermost, inside, read_pattern, none_given};
@@ -9,7 +11,7 @@ ghost use Rattle.pattern.specs.Promise.{pattern_reply, counts_of, Small};
 // ---- the command table
 
 // A row of the command table: bytes of operands, and patterns after the command.
-#[derive(Drop)]
+#[derive(Clone, Copy)]
 pub enum Shape {
     Is { operands: usize, patterns: usize },
     NoCommand,
@@ -67,7 +69,7 @@ const COUNTED: u8 = 0x2A;
 // ---- one command
 
 // What stands at one place of the bytes, questions 8 to 13 and 24 asked of it. The two operands are 0 where the command has none.
-#[derive(Drop)]
+#[derive(Clone, Copy)]
 pub enum Command {
     Is {
         code: u8,
@@ -81,7 +83,7 @@ pub enum Command {
 
 // What stands around a pattern: `kept` has 1 for each slot that a keep around it, or the caller, gives a boat, `given` for each slot
 // that the caller does, and `depth` is how many keeps there are. `given` is apart from `kept` for what is read without the keeps around it.
-#[derive(Drop)]
+#[derive(Clone, Copy)]
 pub struct Outside {
     pub kept: [u8; 4],
     pub given: [u8; 4],
@@ -216,7 +218,7 @@ pub fn command_at(src: &[u8], at: usize, before: usize, o: Outside) -> Command
 // ---- the reader
 
 // It stays on the caller's bytes: the slice that was lent, and a place in it.
-#[derive(Drop)]
+#[derive(Clone, Copy)]
 pub struct Reader<'a> {
     pub src: &'a [u8],
     pub at: usize,
@@ -290,7 +292,7 @@ fn inside(code: u8, slot: u8, o: Outside) -> Outside
 
 // What is told of a pattern that was read: the place after it, its commands as written, its unfolded count as `capped` counts,
 // its deepest nesting of keeps.
-#[derive(Drop)]
+#[derive(Clone, Copy)]
 pub struct Extent {
     pub next: usize,
     pub commands: usize,
@@ -299,7 +301,7 @@ pub struct Extent {
 }
 
 // A pattern that was read, or the number of the question that refused it.
-#[derive(Drop)]
+#[derive(Clone, Copy)]
 pub enum Reading {
     Read(Extent),
     Refused(u8),
@@ -432,7 +434,7 @@ fn reading_number(r: Reading) -> u8
 // ---- a pattern's bytes
 
 // What a caller is told of a pattern.
-#[derive(Drop)]
+#[derive(Clone, Copy)]
 pub enum PatternReply {
     Pattern {
         commands: usize,

@@ -1,11 +1,13 @@
 // A pattern's automaton in one array of 128 words, its program: for each position a word that packs its row, and the mask of the
 // positions that may come after it. The automaton as mathematics stands in crate automaton; crate compiler writes programs.
+#![tactic(auto)]
+
 ghost use Rattle.std.specs.Prelude.{◌≡◌, ◌<◌, length, set};
 ghost use Rattle.positions.specs.Program.{rule_code, rule_of, bit, packed, unpacked, Packs, row_at, follow_at, Put};
 
 // What a position asks of a line's boat: nobody passes, everybody does, only the boat that is kept, all others, those of its class, or
 // those of another class.
-#[derive(Drop)]
+#[derive(Clone, Copy)]
 pub enum Rule {
     Never,
     Always,
@@ -17,7 +19,7 @@ pub enum Rule {
 
 // A position: its kind and rule, the stack level of the boat that the rule compares with, the stack's depth before it, and whether it
 // pushes the line's boat.
-#[derive(Drop)]
+#[derive(Clone, Copy)]
 pub struct Row {
     pub kind: u8,
     pub rule: Rule,

@@ -1,6 +1,8 @@
 // The chain that the marks of a finished sweep say: the line into each level is the least mark of its states, less one. One pass over the states
 // found notes the least mark of every level in the output, and a second makes lines of marks. Whatever words the area has, nothing but the output is
 // written; where a search stands in it, the output's front is the chain.
+#![tactic(auto)]
+
 ghost use Rattle.std.specs.Prelude.{◌≡◌, ◌++◌, ◌+◌, ◌*◌, ◌-◌, ◌≤◌, ◌<◌, length, take, drop, replicate};
 ghost use Rattle.graph.specs.PhaseTwo.{lesser_word};
 ghost use Rattle.states.specs.Pairs.{RoomBack, GoodBack};

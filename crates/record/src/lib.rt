@@ -1,4 +1,6 @@
 // The day's record: reading its bytes, going over its lines, and reading one back.
+#![tactic(auto)]
+
 ghost use Rattle.std.specs.Prelude.{◌≡◌, suc, ◌+◌, ◌*◌, ◌<◌, ◌≤◌, length, drop, eqb};
 ghost use Rattle.meaning.specs.Outcome.{value, passed, told};
 ghost use Rattle.meaning.specs.Record.{byte, two, three, four, time_of, line_of, ask_line, time_allowed, line_entry, entry_at, lines_from, read_record};
@@ -10,7 +12,7 @@ ghost use Rattle.record.specs.Promise.{line_reply, line_shown};
 ghost use Rattle.record.specs.Reading.{head_word, tail_word, untimed, time_shown, width_shown, written_shown, entry_number, reading_number, entry_told, closed_with, head_told, counted_with, reading_told};
 
 // The five operands of a line.
-#[derive(Drop)]
+#[derive(Clone, Copy)]
 pub struct Line {
     pub from: u16,
     pub kind: u8,
@@ -20,7 +22,7 @@ pub struct Line {
 }
 
 // A line as it is written: its operands, and its time, seconds since midnight, where it is timed.
-#[derive(Drop)]
+#[derive(Clone, Copy)]
 pub struct Written {
     pub line: Line,
     pub timed: bool,
@@ -28,21 +30,21 @@ pub struct Written {
 }
 
 // A line gone over, and the byte at which the next one begins.
-#[derive(Drop)]
+#[derive(Clone, Copy)]
 pub struct Met {
     pub written: Written,
     pub next: usize,
 }
 
 // A line of a record beside another line: whether they are the same, and the byte at which the record's next line begins.
-#[derive(Drop)]
+#[derive(Clone, Copy)]
 pub struct Beside {
     pub same: bool,
     pub next: usize,
 }
 
 // What reading a line back says: an untimed line, or a timed one with its time.
-#[derive(Drop)]
+#[derive(Clone, Copy)]
 pub enum LineReply {
     Line(Line),
     Timed(Line, u32),
@@ -50,14 +52,14 @@ pub enum LineReply {
 }
 
 // The places command at the front of a record.
-#[derive(Drop)]
+#[derive(Clone, Copy)]
 pub enum Head {
     Places(usize),
     Wrong(u8),
 }
 
 // What stands at one byte after it, its questions asked: a line of so many bytes, the end, or the number of the question that fails.
-#[derive(Drop)]
+#[derive(Clone, Copy)]
 pub enum Entry {
     Line(usize),
     End,
@@ -65,7 +67,7 @@ pub enum Entry {
 }
 
 // A whole record, its questions asked: how many places and lines, or the number of the question that fails.
-#[derive(Drop)]
+#[derive(Clone, Copy)]
 pub enum Reading {
     Record { places: usize, lines: usize },
     Refused(u8),

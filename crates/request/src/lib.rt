@@ -1,4 +1,6 @@
 // Requests: questions 15 to 17 and 27, the search size, the layout of the work area, loading the record into it and clearing it.
+#![tactic(auto)]
+
 ghost use Rattle.std.specs.Prelude.{◌≡◌, ◌++◌, map, suc, ◌+◌, ◌*◌, ◌^◌, ◌<◌, ◌≤◌, length, take, drop, replicate};
 ghost use Rattle.meaning.specs.Outcome.{told};
 ghost use Rattle.meaning.specs.Request.{need, ask_request, words_of, ask_search, search_words_of};
@@ -33,7 +35,7 @@ pub const SCALE: usize = 4398046511104;
 
 // The numbers of a search, and where each of its tables begins in the work area. Numbers of one width stand together: the plan is passed by
 // value, and at 128 bytes or less it is copied without a call.
-#[derive(Drop)]
+#[derive(Clone, Copy)]
 pub struct Plan {
     pub places: usize,
     pub lines: usize,
@@ -72,7 +74,7 @@ pub struct Plan {
 // ---- the questions
 
 // A record and a pattern that pass their questions, by their counts.
-#[derive(Drop)]
+#[derive(Clone, Copy)]
 pub enum Both {
     Read {
         places: usize,
@@ -140,7 +142,7 @@ fn ask_both(day: &[u8], pattern: &[u8]) -> Both
 }
 
 // A search size up to the limit, or that it is above it.
-#[derive(Drop)]
+#[derive(Clone, Copy)]
 pub enum Sizing {
     Size(usize),
     Above,
@@ -164,7 +166,7 @@ pub fn size_of(places: usize, unfolded: usize, radix: usize, keeps: usize) -> Si
 }
 
 // The different boats of a record and the search size, or that it is above the limit.
-#[derive(Drop)]
+#[derive(Clone, Copy)]
 pub enum Measured {
     Size { boats: usize, size: usize },
     Above,
@@ -291,7 +293,7 @@ pub fn planned(
 }
 
 // A request that passed questions 1 to 17, by its plan, or the number of the question that failed.
-#[derive(Drop)]
+#[derive(Clone, Copy)]
 pub enum Request {
     Asked(Plan),
     Refused(u8),
@@ -310,7 +312,7 @@ impl Request {
 }
 
 // What questions 1 to 16 tell of a request: its numbers, with the different boats and one, and the search size.
-#[derive(Drop)]
+#[derive(Clone, Copy)]
 pub struct Counts {
     pub places: usize,
     pub lines: usize,
@@ -321,7 +323,7 @@ pub struct Counts {
 }
 
 // A request that passed questions 1 to 16, by its counts, or the number of the question that failed.
-#[derive(Drop)]
+#[derive(Clone, Copy)]
 pub enum Counting {
     Counted(Counts),
     Refused(u8),
@@ -445,14 +447,14 @@ pub fn ask_search(
 }
 
 // How many words of work area a request needs, or the number of the question that failed.
-#[derive(Drop)]
+#[derive(Clone, Copy)]
 pub enum WordsReply {
     Words(usize),
     Refused(u8, usize),
 }
 
 // How many lines and which search size a record and a pattern have, whatever places are asked about: questions 1 to 14, 24, 25 and 16.
-#[derive(Drop)]
+#[derive(Clone, Copy)]
 pub enum Weighing {
     Weighed { lines: usize, size: usize },
     Refused(u8),

@@ -1,5 +1,7 @@
 // The test program: tables of worked rows, one after the other, each in a file of its own. The file stdout has what document 01 says.
 // The requests of random.bin are made at random: the second program (reference/) made them, and answered them for stdout.
+#![tactic(auto)]
+
 mod area;
 mod checks;
 mod file;

@@ -1,5 +1,7 @@
 // A search that is begun, moved on by an amount and finished, while lines may be added to the record. Between the calls it stands in the work area
 // alone: begin takes what it needs of lines and pattern into the area, and move and finish see neither.
+#![tactic(auto)]
+
 ghost use Rattle.std.specs.Prelude.{◌≡◌, ◌+◌, ◌*◌, ◌≤◌, ◌<◌, min, length};
 ghost use Rattle.meaning.specs.Windows.{plain};
 ghost use Rattle.meaning.specs.Request.{ask_search};
@@ -17,13 +19,13 @@ use stepping::Going;
 use windows::Options;
 
 // What begin says, and what a move says: how many states it took up.
-#[derive(Drop)]
+#[derive(Clone, Copy)]
 pub enum BeginReply {
     Begun,
     Refused(u8, usize),
 }
 
-#[derive(Drop)]
+#[derive(Clone, Copy)]
 pub enum MoveReply {
     Moved(usize),
     Refused(u8, usize),

@@ -1,6 +1,8 @@
 // All starts in one go: for each listed place the length of the first shortest chain to one finishing place, out of one search.
 // It goes back from the finishing place until nothing waits, so that every state from which that place is reached has its distance. A listed
 // place then has the distance of the nearest of its first states.
+#![tactic(auto)]
+
 ghost use Rattle.std.specs.Prelude.{◌≡◌, true, ◌<◌, ◌≤◌, length, get_or};
 ghost use Rattle.meaning.specs.Windows.{plain};
 ghost use Rattle.meaning.specs.Request.{all_below, ask_starts, work_after};
@@ -18,7 +20,7 @@ use request::{Plan, Request};
 use windows::Options;
 
 // What is said of all starts: how many lengths were written, one for each listed place, or a refusal.
-#[derive(Drop)]
+#[derive(Clone, Copy)]
 pub enum StartsReply {
     Lengths(usize),
     Refused(u8, usize),

@@ -1,4 +1,6 @@
 // Boats, positions and states by their numbers: what each loop of the search does with one of them.
+#![tactic(auto)]
+
 ghost use Rattle.std.specs.Prelude.{◌≡◌, true, ℕ, ◌+◌, ◌*◌, ◌-◌, ◌^◌, ◌/◌, ◌%◌, ◌≤◌, ◌<◌, eqb, length};
 ghost use Rattle.positions.specs.Program.{row_at, depth_at};
 ghost use Rattle.boats.specs.Table.{class_in, told_by};
@@ -54,7 +56,7 @@ pub fn class_key(work: &[u32], plan: Plan, x: usize) -> usize
 }
 
 // What comparing two boats tells.
-#[derive(Drop)]
+#[derive(Clone, Copy)]
 pub enum Told {
     Unread,
     SameBoat,
@@ -132,7 +134,7 @@ pub fn meets(rule: Rule, told: Told) -> bool
 // ---- a position by its numbers
 
 // Its kind and rule, whether it pushes, radix^level of the level that the rule reads, and radix^depth.
-#[derive(Drop)]
+#[derive(Clone, Copy)]
 pub struct Spot {
     pub kind: usize,
     pub rule: Rule,
@@ -309,7 +311,7 @@ pub fn put_on_at(program: &[u64; 128], radix: usize, c: usize, u: usize, code: u
 }
 
 // Which boats pass, by their numbers, once the boat that the rule compares with is known. `Ask` says nothing: each is to be asked about.
-#[derive(Drop)]
+#[derive(Clone, Copy)]
 pub enum Takes {
     Any,
     Only(usize),
@@ -319,7 +321,7 @@ pub enum Takes {
 }
 
 // The same of the rules that compare classes.
-#[derive(Drop)]
+#[derive(Clone, Copy)]
 pub enum Kin {
     Sister(usize),
     Foreign(usize),
@@ -349,7 +351,7 @@ pub fn takes_all(spot: Spot) -> bool
 }
 
 // What the lines of a thin table were told apart by: their boats, their classes, or, in each class, their boats.
-#[derive(Drop)]
+#[derive(Clone, Copy)]
 pub enum Sieve {
     Boats,
     Classes,
@@ -357,7 +359,7 @@ pub enum Sieve {
 }
 
 // Which lines are enough: the thin ones of a sieve, or no fewer than all.
-#[derive(Drop)]
+#[derive(Clone, Copy)]
 pub enum Sifting {
     Thin(Sieve),
     Whole,
@@ -420,7 +422,7 @@ pub fn place_of(plan: Plan, s: usize) -> usize
 }
 
 // The position and the stack of a state.
-#[derive(Drop)]
+#[derive(Clone, Copy)]
 pub struct Stand {
     pub position: usize,
     pub stack: usize,
@@ -463,7 +465,7 @@ pub fn rest_of(mask: u64) -> u64
 
 // A state that is expanded: its place, its position, the position's depth, radix^depth, its stack cut to that depth, and the stack's two
 // lowest entries, which many positions compare with.
-#[derive(Drop)]
+#[derive(Clone, Copy)]
 pub struct Target {
     pub place: usize,
     pub position: usize,

@@ -1,6 +1,8 @@
 // A search under way moved on: `Going` has the search state by value, and its methods take it and return it moved on. Phase one expands the states found until
 // nothing waits or a first state is met; then phase two sweeps over them, the last found first. Each turn takes up one state. Whatever words the four
 // stretches have, no other word changes; where a search stands in them, it is moved on as it should be.
+#![tactic(auto)]
+
 ghost use Rattle.std.specs.Prelude.{◌≡◌, suc, ◌+◌, ◌≤◌, ◌<◌};
 ghost use Rattle.graph.specs.Underway.{settled, goes_on, last_word};
 ghost use Rattle.stepping.specs.Stepping.{underway_in, firsts, expanded_by, taken_in, Standing, Searched, Fitting, Indexing, Ordering, StepHeld, BackBy, ForthBy, BackMoved, ForthMoved, MovedOn};
@@ -10,7 +12,7 @@ use sorted::Order;
 use sweeping::Sweeping;
 
 // A search under way, and how much is left of an amount that it is to be moved on by.
-#[derive(Drop)]
+#[derive(Clone, Copy)]
 pub struct Going {
     pub state: SearchState,
     pub left: usize,

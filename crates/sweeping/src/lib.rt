@@ -1,6 +1,8 @@
 // Phase two state by state, for a search that can stop at every count: the states found are taken up once more, the last found first. A state that
 // is marked with the line chosen into its level looks for its least line to a state one nearer, and the states to which that line leads are marked
 // with it. The marks stand after the tags; after the marks stand the lines in order of the place that they come from.
+#![tactic(auto)]
+
 ghost use Rattle.std.specs.Prelude.{◌≡◌, false, ℕ, ◌+◌, ◌-◌, ◌^◌, ◌%◌, ◌≤◌, ◌<◌, length};
 ghost use Rattle.positions.specs.Program.{depth_at};
 ghost use Rattle.graph.specs.Loops.{turns};
@@ -17,7 +19,7 @@ use request::Plan;
 use sorted::Order;
 
 // Which states are marked, by their word, and with what.
-#[derive(Drop)]
+#[derive(Clone, Copy)]
 pub struct Marking {
     pub want: u32,
     pub with: u32,
@@ -149,7 +151,7 @@ fn lead_on(
 }
 
 // How far the sweep is: how many of the states found are left, the line chosen into the level of the last of them, and the least line found there.
-#[derive(Drop)]
+#[derive(Clone, Copy)]
 pub struct Sweeping {
     pub rest: usize,
     pub chosen: usize,

@@ -1,5 +1,7 @@
 // A state expanded, backward, with how each state before it is reached: the line, and the state that is expanded, as a tag beside the queue.
 // The lines stand in order of the place that they lead to, after the four stretches.
+#![tactic(auto)]
+
 ghost use Rattle.std.specs.Prelude.{◌≡◌, false, suc, ◌+◌, ◌*◌, ◌-◌, ◌≤◌, ◌<◌, length, replicate};
 ghost use Rattle.positions.specs.Program.{bit_of, follow_at};
 ghost use Rattle.request.specs.Layout.{Laid};
@@ -62,7 +64,7 @@ fn one_traced(
 }
 
 // Which boats a line can have that leads back: one alone, or any.
-#[derive(Drop)]
+#[derive(Clone, Copy)]
 pub enum Wanted {
     Only(usize),
     Any,

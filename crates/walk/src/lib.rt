@@ -1,5 +1,7 @@
 // Phase two: from the distances that phase one left, the first shortest chain, line by line. Marks and frontiers are the pair of stretches
 // after the distances.
+#![tactic(auto)]
+
 ghost use Rattle.std.specs.Prelude.{◌≡◌, true, ◌++◌, suc, ◌+◌, ◌-◌, ◌≤◌, ◌<◌, length, take, drop};
 ghost use Rattle.request.specs.Layout.{Laid};
 ghost use Rattle.graph.specs.PhaseTwo.{gather};
@@ -51,7 +53,7 @@ pub fn gather_line(
 }
 
 // The line that is chosen, and the count of the queue then.
-#[derive(Drop)]
+#[derive(Clone, Copy)]
 pub struct Choice {
     pub line: usize,
     pub tail: usize,

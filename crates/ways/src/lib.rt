@@ -1,4 +1,6 @@
 // The ways back over lines: which of the sorted lines lead to a state by a position, what state each gives, and the loop over them.
+#![tactic(auto)]
+
 ghost use Rattle.std.specs.Prelude.{◌≡◌, ℕ, suc, ◌+◌, ◌*◌, ◌-◌, ◌^◌, ◌/◌, ◌%◌, ◌≤◌, ◌<◌, length, get_or, true, false, List, eqb};
 ghost use Rattle.request.specs.Layout.{largest, Laid, filed_end};
 ghost use Rattle.graph.specs.Loops.{turns};
@@ -19,7 +21,7 @@ use states::{Kin, Sieve, Sifting, Spot, Takes, Target};
 
 // Which words are taken: all, only those with a number, those of read boats with another, and of these only those of the same class or, whatever
 // their numbers, those of another class.
-#[derive(Drop)]
+#[derive(Clone, Copy)]
 pub enum Taking {
     All,
     Only,
@@ -30,7 +32,7 @@ pub enum Taking {
 
 // What the words written of lines give: `from` times `block`, `home`, and the word's number times `weight` is the state before. `taking` says
 // which words are taken, by `number`.
-#[derive(Drop)]
+#[derive(Clone, Copy)]
 pub struct Lane {
     pub block: usize,
     pub home: usize,
@@ -179,7 +181,7 @@ pub fn over_words(
 
 // The way from a state back to a position: by the lines of one boat into its place, by those of one kind, with each stack, one by one, or
 // by no line.
-#[derive(Drop)]
+#[derive(Clone, Copy)]
 pub enum Way {
     ByBoat(usize, Lane),
     ByKind(usize, Lane),
@@ -313,7 +315,7 @@ pub fn way_of(work: &[u32], plan: Plan, spot: Spot, target: Target, leaves: usiz
 
 // The lines of one kind, where other boats of one class are asked for, or boats of other classes. Apart from the ways above, which nearly every
 // search takes: with two more of them these are compiled to slower code.
-#[derive(Drop)]
+#[derive(Clone, Copy)]
 pub enum ClassWay {
     Sister(usize, Lane),
     Foreign(usize, Lane),

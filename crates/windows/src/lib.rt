@@ -1,4 +1,6 @@
 // Windows of the day: what goes with a question, question 27, and which lines are inside.
+#![tactic(auto)]
+
 ghost use Rattle.std.specs.Prelude.{◌≡◌, ◌&&◌, ◌<◌, ◌≤◌, ltb, leb};
 ghost use Rattle.meaning.specs.Windows.{within as within_window, inside as inside_window, windows_allowed, plain};
 ghost use Rattle.record.specs.Reading.{time_shown, written_shown};
@@ -9,7 +11,7 @@ use record::Written;
 
 // What goes with a question: for each of the kinds 1 to 15, in their order, the second at which its window opens and the one at which it
 // closes.
-#[derive(Drop)]
+#[derive(Clone, Copy)]
 pub struct Options {
     pub opens: [u32; 15],
     pub closes: [u32; 15],

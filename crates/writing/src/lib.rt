@@ -1,4 +1,6 @@
 // Writing the day's record: beginning one, and adding a line, untimed or timed.
+#![tactic(auto)]
+
 ghost use Rattle.std.specs.Prelude.{◌≡◌, [], ◌∷◌, ◌++◌, ◌+◌, ◌<◌, ◌≤◌, length};
 ghost use Rattle.meaning.specs.Outcome.{told};
 ghost use Rattle.meaning.specs.Record.{bytes_of};
@@ -12,7 +14,7 @@ ghost use Rattle.record.specs.Whole.{lines_of};
 use record::{Entry, Line, Reading, Written};
 
 // What beginning a record and adding a line say: the record's new length, or a refusal's number and second number.
-#[derive(Drop)]
+#[derive(Clone, Copy)]
 pub enum WriteReply {
     Length(usize),
     Refused(u8, usize),
