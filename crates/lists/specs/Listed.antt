@@ -35,7 +35,7 @@ module _ {A : Type 0} (f : A → Bool) where
       here true e h later = (x, Memᴰ.head refl, e)
       here false e h later = let (y, m, t) = later h in (y, Memᴰ.tail m, t)
 
-  pub any_of-complete : {l : List A} {x : A} → x ∈ l → So (f x) → So (any_of f l)
+  pub any_of-complete : {x : A} {l : List A} → x ∈ l → So (f x) → So (any_of f l)
   any_of-complete (Memᴰ.head {x = y} {xs = l} e) h = ap (λ z. f z || any_of f l) (sym e) ∙ ap (◌|| any_of f l) h
   any_of-complete (Memᴰ.tail {x = y} {xs = l} m) h = later (f y) (any_of f l) (any_of-complete m h)
     where
