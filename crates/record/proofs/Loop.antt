@@ -2,28 +2,20 @@
 -- Assumes nothing.
 use mathlib.Core.Path.{◌≡◌, refl, sym, ap, ◌∙◌, subst}
 use mathlib.Core.Bool.{Bool, true, false, cond}
-use mathlib.Core.List.{List, [], ◌∷◌}
-use mathlib.Core.Logic.{⊎_elim}
+use mathlib.Core.List.{List, ◌∷◌}
 use Prim.Native.Nat.{ℕ, suc, ◌+◌, ◌*◌, ◌-◌, ◌<◌, ◌≤◌}
 use native.Mathlib.Nat.{add-zero, zero-add}
 use native.Mathlib.Omega.{arith}
 use lib.ListN.{length, take, drop, length-drop}
 use lib.Seq.{drop-drop, take_all}
-use types.Run.{OneOf}
-use denote.Enum.Declared.{tag_of}
 use Rattle.meaning.specs.Outcome.{Outcome, refused, passed, and_then}
 use Rattle.meaning.specs.Record.{Line, Entry, line, end, two, width, places_whole, entry_at, lines_from}
 use Rattle.record.specs.Reading.{entry_told, head_told, counted_with, closed_with, reading_told}
 use Rattle.record.specs.Walk.{line-stands-at, width-least, step-refused, step_end, step_line}
 use Rattle.record.specs.declared.Entry.{Entry as EntryEnum}
-use Rattle.record.specs.contracts.Entry.{the_type}
 use Rattle.record.specs.declared.Entry.TheVariants as At
 use Rattle.record.specs.declared.Head.TheVariants as First
 use Rattle.record.specs.declared.Reading.TheVariants.{Record}
-
--- the tags of the entries that are no line
-pub not_line : (e : EntryEnum) → OneOf (1 ∷ 2 ∷ []) (tag_of the_type e) → (n : ℕ) → e ≡ At.Line n → ⊥
-not_line e tag n h = ⊎_elim (λ z. omega (arith, z)) (λ z. omega (arith, z)) (subst (λ (x : EntryEnum). OneOf (1 ∷ 2 ∷ []) (tag_of the_type x)) h tag)
 
 more-lines : (places k : ℕ) (l : Line) (x : Outcome (List Line)) → counted_with places k (and_then x (λ ls. passed (l ∷ ls))) ≡ counted_with places (k + 1) x
 more-lines places k l (refused number) = refl
@@ -52,13 +44,13 @@ module _ (places : ℕ) (s : List ℕ) (k bound : ℕ) where
           )
 
   -- at anything else it stops
-  pub at-stop : (e : EntryEnum) → OneOf (1 ∷ 2 ∷ []) (tag_of the_type e) → e ≡ entry_told (entry_at places k s) → closed_with places k e ≡ counted_with places k (lines_from (suc bound) places k s)
+  pub at-stop : (e : EntryEnum) → ((n : ℕ) → e ≡ At.Line n → ⊥) → e ≡ entry_told (entry_at places k s) → closed_with places k e ≡ counted_with places k (lines_from (suc bound) places k s)
   at-stop e tag t = go (entry_at places k s) refl t
     where
       go : (o : Outcome Entry) → entry_at places k s ≡ o → e ≡ entry_told o → closed_with places k e ≡ counted_with places k (lines_from (suc bound) places k s)
       go (refused number) o h = ap (closed_with places k) h ∙ ap (counted_with places k) (sym (step-refused bound places k s number o))
       go (passed end) o h = ap (closed_with places k) h ∙ (ap (Record places) (sym (add-zero k)) ∙ ap (counted_with places k) (sym (step_end bound places k s o)))
-      go (passed (line l)) o h = absurd (not_line e tag (width l) h)
+      go (passed (line l)) o h = absurd (tag (width l) h)
 
 -- all of a slice from a place on, as it is lent
 pub lent : (day : List ℕ) (at : ℕ) → take (length day - at) (drop at day) ≡ drop at day
@@ -85,7 +77,7 @@ module _ (day : List ℕ) (places at lines : ℕ) (passed-by : 3 + 10 * lines �
             ∙ (sym h.3 ∙ ap (λ b. counted_with places lines (lines_from b places lines (drop at day))) (sym left)),
       )
 
-  pub stop-here : (e : EntryEnum) → OneOf (1 ∷ 2 ∷ []) (tag_of the_type e) → e ≡ entry_told (entry_at places lines (take (length day - at) (drop at day))) → closed_with places lines e ≡ counted_with places lines (lines_from (length day - lines) places lines (drop at day))
+  pub stop-here : (e : EntryEnum) → ((n : ℕ) → e ≡ At.Line n → ⊥) → e ≡ entry_told (entry_at places lines (take (length day - at) (drop at day))) → closed_with places lines e ≡ counted_with places lines (lines_from (length day - lines) places lines (drop at day))
   stop-here e tag t = rw left (at-stop places (drop at day) lines (length day - (lines + 1)) e tag (subst (λ (s : List ℕ). e ≡ entry_told (entry_at places lines s)) (lent day at) t))
 
 -- ---- the places command, and the whole record

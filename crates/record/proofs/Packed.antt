@@ -1,14 +1,14 @@
 -- A line's operands as two words of four bytes and the byte between them. Claimed: `words-equal` (they say all operands) and `words-decide`;
 -- `head_bytes`, `tail-bytes` and `high_byte` are these words of a line's bytes. Assumes nothing.
-use mathlib.Core.Path.{◌≡◌, refl, sym, ap, ◌∙◌}
+use mathlib.Core.Path.{◌≡◌, refl, sym, ap}
 use mathlib.Core.Bool.{Bool, true, false}
 use mathlib.Core.List.{List}
 use mathlib.Core.Option.{none}
-use Prim.Native.Nat.{ℕ, ◌+◌, ◌*◌, ◌/◌, ◌%◌, ◌<◌}
+use Prim.Native.Nat.{ℕ, ◌+◌, ◌*◌, ◌/◌, ◌<◌}
 use native.Mathlib.Omega.{arith}
 use lib.Dec.{eqb}
 use borrow.Author.Tests.{eqb-true, eqb-false}
-use Rattle.meaning.specs.Record.{Line, byte, two, three, four, line_of}
+use Rattle.meaning.specs.Record.{Line, byte, two, four, line_of}
 use Rattle.meaning.specs.Writing.{same_line}
 use Rattle.record.specs.Same.{equal-same, differs-same}
 use Rattle.record.specs.Reading.{head_word, tail_word, untimed}

@@ -1,12 +1,11 @@
 -- A line timed or not: its bytes by the code's test of its command. Assumes nothing.
 use mathlib.Core.Path.{◌≡◌, refl, sym, ap, ◌∙◌}
-use mathlib.Core.Bool.{Bool, true, false, cond}
+use mathlib.Core.Bool.{Bool, true, false}
 use mathlib.Core.List.{List}
-use mathlib.Core.Option.{Option, none, some}
 use Prim.Native.Nat.{ℕ, ◌≤◌}
 use native.Mathlib.Omega.{arith}
 use lib.Dec.{eqb}
-use Rattle.meaning.specs.Record.{Line, byte, four, time_of, line_of, wide, width}
+use Rattle.meaning.specs.Record.{Line, byte, four, line_of, wide, width}
 use Rattle.record.specs.Promise.{line_shown, timed_shown}
 use Rattle.record.specs.Reading.{time_shown, width_shown, written_shown}
 use Rattle.record.specs.declared.Written.{Written}

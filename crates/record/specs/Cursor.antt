@@ -1,7 +1,7 @@
 -- Where the lines of a record begin, for whoever goes over a record line by line.
 -- Claimed: `start_first` and `start-next` (where the walk begins and goes on) and `line-from` (what stands there). Assumes nothing.
 use Rattle.std.specs.Prelude.{◌≡◌, refl, List, [], ◌∷◌, ℕ, zero, suc, ◌+◌, ◌<◌, ◌≤◌, length, take, drop}
-use Rattle.std.proofs.Common.{sym, ap, ◌∙◌, subst, arith, length-drop}
+use Rattle.std.proofs.Common.{sym, ◌∙◌, subst, arith, length-drop}
 use Rattle.meaning.specs.Record.{Line, width}
 use Rattle.meaning.specs.Writing.{line_at}
 use Rattle.record.specs.Walk.{LineStands, width-least, widths}

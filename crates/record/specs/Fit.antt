@@ -1,8 +1,8 @@
 -- A record that passes fits the words that a search loads of it: at most 1,024 places, lines between them, kinds up to 15,
 -- and boats of a class of one byte and a sail number of three.
 -- Claimed: `record-fits`, for bytes below 256. The search reads its loaded words back by `Fit`.
-use Rattle.std.specs.Prelude.{◌≡◌, true, ◌&&◌, List, ℕ, zero, suc, ◌+◌, ◌*◌, ◌<◌, ◌≤◌, leb, eqb, length, get_or, take, drop}
-use Rattle.std.proofs.Common.{sym, ap, subst, arith, get_or-drop, leb-true, ltb-true}
+use Rattle.std.specs.Prelude.{◌≡◌, true, ◌&&◌, List, ℕ, ◌+◌, ◌<◌, ◌≤◌, leb, eqb, length, get_or, take, drop}
+use Rattle.std.proofs.Common.{sym, subst, arith, get_or-drop, leb-true, ltb-true}
 use Rattle.meaning.specs.Outcome.{passed}
 use Rattle.meaning.specs.Record.{Boat, Line, Day, line_of, count_allowed, places_whole, byte, two, read_record}
 use Rattle.meaning.specs.Writing.{line_at}

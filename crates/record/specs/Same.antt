@@ -1,7 +1,7 @@
 -- Lines that are the same in every field. Claimed: `same-equal` and `equal-same` (two lines are the same exactly if they are equal), `new-differs`
 -- and `differs-new` (a line is new exactly if no line of the record is equal to it); `same-apart`, `new-at` and `new-end` are for the code that
 -- compares and for the loop that asks 29. Assumes nothing.
-use Rattle.std.specs.Prelude.{◌≡◌, refl, Bool, true, false, cond, ◌&&◌, List, [], ◌∷◌, ℕ, zero, suc, ◌<◌, ◌≤◌, eqb, length, drop}
+use Rattle.std.specs.Prelude.{◌≡◌, refl, Bool, true, false, cond, ◌&&◌, List, [], ◌∷◌, ℕ, zero, suc, ◌<◌, eqb, length, drop}
 use Rattle.std.proofs.Common.{sym, ap, ◌∙◌, arith, eqb-true, eq-eqb}
 use Rattle.std.proofs.Math.Option.{Option, none, some}
 use Rattle.meaning.specs.Record.{Boat, Line, agree}

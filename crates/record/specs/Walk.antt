@@ -1,7 +1,7 @@
 -- Laws of the walk over a record's entries: what `lines_from` is after one entry, and where its lines stand.
 -- The code's loop and the theorems about records use these and never the definition's text.
-use Rattle.std.specs.Prelude.{◌≡◌, refl, Bool, true, false, cond, List, [], ◌∷◌, ℕ, zero, suc, ◌+◌, ◌*◌, ◌-◌, ◌<◌, ◌≤◌, ltb, leb, eqb, length, drop, take}
-use Rattle.std.proofs.Common.{sym, ap, ◌∙◌, subst, arith, length-drop, drop-drop}
+use Rattle.std.specs.Prelude.{◌≡◌, refl, Bool, true, false, cond, List, [], ◌∷◌, ℕ, zero, suc, ◌+◌, ◌<◌, ◌≤◌, ltb, leb, eqb, length, drop, take}
+use Rattle.std.proofs.Common.{sym, ap, subst, arith, length-drop, drop-drop}
 use Rattle.std.proofs.Math.Option.{Option, none, some}
 use borrow.Author.Tests.{leb-true, ltb-true, eqb-true}
 use Rattle.meaning.specs.Outcome.{Outcome, refused, passed, ask, and_then}

@@ -1,5 +1,5 @@
 -- What a record that passes is made of, and how long it is. Assumes nothing.
-use Rattle.std.specs.Prelude.{◌≡◌, refl, true, ◌&&◌, List, [], ℕ, ◌+◌, ◌*◌, ◌<◌, ◌≤◌, leb, eqb, length, drop, take}
+use Rattle.std.specs.Prelude.{◌≡◌, refl, true, ◌&&◌, List, [], ℕ, ◌+◌, ◌<◌, ◌≤◌, leb, eqb, length, drop, take}
 use Rattle.std.proofs.Common.{sym, ap, ◌∙◌, subst, arith, length-drop, drop-drop, leb-true, le-leb}
 use Rattle.meaning.specs.Outcome.{Outcome, refused, passed}
 use Rattle.meaning.specs.Record.{Line, Day, byte, two, count_allowed, time_allowed, places_whole, lines_from, read_record}

@@ -22,7 +22,7 @@ returns-then-b-eq2 c = c.line_entry.ensures ∙ simp (not-zero _ c.if-s-eq0.fals
 
 pub returns-then-b-eq-TIMED : goal.returns-then-b-eq-TIMED
 unfolding entry_at
-returns-then-b-eq-TIMED c = c.line_entry.ensures ∙ simp (not-zero _ c.if-s-eq0.false, ne_eqb _ _ c.if-b-eq0.false, ne_eqb _ _ c.if-b-eq2.false, eq-eqb _ _ c.if-b-eq-TIMED.true)
+returns-then-b-eq-TIMED c = c.line_entry-then-b-eq-TIMED.ensures ∙ simp (not-zero _ c.if-s-eq0.false, ne_eqb _ _ c.if-b-eq0.false, ne_eqb _ _ c.if-b-eq2.false, eq-eqb _ _ c.if-b-eq-TIMED.true)
 
 pub returns : goal.returns
 unfolding entry_at
