@@ -160,7 +160,7 @@ pub examples-computed : map (λ row. member row.pattern unbound row.word) table 
 examples-computed = refl
 
 -- two functions with the same values on a list agree at each of its rows
-agree_at : (f g : Row → Bool) {l : List Row} {row : Row} → Memᴰ row l → map f l ≡ map g l → f row ≡ g row
+agree_at : (f g : Row → Bool) {row : Row} {l : List Row} → Memᴰ row l → map f l ≡ map g l → f row ≡ g row
 agree_at f g (Memᴰ.head e) h = rw e (head-eq_of_cons-eq h)
 agree_at f g (Memᴰ.tail m) h = agree_at f g m (tail-eq_of_cons-eq h)
 

@@ -5,7 +5,7 @@
 -- Used by the crates of the search, of the boats and of the request. Laws of meaning's definitions. Assumes nothing.
 use Rattle.std.specs.Prelude.{◌≡◌, refl, Bool, true, false, cond, List, [], ◌∷◌, map, ◌↔◌, ℕ, zero, suc, ◌+◌, ◌-◌, ◌<◌, ◌≤◌, length, get_or, replicate}
 use Rattle.std.proofs.Common.{sym, ap, ap₂, ◌∙◌, subst, arith}
-use Rattle.std.proofs.Math.Logic.{Iff·rfl}
+use mathlib.Core.Logic.Iff
 use Rattle.std.proofs.Math.Option.{Option, none, some}
 use Rattle.std.proofs.Math.Dec.{leb-zero}
 use Rattle.meaning.specs.Record.{Line, Day, time_allowed}
@@ -79,7 +79,7 @@ module _ (test : ℕ → Bool) (lines : List Line) where
       go false k = absurd (omega (arith, k))
 
   exist-met : (c : List ℕ) → Exist met c ↔ Exist lines c
-  exist-met [] = Iff·rfl
+  exist-met [] = Iff.rfl
   exist-met (i ∷ c) = (
     λ (there, others). (omega (arith, masked-length test 0 lines, there), (exist-met c).0 others),
     λ (there, others). (omega (arith, masked-length test 0 lines, there), (exist-met c).1 others),
@@ -94,7 +94,7 @@ module _ (test : ℕ → Bool) (lines : List Line) where
   word-met (i ∷ c) (there, exists) (first, passes) = ap₂ (λ (l : Line) w. record { kind = l.kind; boat = l.boat } ∷ w) (line_kept i there first) (word-met c exists passes)
 
   leads-met : (a b : ℕ) (c : List ℕ) → Exist lines c → Leads met a b c ↔ Leads lines a b c
-  leads-met a b [] exists = Iff·rfl
+  leads-met a b [] exists = Iff.rfl
   leads-met a b (i ∷ c) (there, exists) =
       let same = masked-within test 0 lines i there in
       let others = leads-met (line_at lines i).to b c exists in (

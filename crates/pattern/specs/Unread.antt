@@ -1,7 +1,6 @@
 -- Unread numbers, as document 02's request One has them: a test that is met means that both boats are read (`met-read`, and of the language
 -- `test_read`), and between read boats every rule is as 001 has it, by plain equality (`read_same`, `read-other`).
 use Rattle.std.specs.Prelude.{◌≡◌, refl, Bool, true, false, cond, not, ◌||◌, [], ◌∷◌, ℕ, eqb}
-use Rattle.std.proofs.Common.{sym, ◌∙◌}
 use Rattle.std.proofs.lemmas.Bool.{false≢true}
 use Rattle.std.proofs.Math.Option.{Option, none, some}
 use Rattle.meaning.specs.Record.{Boat, agree}

@@ -1,9 +1,10 @@
 -- Two patterns are alike when they have the same words, whatever the slots hold.
 -- Claimed: swapping and regrouping an either, regrouping a then, doubling a repeat and putting nothing before or after a pattern
 -- give a pattern that is alike, and patterns made of alike ones are alike. Used where two wordings must get one reply.
-use Rattle.std.specs.Prelude.{◌≡◌, refl, [], ◌++◌, ◌⊎◌, ◌↔◌, ℕ, zero, suc}
+use Rattle.std.specs.Prelude.{◌≡◌, refl, [], ◌++◌, ◌↔◌, ℕ, zero, suc}
 use Rattle.std.proofs.Common.{sym, ap, ◌∙◌, append_assoc, append-nil, inl, inr, ⊎_elim}
-use Rattle.std.proofs.Math.Logic.{⊎_swap, ⊎_map, Iff·rfl, Iff·symm, Iff·trans}
+use Rattle.std.proofs.Math.Logic.{⊎_swap, ⊎_map}
+use mathlib.Core.Logic.Iff
 use Rattle.meaning.specs.Pattern.{Pattern, nothing, either, then, repeat, keep, counted}
 use Rattle.meaning.specs.Language.{Word, Valuation, bind, Star, stop, more, Power, Times, L}
 
@@ -13,13 +14,13 @@ pub record Alike (p q : Pattern) : Type 0 where
 -- ---- an equivalence
 
 pub alike_refl : (p : Pattern) → Alike p p
-alike_refl p = record { words = λ ν w. Iff·rfl }
+alike_refl p = record { words = λ ν w. Iff.rfl }
 
 pub alike-sym : {p q : Pattern} → Alike p q → Alike q p
-alike-sym a = record { words = λ ν w. Iff·symm (a.words ν w) }
+alike-sym a = record { words = λ ν w. Iff.symm (a.words ν w) }
 
 pub alike-trans : {p q r : Pattern} → Alike p q → Alike q r → Alike p r
-alike-trans a b = record { words = λ ν w. Iff·trans (a.words ν w) (b.words ν w) }
+alike-trans a b = record { words = λ ν w. Iff.trans (a.words ν w) (b.words ν w) }
 
 -- ---- none or more words, one after the other
 
