@@ -9,6 +9,7 @@ use native.Mathlib.Omega.{arith}
 use lib.ListN.{length, get_or, set, take, drop, replicate, length-set, length-append, length-replicate, take-append-drop}
 use lib.Seq.{take-set-le, drop-set-lt, drop-drop, take-take}
 use borrow.Author.Tests.{eqb-true, eq-eqb, ne_eqb}
+use Rattle.std.specs.Prelude.{eqb}
 use Rattle.graph.specs.Loops.{turns}
 use Rattle.graph.specs.Table.{Search, blank, push}
 use Rattle.area.specs.Area.{stretch, patch, marked, Good, Outside, found, outside, Ready, Step, Under}
@@ -72,7 +73,7 @@ set-near n (x ∷ l) (suc s) v h f (suc i) = set-near n l s v h (λ j. f (suc j)
 push-good : (n d s : ℕ) (st : Search) → s < n → 0 < d → d ≤ suc (length st.queue) → Good n st → Good n (push d s st)
 unfolding push
 push-good n d s st sl dz dl g =
-    cond-good n _ _ _
+    cond-good n (eqb (get_or st.dist s 0) 0) (record { dist = set st.dist s d; queue = st.queue ++ (s ∷ []) }) st
     (λ e.
     let p : suc (d - 1) ≡ d = omega arith in
     let one = marked-set st.dist s (d - 1) (omega (arith, g.sized)) (eqb-true _ _ e) in
