@@ -8,7 +8,6 @@ use Rattle.automaton.specs.Automaton.{Node, Test, never, always, against, nodes,
 use Rattle.automaton.specs.Shape.{deeper}
 use Rattle.positions.specs.declared.Row.{Row}
 use Rattle.positions.specs.declared.Rule.{Rule}
-use Rattle.positions.specs.declared.Rule.TheVariants as Rule
 
 -- ---- sets of positions as a mask of 64 bits
 
