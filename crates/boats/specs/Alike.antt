@@ -1,9 +1,9 @@
 -- Lines with the same boats, one after the other: whatever else they say, their boats, boat numbers and table are the same.
 -- Claimed: `boats-alike`, `codes-alike`, `table-alike`. A search that passes over lines keeps their boats by these. Assumes nothing.
-use Rattle.std.specs.Prelude.{◌≡◌, refl, cond, ℕ, suc}
+use Rattle.std.specs.Prelude.{◌≡◌, refl, suc}
 use Rattle.std.proofs.Common.{sym, ap, ◌∙◌}
-use mathlib.Core.List.{List, [], ◌∷◌, ◌++◌, map, nil≢cons, head-eq_of_cons-eq, tail-eq_of_cons-eq}
-use Rattle.meaning.specs.Record.{Boat, Line, among, boats_after, boats}
+use mathlib.Core.List.{List, [], ◌∷◌, map, nil≢cons, head-eq_of_cons-eq, tail-eq_of_cons-eq}
+use Rattle.meaning.specs.Record.{Boat, Line, boats_after, boats}
 use Rattle.boats.specs.Boats.{as_number, noted}
 use Rattle.boats.specs.Codes.{index_in, codes}
 use Rattle.boats.specs.Table.{boat_table}
