@@ -1,7 +1,7 @@
 -- Records without times, as document 01 reads them, and the theorem that they are read the same now: `as_before`.
 -- `lines_before` and `read_before` are 01's walk alone: 02 and 00, ten bytes a line, at most 40,964 bytes. Nothing else cites them. Assumes nothing.
 use Rattle.std.specs.Prelude.{◌≡◌, refl, Bool, true, false, cond, List, [], ◌∷◌, ℕ, zero, suc, ◌+◌, ◌*◌, ◌<◌, ◌≤◌, ltb, leb, eqb, length, drop}
-use Rattle.std.proofs.Common.{sym, ap, ◌∙◌, subst, arith, length-drop, leb-true, ltb-true, eqb-true, le-leb, lt-ltb}
+use Rattle.std.proofs.Common.{sym, ap, ◌∙◌, arith, length-drop, leb-true, eqb-true, le-leb, lt-ltb}
 use Rattle.std.proofs.Math.Option.{none}
 use Rattle.meaning.specs.Outcome.{Outcome, refused, passed, ask, and_then}
 use Rattle.meaning.specs.Record.{Line, Day, line, end, byte, two, three, line_of, places_below, kind_allowed, places_whole, entry_at, lines_from, read_record}

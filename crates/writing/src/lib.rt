@@ -77,7 +77,7 @@ fn write_at(buf: &mut [u8], at: usize, new: &[u8])
     requires { at + length new.now ≤ length buf.old }
     ensures { buf.new ≡ written at new.now buf.old }
 {
-    bytes::copy(new, &mut buf[at..]);
+    buf[at..at + new.len()].copy_from_slice(new);
 }
 
 // Begins a record of so many places, with no line.
