@@ -11,7 +11,6 @@ use Rattle.positions.specs.Program.{row_at, follow_at, test_in, said, Alike, Com
 use Rattle.positions.specs.Masks.{Marks}
 use Rattle.positions.specs.declared.Row.{Row}
 use Rattle.positions.specs.declared.Rule.{Rule}
-use Rattle.positions.specs.declared.Rule.TheVariants as Rule
 use Rattle.compiler.specs.declared.Step.{Step}
 use Rattle.compiler.specs.declared.Begin.{Begin}
 use Rattle.compiler.specs.declared.Round.{Round}
