@@ -22,7 +22,6 @@ use Rattle.request.specs.Told.{ask_room}
 use Rattle.request.specs.declared.Plan.{Plan}
 use Rattle.request.specs.declared.Counts.{Counts}
 use Rattle.request.specs.declared.Counting.{Counting}
-use Rattle.request.specs.declared.Counting.TheVariants as Counting
 use Rattle.request.specs.declared.Weighing.TheVariants as Weighing
 use Rattle.request.proofs.Sizes.{boats-in-size, boats-in-radix}
 use native.Mathlib.Nat.{mul-le-mul}

@@ -12,16 +12,11 @@ use Rattle.pattern.specs.declared.PatternReply.TheVariants as Pattern
 use Rattle.request.specs.Layout.{largest, table_words, Laid, Planned}
 use Rattle.request.specs.declared.Plan.{Plan}
 use Rattle.request.specs.declared.Both.{Both}
-use Rattle.request.specs.declared.Both.TheVariants as Both
 use Rattle.request.specs.declared.Counts.{Counts}
 use Rattle.request.specs.declared.Counting.{Counting}
-use Rattle.request.specs.declared.Counting.TheVariants as Counting
 use Rattle.request.specs.declared.Weighing.{Weighing}
-use Rattle.request.specs.declared.Weighing.TheVariants as Weighing
 use Rattle.request.specs.declared.Measured.{Measured}
-use Rattle.request.specs.declared.Measured.TheVariants as Measured
 use Rattle.request.specs.declared.Request.{Request}
-use Rattle.request.specs.declared.Request.TheVariants as Request
 use Rattle.request.specs.declared.Sizing.{Sizing}
 use Rattle.request.specs.declared.Sizing.TheVariants.{Size, Above}
 

@@ -1,14 +1,13 @@
 -- The lines of a record as a search meets them (`met_by`): what stays of them, and so what is loaded.
 -- Claimed: `met-long` and `met_at` (line by line), `met-boats`, `met-codes` (no boat and no number changes), `met-loaded`. Assumes nothing.
-use Rattle.std.specs.Prelude.{◌≡◌, refl, cond, List, ◌++◌, map, ℕ, zero, suc, ◌+◌, ◌<◌, ◌≤◌, length, get_or}
-use Rattle.std.proofs.Common.{sym, ap, ◌∙◌, subst, arith}
+use Rattle.std.specs.Prelude.{◌≡◌, refl, cond, List, ◌++◌, map, ℕ, zero, suc, ◌+◌, ◌<◌, length, get_or}
+use Rattle.std.proofs.Common.{sym, ap, ◌∙◌, arith}
 use Rattle.meaning.specs.Record.{Line, boats}
 use Rattle.meaning.specs.Writing.{line_at}
 use Rattle.meaning.specs.Windows.{Windows, inside}
 use Rattle.meaning.specs.Chain.{struck}
 use Rattle.pattern.specs.Masked.{masked-length, masked-at, masked-boats}
 use Rattle.boats.specs.Codes.{codes, map_at}
-use Rattle.boats.specs.Table.{boat_table}
 use Rattle.boats.specs.Alike.{boats-alike, codes-alike, table-alike}
 use Rattle.request.specs.Layout.{line_word, word_met, met_by, boats_loaded, loaded_of}
 

@@ -17,7 +17,6 @@ use Rattle.request.specs.Layout.{largest, table_words, Laid, Planned}
 use Rattle.request.specs.Asking.{ask_sized, Answers, AnswersSearch, tables}
 use Rattle.request.specs.declared.Plan.{Plan}
 use Rattle.request.specs.declared.Request.{Request}
-use Rattle.request.specs.declared.Request.TheVariants as Request
 
 -- ---- a request that passes
 
