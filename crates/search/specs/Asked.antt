@@ -7,14 +7,13 @@ use Rattle.std.proofs.Common.{sym, ◌∙◌, subst, arith}
 use Rattle.std.proofs.Math.Path.{ap}
 use Rattle.std.proofs.Math.Option.{Option, none, some}
 use Prim.Native.Nat.{ℕ, suc, ◌*◌, ◌^◌, ◌<◌, ◌≤◌}
-use Rattle.meaning.specs.Record.{Line, Day, boats}
+use Rattle.meaning.specs.Record.{Line}
 use Rattle.meaning.specs.Writing.{line_at}
 use Rattle.meaning.specs.Pattern.{unfolded, keeps}
 use Rattle.meaning.specs.Request.{Asked, search_size, size_of}
 use Rattle.meaning.specs.Chain.{Matches, Accepted, First, struck, lines_met, usable}
 use Rattle.pattern.specs.Kinds.{Kinds}
 use Rattle.pattern.specs.Masked.{masked-length, masked-within, accepted-met, first_by}
-use Rattle.record.specs.Fit.{Fit}
 use Rattle.request.specs.Layout.{Planned}
 use Rattle.request.specs.Met.{met-long, met_at, met-boats}
 use Rattle.request.specs.declared.Plan.{Plan}

@@ -10,7 +10,6 @@ use lib.Dec.{eqb}
 use borrow.Author.Tests.{eq-eqb, ne_eqb}
 use Rattle.positions.specs.Program.{bit_of, members_from, members, row_at, test_in}
 use Rattle.positions.specs.declared.Rule.{Rule}
-use Rattle.positions.specs.declared.Rule.TheVariants as Rule
 use Rattle.boats.specs.Table.{told_by}
 use Rattle.request.specs.declared.Plan.{Plan}
 use Rattle.graph.specs.Plain.{memb}

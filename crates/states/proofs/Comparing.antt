@@ -1,8 +1,6 @@
 -- Comparing two boats by their numbers, and what a rule takes of it.
 use mathlib.Core.Path.{◌≡◌, refl, sym, ap, ◌∙◌, subst}
 use mathlib.Core.Bool.{Bool, true, false, cond, not, ◌&&◌, ◌||◌, and-false, or-true, false≢true}
-use mathlib.Core.Logic.{inl, inr}
-use mathlib.Core.List.{[], ◌∷◌}
 use Prim.Native.Nat.{ℕ, suc, ◌/◌, ◌%◌}
 use native.Mathlib.Decide.{ℕ_discrete}
 use native.Mathlib.Omega.{arith}
@@ -12,18 +10,12 @@ use Rattle.meaning.specs.Language.{Compared, unread, same-boat, same_Class, othe
 use Rattle.meaning.specs.Pattern.{same, other, sister, foreign}
 use Rattle.positions.specs.Program.{bit_of}
 use Rattle.positions.specs.declared.Rule.{Rule}
-use Rattle.positions.specs.contracts.Rule.{the_type}
-use denote.Enum.Declared.{tag_of}
-use types.Run.{OneOf, miss}
-use Rattle.positions.specs.declared.Rule.TheVariants as Rule
 use Rattle.boats.specs.Table.{class_in, told_by}
 use Rattle.states.specs.Spots.{told_shown, outcome_bit, outcomes, met_by, okay, read_by, read_but, sister_of, foreign_to}
 use Rattle.states.specs.Served.{boat_key, class_key, but, nobody, ServedBy}
 use Rattle.states.specs.declared.Sieve.{Sieve}
-use Rattle.states.specs.declared.Sieve.TheVariants as Sieve
 use Rattle.states.specs.declared.Spot.{Spot}
 use Rattle.states.specs.declared.Told.{Told}
-use Rattle.states.specs.declared.Told.TheVariants as Told
 
 module _ (B : ℕ → ℕ) (x y : ℕ) where
   pub told-unread : B x ≡ 0 → told_by B x y ≡ unread
@@ -72,23 +64,23 @@ bit-met r Told.SameBoat = (bits_met r).1
 bit-met r Told.SameClass = (bits_met r).2
 bit-met r Told.OtherClass = (bits_met r).3
 
--- a rule that does not take everybody, by its tag
+-- a rule that does not take everybody
 abbrev NotAlways : Rule → Type 0
-NotAlways r = OneOf (0 ∷ 2 ∷ 3 ∷ 4 ∷ 5 ∷ []) (tag_of the_type r)
+NotAlways r = r ≡ Rule.Always → ⊥
 
 left_other : NotAlways Rule.Other
-left_other = inr (inr (inl refl))
+left_other e = cc
 
 left-sister : NotAlways Rule.Sister
-left-sister = inr (inr (inr (inl refl)))
+left-sister e = cc
 
 left-foreign : NotAlways Rule.Foreign
-left-foreign = inr (inr (inr (inr refl)))
+left-foreign e = cc
 
 -- it takes no unread boat
 unread-left : (r : Rule) → NotAlways r → met_by r unread ≡ false
 unread-left Rule.Never a = refl
-unread-left Rule.Always a = absurd (miss (0 ∷ 2 ∷ 3 ∷ 4 ∷ 5 ∷ []) 1 tt a)
+unread-left Rule.Always a = absurd (a refl)
 unread-left Rule.Same a = refl
 unread-left Rule.Other a = refl
 unread-left Rule.Sister a = refl

@@ -6,9 +6,7 @@ use Rattle.std.specs.Prelude.{◌≡◌, Bool, cond, true, false, ℕ, suc, eqb}
 use Rattle.boats.specs.Table.{class_in}
 use Rattle.states.specs.Spots.{okay}
 use Rattle.states.specs.declared.Sieve.{Sieve}
-use Rattle.states.specs.declared.Sieve.TheVariants as Sieve
 use Rattle.states.specs.declared.Sifting.{Sifting}
-use Rattle.states.specs.declared.Sifting.TheVariants as Sifting
 use Rattle.states.specs.declared.Spot.{Spot}
 
 -- ---- what a sieve tells apart, by the boats' table B

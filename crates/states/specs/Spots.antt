@@ -5,7 +5,6 @@ use Rattle.meaning.specs.Pattern.{same, other, sister, foreign}
 use Rattle.meaning.specs.Language.{Compared, unread, same-boat, same_Class, other-class, meets}
 use Rattle.positions.specs.Program.{bit_of, row_at, follow_at, depth_at, leaves_at}
 use Rattle.positions.specs.declared.Rule.{Rule}
-use Rattle.positions.specs.declared.Rule.TheVariants as Rule
 use Rattle.boats.specs.Table.{class_in, told_by}
 use Rattle.request.specs.Layout.{largest, Laid, from_in, to_in, kind_in}
 use Rattle.request.specs.declared.Plan.{Plan}
@@ -16,11 +15,8 @@ use Rattle.search.specs.Loaded.{boat_at, code_at, word_at}
 use Rattle.states.specs.declared.Spot.{Spot}
 use Rattle.states.specs.declared.Target.{Target}
 use Rattle.states.specs.declared.Takes.{Takes}
-use Rattle.states.specs.declared.Takes.TheVariants as Takes
 use Rattle.states.specs.declared.Kin.{Kin}
-use Rattle.states.specs.declared.Kin.TheVariants as Kin
 use Rattle.states.specs.declared.Told.{Told}
-use Rattle.states.specs.declared.Told.TheVariants as Told
 
 -- ---- what the loops go by
 
