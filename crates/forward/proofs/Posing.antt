@@ -7,7 +7,7 @@ use Prim.Native.Nat.{ℕ, ◌+◌, ◌<◌, ◌≤◌}
 use native.Mathlib.Omega.{arith}
 use lib.ListN.{length, get_or, take, drop, length-append, length-take, length-drop, length-map}
 use lib.Seq.{take_at, drop_at, take-take}
-use Rattle.meaning.specs.Record.{Line, boats}
+use Rattle.meaning.specs.Record.{Line}
 use Rattle.meaning.specs.Writing.{line_at}
 use Rattle.meaning.specs.Pattern.{Pattern, unfolded, keeps}
 use Rattle.meaning.specs.Windows.{Options}
