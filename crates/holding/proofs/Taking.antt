@@ -10,9 +10,7 @@ use Rattle.request.specs.declared.Plan.{Plan}
 use Rattle.holding.specs.Holding.{InRange, PlanIs, PlanRight, PlanOf, PlanRead, StateIs, StateRight, TakenRight}
 use Rattle.holding.specs.Plans.{plan-only}
 use Rattle.holding.specs.declared.Planning.{Planning}
-use Rattle.holding.specs.declared.Planning.TheVariants as Planning
 use Rattle.holding.specs.declared.Taken.{Taken}
-use Rattle.holding.specs.declared.Taken.TheVariants as Taken
 
 module _ (w pat : List ℕ) where
   same-tree : (p q : Pattern) → read_pattern none_given pat ≡ passed p → read_pattern none_given pat ≡ passed q → p ≡ q

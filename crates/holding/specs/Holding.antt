@@ -10,10 +10,8 @@ use Rattle.area.specs.Area.{stretch}
 use Rattle.states.specs.Spots.{front}
 use Rattle.holding.specs.declared.Counters.{Counters}
 use Rattle.holding.specs.declared.Planning.{Planning}
-use Rattle.holding.specs.declared.Planning.TheVariants as Planning
 use Rattle.holding.specs.declared.SearchState.{SearchState}
 use Rattle.holding.specs.declared.Taken.{Taken}
-use Rattle.holding.specs.declared.Taken.TheVariants as Taken
 
 -- ---- the words in front
 
