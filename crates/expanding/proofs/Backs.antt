@@ -14,12 +14,10 @@ use Rattle.graph.specs.Table.{Search, push, push-met}
 use Rattle.area.specs.Area.{Under}
 use Rattle.sorted.specs.Runs.{sorted-same}
 use Rattle.sorted.specs.declared.Order.{Order}
-use Rattle.sorted.specs.declared.Order.TheVariants as Order
 use Rattle.thinned.specs.Runs.{stamps-are, thin-same}
 use Rattle.thinned.specs.Thinning.{thin_at, Thinned}
 use Rattle.thinned.proofs.Sieves.{at-past}
 use Rattle.states.specs.declared.Sieve.{Sieve}
-use Rattle.states.specs.declared.Sieve.TheVariants as Sieve
 use Rattle.ways.specs.Filed.{Said}
 use Rattle.ways.proofs.Lanes.{under-word}
 use Rattle.search.specs.Loaded.{boat_at}

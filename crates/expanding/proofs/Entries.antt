@@ -50,7 +50,10 @@ turns-blocks f B i (suc n) a =
 
 turns-if : (c : Bool) (g : ℕ → Search → Search) (i n : ℕ) (a : Search) → turns (λ l b. cond c (g l b) b) i n a ≡ cond c (turns g i n a) a
 turns-if true g i n a = refl
-turns-if false g i zero a = unfold turns in refl
+turns-if false g i zero a = none
+  where
+    none : turns (λ l b. cond false (g l b) b) i zero a ≡ a
+    none = unfold turns in refl
 turns-if false g i (suc n) a = first ∙ turns-if false g (suc i) n a
   where
     first : turns (λ l b. cond false (g l b) b) i (suc n) a ≡ turns (λ l b. cond false (g l b) b) (suc i) n a

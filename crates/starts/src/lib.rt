@@ -70,7 +70,7 @@ fn length_at(work: &[u32], plan: Plan, begin: u64, from: usize) -> u32
 }
 
 // The place that is listed at index `i`.
-fn place-below(starts: &[u16], i: usize) -> usize
+fn place_at(starts: &[u16], i: usize) -> usize
     requires { i < length starts.now }
     ensures { result ≡ get_or starts.now i 0 }
 {
@@ -85,7 +85,7 @@ fn write_lengths(work: &[u32], plan: Plan, begin: u64, starts: &[u16], lengths: 
 {
     let mut i: usize = 0;
     while i < starts.len() {
-        lengths[i] = length_at(work, plan, begin, place-below(starts, i));
+        lengths[i] = length_at(work, plan, begin, place_at(starts, i));
         i += 1;
     }
 }

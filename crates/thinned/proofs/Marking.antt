@@ -16,7 +16,6 @@ use Rattle.sorted.proofs.Turns.{kept-none, kept_then, kept_set, kept-get}
 use Rattle.area.specs.Area.{stretch}
 use Rattle.states.specs.Served.{Served, everybody, but, nobody}
 use Rattle.states.specs.declared.Sieve.{Sieve}
-use Rattle.states.specs.declared.Sieve.TheVariants as Sieve
 use Rattle.area.proofs.Stretches.{stretch-none, stretch-above, stretch-push}
 use Rattle.thinned.specs.Thinning.{Covered, empty, kept, left, group, key, kin}
 use Rattle.thinned.specs.Marks.{first, other, Stale, Both, Marked, Read, new, more, spare, Ahead, Going}

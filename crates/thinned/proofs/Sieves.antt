@@ -1,12 +1,11 @@
 -- The tables of the sieves end far below 2^32, and each stands after the one before.
 use mathlib.Core.Path.{◌≡◌}
-use Prim.Native.Nat.{ℕ, ◌+◌, ◌*◌, ◌≤◌, ◌<◌}
+use Prim.Native.Nat.{◌+◌, ◌≤◌}
 use native.Mathlib.Omega.{arith}
 use Rattle.request.specs.declared.Plan.{Plan}
 use Rattle.sorted.specs.Sorting.{keys, sorted_end}
 use Rattle.sorted.specs.declared.Order.TheVariants as Order
 use Rattle.states.specs.declared.Sieve.{Sieve}
-use Rattle.states.specs.declared.Sieve.TheVariants as Sieve
 use Rattle.thinned.specs.Thinning.{groups, thin_at, thin_end}
 
 pub groups-few : (sieve : Sieve) (plan : Plan) → plan.places ≤ 1024 → groups sieve plan ≤ 263168

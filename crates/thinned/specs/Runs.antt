@@ -9,13 +9,11 @@ use Rattle.search.specs.Loaded.{boat_at, code_at}
 use Rattle.sorted.specs.Sorting.{keys, pack_in, having, sorted_end, Sorted, Kept}
 use Rattle.sorted.specs.Runs.{same_word, same-stretch}
 use Rattle.sorted.specs.declared.Order.{Order}
-use Rattle.sorted.specs.declared.Order.TheVariants as Order
 use Rattle.sorted.proofs.Turns.{kept-take, kept-get}
 use Rattle.area.specs.Area.{stretch}
 use Rattle.states.specs.Spots.{front, boats_in, Starts}
 use Rattle.area.proofs.Stretches.{stretch-take}
 use Rattle.states.specs.declared.Sieve.{Sieve}
-use Rattle.states.specs.declared.Sieve.TheVariants as Sieve
 use Rattle.thinned.specs.Thinning.{Thin, FromPlaces, thin_end, ThinRun, Thinned}
 
 -- ---- places

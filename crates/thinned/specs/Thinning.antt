@@ -10,7 +10,6 @@ use Rattle.area.specs.Area.{stretch}
 use Rattle.states.specs.Served.{class_key, key_by, kin_by, ServedBy}
 use Rattle.states.specs.Spots.{front, boats_in}
 use Rattle.states.specs.declared.Sieve.{Sieve}
-use Rattle.states.specs.declared.Sieve.TheVariants as Sieve
 
 -- ---- thin words
 

@@ -18,7 +18,6 @@ use Rattle.sorted.specs.Sorting.{pack_by}
 use Rattle.ways.specs.Ways.{taken_by, NoClass, Plain, Single, Before}
 use Rattle.ways.specs.declared.Lane.{Lane}
 use Rattle.ways.specs.declared.Taking.{Taking}
-use Rattle.ways.specs.declared.Taking.TheVariants as Taking
 use Rattle.ways.proofs.Right.{stack-plain, stack-pushed, stack-forgotten, stack-left, stack-fits}
 
 -- keys of places and boats are small

@@ -10,14 +10,12 @@ use lib.ListN.{length}
 use Rattle.request.specs.Layout.{Laid, filed_end}
 use Rattle.request.specs.declared.Plan.{Plan}
 use Rattle.search.specs.Loaded.{word_at}
-use Rattle.sorted.specs.Sorting.{keys, key_in, pack_in, sorted_end, table_end, Sorted, Keyed, Kept}
+use Rattle.sorted.specs.Sorting.{keys, key_in, pack_in, table_end, Sorted, Keyed, Kept}
 use Rattle.sorted.specs.Runs.{table-behind, kinds-end, boats-end}
 use Rattle.sorted.specs.declared.Order.{Order}
-use Rattle.sorted.specs.declared.Order.TheVariants as Order
 use Rattle.states.specs.Spots.{front}
 use Rattle.sorted.proofs.Turns.{kept_then, kept-take, kept-wider, kept-get}
 use Rattle.states.specs.declared.Sieve.{Sieve}
-use Rattle.states.specs.declared.Sieve.TheVariants as Sieve
 use Rattle.thinned.specs.Runs.{stamps-are, filed-end, from_places, sorted-kept, thin-kept}
 use Rattle.thinned.specs.Thinning.{FromPlaces, thin_at, thin_end, Thinned}
 use Rattle.ways.specs.Filed.{Basic, Said}

@@ -1,9 +1,9 @@
 -- The way chosen does what all lines and all stacks do: for one line, by what a stack undone is in each case (`stack-*`), and the line's key
 -- and written word (`kind-way`, `boat-way`).
 use mathlib.Core.Path.{◌≡◌, refl, sym, ap, ◌∙◌}
-use mathlib.Core.Bool.{Bool, true, false, cond, ◌&&◌, and-true, not}
+use mathlib.Core.Bool.{Bool, true, false, cond, ◌&&◌, and-true}
 use mathlib.Core.List.{List}
-use Prim.Native.Nat.{ℕ, zero, suc, ◌+◌, ◌*◌, ◌-◌, ◌/◌, ◌%◌, ◌<◌, ◌≤◌}
+use Prim.Native.Nat.{ℕ, zero, suc, ◌+◌, ◌*◌, ◌/◌, ◌%◌, ◌<◌, ◌≤◌}
 use native.Mathlib.Nat.{zero-mul, mul-zero, zero-add, add-mul, mul_assoc, mod-eq_of_lt, mod-lt, div-add-mod'}
 use native.Mathlib.Decide.{ℕ_discrete}
 use native.Mathlib.Omega.{arith}
@@ -27,7 +27,6 @@ use Rattle.ways.specs.Ways.{lane_state, taken_by, lane_turn, LaneTo, Narrow, run
 use Rattle.ways.specs.Stacked.{stacked_turn}
 use Rattle.ways.specs.declared.Lane.{Lane}
 use Rattle.ways.specs.declared.Taking.{Taking}
-use Rattle.ways.specs.declared.Taking.TheVariants as Taking
 
 -- ---- two numbers in one
 

@@ -6,7 +6,6 @@ use Rattle.request.specs.declared.Plan.{Plan}
 use Rattle.sorted.specs.Sorting.{sorted_end, Sorted}
 use Rattle.sorted.specs.declared.Order.TheVariants as Order
 use Rattle.states.specs.declared.Sieve.{Sieve}
-use Rattle.states.specs.declared.Sieve.TheVariants as Sieve
 use Rattle.thinned.specs.Thinning.{thin_at, thin_end, Thinned}
 
 -- what every search has

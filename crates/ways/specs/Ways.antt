@@ -1,7 +1,7 @@
 -- The ways back over lines from a state that is expanded to a position: most need only one run of the sorted lines, and of each line only
 -- the word written of it, which gives one state before. A lane says which of the run's words are taken and what state each gives.
 -- `proofs/Right` shows that the way chosen does what going over all lines and all stacks does.
-use Rattle.std.specs.Prelude.{◌≡◌, Bool, cond, true, List, ℕ, ◌+◌, ◌*◌, ◌-◌, ◌/◌, ◌%◌, ◌≤◌, ◌<◌, eqb, get_or}
+use Rattle.std.specs.Prelude.{◌≡◌, Bool, cond, true, List, ℕ, ◌+◌, ◌*◌, ◌/◌, ◌%◌, ◌≤◌, ◌<◌, eqb, get_or}
 use Rattle.request.specs.Layout.{largest, Laid, from_in, to_in}
 use Rattle.request.specs.declared.Plan.{Plan}
 use Rattle.search.specs.Loaded.{boat_at, code_at, word_at}
@@ -9,20 +9,15 @@ use Rattle.graph.specs.Loops.{turns}
 use Rattle.graph.specs.Table.{Search, push}
 use Rattle.sorted.specs.Sorting.{pack_by, keys, key_in, pack_in}
 use Rattle.sorted.specs.declared.Order.{Order}
-use Rattle.sorted.specs.declared.Order.TheVariants as Order
 use Rattle.states.specs.Served.{ServedBy}
 use Rattle.states.specs.declared.Sieve.{Sieve}
-use Rattle.states.specs.declared.Sieve.TheVariants as Sieve
 use Rattle.states.specs.Spots.{front, boats_in, read_but, sister_of, foreign_to, stack_turn, line_turn, Aimed, Sane}
 use Rattle.states.specs.declared.Spot.{Spot}
 use Rattle.states.specs.declared.Target.{Target}
 use Rattle.ways.specs.declared.Lane.{Lane}
 use Rattle.ways.specs.declared.Taking.{Taking}
-use Rattle.ways.specs.declared.Taking.TheVariants as Taking
 use Rattle.ways.specs.declared.ClassWay.{ClassWay}
-use Rattle.ways.specs.declared.ClassWay.TheVariants as ClassWay
 use Rattle.ways.specs.declared.Way.{Way}
-use Rattle.ways.specs.declared.Way.TheVariants as Way
 
 -- ---- a lane
 
