@@ -22,7 +22,6 @@ use Rattle.expanding.specs.declared.Undo.{Undo}
 use Rattle.tracing.specs.Tracing.{line_traced}
 use Rattle.tracing.specs.Wanting.{can_have, can_lead, WantedBy}
 use Rattle.tracing.specs.declared.Wanted.{Wanted}
-use Rattle.tracing.specs.declared.Wanted.TheVariants as Wanted
 use Rattle.tracing.proofs.Traces.{tagged-idle}
 
 -- ---- one stack

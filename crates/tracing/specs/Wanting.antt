@@ -6,7 +6,6 @@ use Rattle.graph.specs.Table.{Search}
 use Rattle.expanding.specs.Undoing.{undone}
 use Rattle.expanding.specs.declared.Undo.{Undo}
 use Rattle.tracing.specs.declared.Wanted.{Wanted}
-use Rattle.tracing.specs.declared.Wanted.TheVariants as Wanted
 
 -- can the boat number x be the wanted one?
 abbrev pub can_have : Wanted → ℕ → Bool
