@@ -20,7 +20,7 @@ lib: target/libchains.a target/libchains.so
 # Proved and built where a source file of the library has changed, which is told by hashes and not by times: minutes where nothing is
 # proved yet, with a line for each crate. target/exports.log has what the prover says.
 $(archive): FORCE
-	@tools/changed --run target/exports.stamp exports $@ tools/prove exports target/exports.log staticlib
+	@tools/changed --run target/exports.stamp exports $@ tools/prove exports target/exports.log $@
 
 target/libchains.a: $(archive)
 	cp $(archive) $@

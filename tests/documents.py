@@ -25,12 +25,16 @@ def there(path):
 
 failed = []
 specs = "\n".join(text(path) for path in glob.glob("crates/*/specs/**/*.antt", recursive=True))
+# A name of several words may also be a function's.
+code = "\n".join([specs, *(text(path) for path in glob.glob("crates/*/src/*.rt") + glob.glob("rust/src/*.rs"))])
 for path in NAMING:
     for name in sorted(named(path)):
         is_path = re.fullmatch(r"[\w.*-]+(/[\w.*-]+)*/?", name) and "/" in name and "target/" not in name
-        is_definition = path == "docs/TRUST.md" and re.fullmatch(r"[a-z]+[A-Z]\w*|Demand\d|[a-z]+(-[a-z]+)+", name)
+        # What begins with rattle_ is the toolchain's.
+        is_definition = path == "docs/TRUST.md" and re.fullmatch(r"[A-Z]?[a-z]+[A-Z]\w*|Demand\d|(?!rattle_)[a-z]+([_-][a-z]+)+", name)
         if is_path and not there(name): failed.append("%s names %s, which is not there" % (path, name))
-        if is_definition and not re.search(r"(?<![\w-])%s(?![\w-])" % re.escape(name), specs): failed.append("%s names %s, which no specs have" % (path, name))
+        if is_definition and not re.search(r"(?<![\w-])%s(?![\w-])" % re.escape(name), code if "_" in name else specs):
+            failed.append("%s names %s, which is not there" % (path, name))
 for path in CITING:
     for cited in re.findall(r"(?i)document 0\d", text(path)): failed.append("%s cites %s, which is not in the repository" % (path, cited))
 for line in failed: print(line)

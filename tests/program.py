@@ -1,7 +1,7 @@
 #!/usr/bin/env python3
 """The program `chains` as its caller meets it: how it is called, what it says where something fails, and when it builds.
 
-Run from the repository's root, after `rt check chains` and `make lib`:
+Run from the repository's root, after `make lib`:
 python3 tests/program.py                     the program
 python3 tests/program.py example COMMAND     an example worked_day, which answers as the program does, built before
 python3 tests/program.py one_boat COMMAND    the example one_boat, built before
@@ -23,21 +23,22 @@ PROGRAM = ROOT + "/target/bin/chains"
 DAY = ROOT + "/examples/day"
 NOBODY = 65534
 
-# An rt that notes its calls, says much, refuses the crate that the file `refuse` names, and links a program: a copy of the file
-# `program`, or else one that prints what crates/base/src/lib.rt says. A library of it has what that file says.
+# An rt that is called in a crate's folder. It notes its calls, says much, refuses the crate that the file `refuse` names, and links a
+# program, unless its own note says that it did: a copy of the file `program`, or else one that prints what crates/base/src/lib.rt says.
+# A library of it has what that file says.
 RT = """#!/bin/sh
-echo "$*" >>rt.calls
-echo "notes on $2"
-[ "$(cat refuse 2>/dev/null)" != "$2" ] || exit 1
-[ "$1" != staticlib ] || { mkdir -p target/staticlib && cp crates/base/src/lib.rt "target/staticlib/lib$2.a"; exit; }
-[ "$2" = chains ] || exit 0
-mkdir -p target/bin
-[ ! -e target/stamp/chains ] || exit 0
-if [ -e program ]; then cp program target/bin/chains
-else { echo '#!/bin/sh'; cat crates/base/src/lib.rt; } >target/bin/chains; fi
-chmod 755 target/bin/chains
+crate=$(basename "$PWD")
+echo "$1 $crate" >>../../rt.calls
+echo "notes on $crate"
+[ "$(cat ../../refuse 2>/dev/null)" != "$crate" ] || exit 1
+mkdir -p out
+[ "$1" != lib ] || { cp ../base/src/lib.rt "out/lib$crate.a"; exit; }
+[ ! -e "out/$crate.stamp" ] || exit 0
+if [ -e ../../program ]; then cp ../../program "out/$crate"
+else { echo '#!/bin/sh'; cat ../base/src/lib.rt; } >"out/$crate"; fi
+chmod 755 "out/$crate"
 """
-CRATES = "# three crates and others\nbase:\nmiddle: base io\nchains: middle\nother: base\nexports: middle\n"
+CRATES = "# three crates and others\nbase:\nmiddle: base io\nchains: middle\nother: base\nexports staticlib: middle\n"
 PROGRESS = "proving 1 of 3: base\nproving 2 of 3: middle\nproving 3 of 3: chains\n"
 
 
@@ -213,7 +214,8 @@ class Tree:
         tree.case, tree.path = case, case.folder + "/a tree"
         write(tree.path + "/bin/rt", RT, 0o755)
         write(tree.path + "/crates.txt", CRATES)
-        for name in ("base", "middle", "chains", "other", "exports"): tree.source(name, name)
+        for name in ("base", "middle", "other", "exports"): tree.source(name, name)
+        tree.source("chains", "chains", "src/main.rt")
         tree.says("echo none")
         for name in ("chains", "tools", "VERSION", "include", "Makefile", "chains.map"):
             if os.path.isdir(ROOT + "/" + name): shutil.copytree(ROOT + "/" + name, tree.path + "/" + name)
@@ -247,7 +249,7 @@ class Tree:
 
 class Built(Case):
     """When the program is built, and what is said of it."""
-    ALL = ["check base", "check middle", "check chains"]
+    ALL = ["lib base", "lib middle", "run chains"]
 
     def setUp(self):
         super().setUp()
@@ -307,7 +309,8 @@ class Built(Case):
     def test_a_program_that_was_taken_away(self):
         self.tree.built()
         # As rt's own note says that nothing changed, it would link nothing.
-        write(self.tree.path + "/target/stamp/chains", "")
+        os.remove(self.tree.path + "/crates/chains/out/chains")
+        write(self.tree.path + "/crates/chains/out/chains.stamp", "")
         os.remove(self.tree.path + "/target/bin/chains")
         self.assertEqual((0, "none\n", PROGRESS), self.tree.run())
 
@@ -346,7 +349,14 @@ class Built(Case):
         os.makedirs(self.tree.path + "/target/log")
         os.chmod(self.tree.path + "/target", 0o777)
         os.chmod(self.tree.path + "/target/log", 0o555)
-        self.assertFails(self.tree.run(**self.denied()), 6, "cannot be written to")
+        self.assertFails(self.tree.run(**self.denied()), 6, "a tree/target/log cannot be written to")
+
+    def test_a_crate_that_cannot_be_written_to(self):
+        os.mkdir(self.tree.path + "/target")
+        os.chmod(self.tree.path + "/target", 0o777)
+        for folder, _, _ in os.walk(self.tree.path + "/crates"): os.chmod(folder, 0o777)
+        os.chmod(self.tree.path + "/crates/middle", 0o555)
+        self.assertFails(self.tree.run(**self.denied()), 6, "has to be built", "a tree/crates/middle cannot be written to")
 
     def shut(self): self.each(lambda mode: mode & ~0o222)
 
@@ -428,7 +438,7 @@ class Library(Case):
 
     def test_the_first_time(self):
         self.assertEqual((0, "", self.PROGRESS), self.make())
-        self.assertEqual(["check base", "check middle", "staticlib exports"], self.tree.calls())
+        self.assertEqual(["lib base", "lib middle", "lib exports"], self.tree.calls())
         self.assertEqual("echo none\n", self.library())
         self.assertEqual("notes on base\nnotes on middle\nnotes on exports\n", read(self.tree.path + "/target/exports.log"))
 
@@ -460,7 +470,7 @@ class Trust(unittest.TestCase):
     """docs/TRUST.md names the C functions that the program's check assumes, and those alone."""
 
     def test_the_assumed_functions(self):
-        report = read(ROOT + "/target/log/chains.say")
+        report = read(ROOT + "/target/chains.log")
         # The report names three of each library at most.
         reported = {name.rpartition("::")[2] for row in re.findall(r"^axioms \w+: (.*) \(", report, re.M) for name in row.split(", ")}
         part = re.search(r"\*\*For the program `chains`.*?\n\n", read(ROOT + "/docs/TRUST.md"), re.S)[0]
@@ -470,7 +480,7 @@ class Trust(unittest.TestCase):
         self.assertIn("`axioms=%d`" % len(named), part)
 
     def test_the_library_assumes_none(self):
-        self.assertEqual([], re.findall("axioms", read(ROOT + "/target/exports.log")))
+        self.assertEqual([], re.findall("axioms=", read(ROOT + "/target/exports.log")))
 
 
 class Example(Case):

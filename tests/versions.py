@@ -24,7 +24,7 @@ THREE = r"(\d+)\.(\d+)\.(\d+)"
 said = {
     "include/chains.h, the text": found("include/chains.h", r'^#define CHAINS_VERSION_TEXT "%s"$' % THREE),
     "include/chains.h, the number": text(int(found("include/chains.h", r"^#define CHAINS_VERSION (\d+)$"))),
-    "the contract of chains_version": found("crates/exports/src/lib.rt", r"versionNumber (\d+) (\d+) (\d+)"),
+    "the contract of chains_version": found("crates/exports/src/lib.rt", r"version_number (\d+) (\d+) (\d+)"),
     "the library": text(chains.version()),
     "rust/Cargo.toml": found("rust/Cargo.toml", r'^version = "%s"$' % THREE),
     "rust/Cargo.lock": found("rust/Cargo.lock", r'^version = "%s"$' % THREE),
