@@ -2,12 +2,14 @@
 // The file day.rec has the record; ask.pat has the two places, in two bytes each, and then the pattern.
 #![tactic(auto)]
 
-ghost use Rattle.std.specs.Prelude.{◌≡◌, ◌+◌, ◌*◌, ◌<◌, ◌≤◌, length};
-ghost use Rattle.io.specs.Counts.{IsPrefixLen};
+ghost use Rattle.std.specs.Prelude.{◌≡◌, ◌+◌, ◌*◌, ◌<◌, ◌≤◌, length, IfSome, IfOk};
 ghost use Rattle.finder.specs.Promise.{find_reply};
 ghost use Rattle.finder.specs.Demand.{Bounds};
 
 use finder::FindReply;
+use std::io::{ErrorKind, Read, Write};
+use std::rt::Files;
+use std::{fs, io};
 
 // ---- the line
 
@@ -24,14 +26,13 @@ fn put(line: &mut [u8], at: usize, text: &[u8]) -> usize
     at + i
 }
 
-// Puts the first k of the digits into the line from a place on, and says where they end.
-fn put_digits(line: &mut [u8], at: usize, digits: &[u8; 20], k: usize) -> usize
+// Puts a number's digits, of which there are at most 20, into the line from a place on, and says where they end.
+fn put_digits(line: &mut [u8], at: usize, digits: &[u8]) -> usize
     requires at_in_bounds { at + 20 ≤ length line.old }
-    requires prefix_len { IsPrefixLen k digits.now }
+    requires at_most_20 { length digits.now ≤ 20 }
     ensures { result ≤ at + 20 }
 {
-    let all = &digits[..];
-    put(line, at, &all[..k])
+    put(line, at, digits)
 }
 
 // Puts a number's decimal digits into the line from a place on, and says where they end. There are at most 20.
@@ -39,9 +40,8 @@ fn put_number(line: &mut [u8], at: usize, n: usize) -> usize
     requires { at + 20 ≤ length line.old }
     ensures { result ≤ at + 20 }
 {
-    let mut digits = [0u8; 20];
-    let k = io::decimal(n as u64, &mut digits);
-    put_digits(line, at, &digits, k)
+    let mut digits = itoa::Buffer::new();
+    put_digits(line, at, digits.format(n).as_bytes())
 }
 
 // Puts one line number after a space.
@@ -148,7 +148,7 @@ fn answer(line: &mut [u8], day: &[u8], ask: &[u8]) -> usize
 
 // The line for a record and a question, to its end.
 fn answer_line(line: &mut [u8; 65536], day: &[u8], ask: &[u8]) -> usize
-    ensures { IsPrefixLen result line.new }
+    ensures { result ≤ length line.new }
 {
     let end = answer(line, day, ask);
     put(line, end, b"\n")
@@ -156,82 +156,84 @@ fn answer_line(line: &mut [u8; 65536], day: &[u8], ask: &[u8]) -> usize
 
 // ---- the files
 
-// What was read of a file: how many bytes, and whether it could be read.
-#[derive(Drop)]
-struct Got {
-    count: usize,
-    readable: bool,
+// Says on standard error what failed, and after a colon what the system says of it: the error's words, without the number that std puts
+// after them in parentheses.
+fn fail(rt: &impl Eprint, what: &str, error: &io::Error) {
+    let mut text = [0u8; 256];
+    let _ = write!(&mut text[..], "{error}");
+    let said = std::str::from_utf8(&text)
+        .unwrap_or("")
+        .trim_end_matches('\0');
+    let words = said
+        .split_once(" (os error ")
+        .map_or(said, |(words, _)| words);
+    let _ = eprintln!(rt; "{what}: {words}");
 }
 
-// Did reading stop after n bytes because the buffer was full, or the file at its end? io::read_full stops at a failure too: one more
-// read then fails again or gives a byte, and at the end it gives nothing.
-fn ended(fd: i32, n: usize, most: usize) -> bool {
-    if n == most {
-        return true;
-    }
-    let mut next = [0u8; 1];
-    libc::read(fd, &mut next) == 0
-}
-
-// Puts the first bytes of a file into a buffer: none of a file that is missing. The descriptor is what os::open_read answered.
-fn first_bytes(fd: i32, buf: &mut [u8]) -> Got
-    ensures { IsPrefixLen result.«count» buf.new }
+// Puts the next bytes of a file into a buffer, until the buffer is full or the file at its end, and says how many there are.
+fn read_full(file: &mut impl Read, buf: &mut [u8]) -> io::Result<usize>
+    ensures { IfOk result (λ n. n ≤ length buf.new) }
 {
-    if fd < 0 {
-        return Got {
-            count: 0,
-            readable: os::errno() == libc::ENOENT,
-        };
+    let mut done: usize = 0;
+    while done < buf.len() {
+        let n = file.read(&mut buf[done..])?;
+        if n == 0 {
+            break;
+        }
+        done += n;
     }
-    let n = io::read_full(fd, buf);
-    Got {
-        count: n,
-        readable: ended(fd, n, buf.len()),
+    Ok(done)
+}
+
+// Puts the first bytes of a file into a buffer, and says how many there are: none of a file that is missing.
+fn first_bytes(rt: &impl Files, name: &str, buf: &mut [u8]) -> io::Result<usize>
+    ensures { IfOk result (λ n. n ≤ length buf.new) }
+{
+    match fs::open(rt, name) {
+        Ok(mut file) => read_full(&mut file, buf),
+        Err(e) if e.kind() == ErrorKind::NotFound => Ok(0),
+        Err(e) => Err(e),
     }
 }
 
-// Puts the first bytes of a file into a buffer, or says that it cannot be read. Of a file that was not opened, nothing is closed.
-fn read_file(name: &[u8], buf: &mut [u8], failure: &[u8]) -> Got
-    ensures { IsPrefixLen result.«count» buf.new }
+// Puts the first bytes of a file into a buffer, and says how many there are, or says on standard error that it cannot be read.
+fn read_file<R: Files + Eprint>(rt: &R, name: &str, buf: &mut [u8], failure: &str) -> Option<usize>
+    ensures { IfSome result (λ n. n ≤ length buf.new) }
 {
-    let fd = os::open_read(name);
-    let got = first_bytes(fd, buf);
-    if !got.readable {
-        os::fail(failure);
+    match first_bytes(rt, name, buf) {
+        Ok(n) => Some(n),
+        Err(e) => {
+            fail(rt, failure, &e);
+            None
+        }
     }
-    libc::close(fd);
-    got
 }
 
 // Prints the line for a record and a question, or says that it cannot be written.
-fn print_answer(day: &[u8], ask: &[u8]) {
-    let mut line = io::large_buffer();
+fn print_answer<R: Print + Eprint>(rt: &R, day: &[u8], ask: &[u8]) {
+    let mut line = [0u8; 65536];
     let n = answer_line(&mut line, day, ask);
-    if !io::write_all(1, &line[..n]) {
-        os::fail(b"chains: the answer cannot be written");
+    if let Err(e) = Print::write_all(rt, &line[..n]) {
+        fail(rt, "chains: the answer cannot be written", &e);
     }
 }
 
 // Reads the question, asks, and prints the answer. A longer file is cut, which changes no answer: of a pattern the reader asks for the
 // bytes of at most 63 commands, 3 each at most, and for the byte after these, for question 8, 9 or 14. It is in the first 190, so the
 // reader finds the same bytes, and the same lack of a byte, in a pattern that is cut at 4,092 bytes as in the whole one.
-fn ask_file(day: &[u8]) {
-    let mut ask = io::buffer();
-    let got = read_file(b"ask.pat", &mut ask, b"chains: ask.pat cannot be read");
-    if got.readable {
-        let n = got.count;
-        print_answer(day, &ask[..n]);
+fn ask_file<R: Files + Print + Eprint>(rt: &R, day: &[u8]) {
+    let mut ask = [0u8; 4096];
+    if let Some(n) = read_file(rt, "ask.pat", &mut ask, "chains: ask.pat cannot be read") {
+        print_answer(rt, day, &ask[..n]);
     }
 }
 
 // Reads day.rec and ask.pat in the working folder, asks, and prints the answer, but no answer where one of them is there and cannot be
 // read. A longer record is cut, which changes no answer: at 65,536 bytes it is longer than 57,348, as the whole one is, and both are
 // refused at question 1.
-fn main() {
-    let mut day = io::large_buffer();
-    let got = read_file(b"day.rec", &mut day, b"chains: day.rec cannot be read");
-    if got.readable {
-        let n = got.count;
-        ask_file(&day[..n]);
+fn main(rt: HostRuntime) {
+    let mut day = [0u8; 65536];
+    if let Some(n) = read_file(&rt, "day.rec", &mut day, "chains: day.rec cannot be read") {
+        ask_file(&rt, &day[..n]);
     }
 }

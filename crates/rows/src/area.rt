@@ -1,6 +1,5 @@
 // The work area that a row lends, and what a reply leaves of it.
-ghost use Rattle.std.specs.Prelude.{◌≡◌, length};
-ghost use Rattle.io.specs.Counts.{IsPrefixLen};
+ghost use Rattle.std.specs.Prelude.{◌≡◌, ◌≤◌, length};
 
 use crate::print;
 
@@ -13,7 +12,7 @@ pub fn lent() -> [u32; 16384]
 
 // A number of words, or all that an area has where those are fewer.
 pub fn at_most(n: usize, work: &[u32]) -> usize
-    ensures { IsPrefixLen result work.now }
+    ensures { result ≤ length work.now }
 {
     if n <= work.len() { n } else { work.len() }
 }
@@ -32,10 +31,10 @@ fn count(work: &[u32], v: u32) -> usize {
 }
 
 // How many words of an area are still 7, and how many are 0.
-pub fn left(work: &[u32]) {
-    print::text(b", ");
-    print::number(count(work, 7));
-    print::text(b" kept, ");
-    print::number(count(work, 0));
-    print::text(b" zero");
+pub fn left(rt: &impl Print, work: &[u32]) {
+    print::text(rt, b", ");
+    print::number(rt, count(work, 7));
+    print::text(rt, b" kept, ");
+    print::number(rt, count(work, 0));
+    print::text(rt, b" zero");
 }

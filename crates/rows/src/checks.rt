@@ -1,22 +1,21 @@
 // Rows about the checker: document 01's, and requests at the edge of each question. Each row prints its name, the reply, and how many
 // words of the work area are then 7, as they were lent, and how many are 0.
-ghost use Rattle.std.specs.Prelude.{◌≤◌};
-ghost use Rattle.io.specs.Counts.{IsPrefixLen};
+ghost use Rattle.std.specs.Prelude.{◌≤◌, length};
 
 use crate::{area, file, print};
 use checker::CheckReply;
 
-fn said(r: CheckReply) {
+fn said(rt: &impl Print, r: CheckReply) {
     match r {
-        CheckReply::Yes => print::text(b"yes"),
-        CheckReply::No => print::text(b"no"),
-        CheckReply::Refused(q, second) => print::refused(q, second),
+        CheckReply::Yes => print::text(rt, b"yes"),
+        CheckReply::No => print::text(rt, b"no"),
+        CheckReply::Refused(q, second) => print::refused(rt, q, second),
     }
 }
 
 // The line numbers in a field, two bytes each, at the start of a list: how many, as far as the list goes.
 fn entries(bytes: &[u8], list: &mut [u16]) -> usize
-    ensures { IsPrefixLen result list.new }
+    ensures { result ≤ length list.new }
 {
     let n = half_of(bytes, list);
     let mut i: usize = 0;
@@ -29,7 +28,7 @@ fn entries(bytes: &[u8], list: &mut [u16]) -> usize
 
 // How many line numbers the bytes give and the list holds, 1,024 at most.
 fn half_of(bytes: &[u8], list: &[u16]) -> usize
-    ensures prefix_len { IsPrefixLen result list.now }
+    ensures prefix_len { result ≤ length list.now }
     ensures upper_bound { result ≤ 1024 }
 {
     let n = bytes.len() / 2;
@@ -54,12 +53,12 @@ fn asked(r: &[u8], work: &mut [u32]) -> CheckReply {
     )
 }
 
-pub fn row(r: &[u8]) {
+pub fn row(rt: &impl Print, r: &[u8]) {
     let mut work = area::lent();
-    print::text(file::field(r, 0));
-    print::text(b": ");
+    print::text(rt, file::field(r, 0));
+    print::text(rt, b": ");
     let reply = asked(r, &mut work);
-    said(reply);
-    area::left(&work);
-    print::text(b"\n");
+    said(rt, reply);
+    area::left(rt, &work);
+    print::text(rt, b"\n");
 }

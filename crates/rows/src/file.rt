@@ -1,19 +1,37 @@
 // A table's file. It is a list of fields: a field is its length in two bytes, high byte first, and so many bytes. Each field of the file
 // is a row, and a row is again a list of fields. A number in a field has its high byte first.
 ghost use Rattle.std.specs.Prelude.{◌-◌, ◌<◌, ◌≤◌, length};
-ghost use Rattle.io.specs.Counts.{IsPrefixLen};
+
+use std::fs;
+use std::io::Read;
+use std::rt::Files;
 
 // Puts the bytes of a file at the start of a table, and says how many there are: none where there is no such file.
-pub fn load(name: &[u8], table: &mut [u8]) -> usize
-    ensures { IsPrefixLen result table.new }
+pub fn load(rt: &impl Files, name: &str, table: &mut [u8]) -> usize
+    ensures { result ≤ length table.new }
 {
-    let fd = os::open_read(name);
-    if fd < 0 {
-        return 0;
+    match fs::open(rt, name) {
+        Ok(mut file) => read_full(&mut file, table),
+        Err(_) => 0,
     }
-    let n = io::read_full(fd, table);
-    libc::close(fd);
-    n
+}
+
+// Puts the next bytes of a file at the start of a table, until the table is full, the file at its end or a read fails, and says how many
+// there are.
+fn read_full(file: &mut impl Read, table: &mut [u8]) -> usize
+    ensures { result ≤ length table.new }
+{
+    let mut done: usize = 0;
+    while done < table.len() {
+        let Ok(n) = file.read(&mut table[done..]) else {
+            break;
+        };
+        if n == 0 {
+            break;
+        }
+        done += n;
+    }
+    done
 }
 
 // ---- fields

@@ -1,13 +1,13 @@
 // Rows about the finder: each is a request. A row prints its name, the reply with the chain, how many words of the work area are then 7,
 // as they were lent, and how many are 0, and how many entries of the output are 65,535, as they were lent.
-ghost use Rattle.io.specs.Counts.{IsPrefixLen};
+ghost use Rattle.std.specs.Prelude.{◌≤◌, length};
 
 use crate::{area, file, print};
 use finder::FindReply;
 
 // A number of entries, or all that a list has where those are fewer.
 fn at_most(n: usize, list: &[u16]) -> usize
-    ensures { IsPrefixLen result list.now }
+    ensures { result ≤ length list.now }
 {
     if n <= list.len() { n } else { list.len() }
 }
@@ -25,32 +25,32 @@ fn untouched(out: &[u16]) -> usize {
     n
 }
 
-fn entry(n: u16) {
-    print::text(b" ");
-    print::number(n as usize);
+fn entry(rt: &impl Print, n: u16) {
+    print::text(rt, b" ");
+    print::number(rt, n as usize);
 }
 
-fn entries(chain: &[u16]) {
+fn entries(rt: &impl Print, chain: &[u16]) {
     let mut i: usize = 0;
     while i < chain.len() {
-        entry(chain[i]);
+        entry(rt, chain[i]);
         i += 1;
     }
 }
 
-fn found(n: usize, out: &[u16]) {
-    print::text(b"found ");
-    print::number(n);
-    print::text(b":");
+fn found(rt: &impl Print, n: usize, out: &[u16]) {
+    print::text(rt, b"found ");
+    print::number(rt, n);
+    print::text(rt, b":");
     let k = at_most(n, out);
-    entries(&out[..k]);
+    entries(rt, &out[..k]);
 }
 
-fn said(reply: FindReply, out: &[u16]) {
+fn said(rt: &impl Print, reply: FindReply, out: &[u16]) {
     match reply {
-        FindReply::Found(n) => found(n, out),
-        FindReply::NoChain => print::text(b"none"),
-        FindReply::Refused(q, second) => print::refused(q, second),
+        FindReply::Found(n) => found(rt, n, out),
+        FindReply::NoChain => print::text(rt, b"none"),
+        FindReply::Refused(q, second) => print::refused(rt, q, second),
     }
 }
 
@@ -68,15 +68,15 @@ fn asked(r: &[u8], work: &mut [u32], out: &mut [u16]) -> FindReply {
     )
 }
 
-pub fn row(r: &[u8]) {
+pub fn row(rt: &impl Print, r: &[u8]) {
     let mut work = area::lent();
     let mut out = [65535u16; 2048];
-    print::text(file::field(r, 0));
-    print::text(b": ");
+    print::text(rt, file::field(r, 0));
+    print::text(rt, b": ");
     let reply = asked(r, &mut work, &mut out);
-    said(reply, &out);
-    area::left(&work);
-    print::text(b", ");
-    print::number(untouched(&out));
-    print::text(b" free\n");
+    said(rt, reply, &out);
+    area::left(rt, &work);
+    print::text(rt, b", ");
+    print::number(rt, untouched(&out));
+    print::text(rt, b" free\n");
 }

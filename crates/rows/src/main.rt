@@ -10,8 +10,10 @@ mod patterns;
 mod print;
 mod records;
 
+use std::rt::Files;
+
 // What the rows of a table ask.
-#[derive(Drop)]
+#[derive(Clone, Copy)]
 enum Table {
     Records,
     Patterns,
@@ -20,37 +22,37 @@ enum Table {
 }
 
 // One row. The buffer stays from row to row: rows about records begin a record in it, and add to it.
-fn row(table: Table, r: &[u8], buf: &mut [u8]) {
+fn row(rt: &impl Print, table: Table, r: &[u8], buf: &mut [u8]) {
     match table {
-        Table::Records => records::row(r, buf),
-        Table::Patterns => patterns::row(r),
-        Table::Checks => checks::row(r),
-        Table::Finds => finds::row(r),
+        Table::Records => records::row(rt, r, buf),
+        Table::Patterns => patterns::row(rt, r),
+        Table::Checks => checks::row(rt, r),
+        Table::Finds => finds::row(rt, r),
     }
 }
 
-fn every_row(table: Table, bytes: &[u8], buf: &mut [u8]) {
+fn every_row(rt: &impl Print, table: Table, bytes: &[u8], buf: &mut [u8]) {
     let mut at: usize = 0;
     while at < bytes.len() {
-        row(table, file::field_at(bytes, at), buf);
+        row(rt, table, file::field_at(bytes, at), buf);
         at = file::end_of(bytes, at);
     }
 }
 
 // Prints the name of a table's file, and every row of it.
-fn run(table: Table, name: &[u8]) {
-    let mut space = io::large_buffer();
-    let mut buf = io::large_buffer();
-    print::text(name);
-    print::text(b":\n");
-    let n = file::load(name, &mut space);
-    every_row(table, &space[..n], &mut buf);
+fn run(rt: &(impl Files + Print), table: Table, name: &str) {
+    let mut space = [0u8; 65536];
+    let mut buf = [0u8; 65536];
+    print::text(rt, name.as_bytes());
+    print::text(rt, b":\n");
+    let n = file::load(rt, name, &mut space);
+    every_row(rt, table, &space[..n], &mut buf);
 }
 
-fn main() {
-    run(Table::Records, b"records.bin");
-    run(Table::Patterns, b"patterns.bin");
-    run(Table::Checks, b"checks.bin");
-    run(Table::Finds, b"finds.bin");
-    run(Table::Finds, b"random.bin");
+fn main(rt: HostRuntime) {
+    run(&rt, Table::Records, "records.bin");
+    run(&rt, Table::Patterns, "patterns.bin");
+    run(&rt, Table::Checks, "checks.bin");
+    run(&rt, Table::Finds, "finds.bin");
+    run(&rt, Table::Finds, "random.bin");
 }

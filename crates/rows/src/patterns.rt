@@ -3,34 +3,34 @@
 use crate::{file, print};
 use pattern::PatternReply;
 
-fn one_more(n: usize) {
-    print::text(b" ");
-    print::number(n);
+fn one_more(rt: &impl Print, n: usize) {
+    print::text(rt, b" ");
+    print::number(rt, n);
 }
 
-fn counted(commands: usize, unfolded: usize, keeps: usize) {
-    print::text(b"pattern");
-    one_more(commands);
-    one_more(unfolded);
-    one_more(keeps);
-    print::text(b"\n");
+fn counted(rt: &impl Print, commands: usize, unfolded: usize, keeps: usize) {
+    print::text(rt, b"pattern");
+    one_more(rt, commands);
+    one_more(rt, unfolded);
+    one_more(rt, keeps);
+    print::text(rt, b"\n");
 }
 
-fn refused(number: usize, second: usize) {
-    print::text(b"refused");
-    one_more(number);
-    one_more(second);
-    print::text(b"\n");
+fn refused(rt: &impl Print, number: usize, second: usize) {
+    print::text(rt, b"refused");
+    one_more(rt, number);
+    one_more(rt, second);
+    print::text(rt, b"\n");
 }
 
-fn reply(r: PatternReply) {
+fn reply(rt: &impl Print, r: PatternReply) {
     match r {
         PatternReply::Pattern {
             commands,
             unfolded,
             keeps,
-        } => counted(commands as usize, unfolded as usize, keeps as usize),
-        PatternReply::Refused(number, second) => refused(number as usize, second as usize),
+        } => counted(rt, commands as usize, unfolded as usize, keeps as usize),
+        PatternReply::Refused(number, second) => refused(rt, number as usize, second as usize),
     }
 }
 
@@ -47,24 +47,27 @@ fn number_of(r: PatternReply) -> u8 {
 }
 
 // Slots that have a boat from outside: 1 for each such slot.
-fn given(r: &[u8]) {
+fn given(rt: &impl Print, r: &[u8]) {
     let kept = [
         file::byte(r, 3),
         file::byte(r, 4),
         file::byte(r, 5),
         file::byte(r, 6),
     ];
-    reply(pattern::read_given(file::field(r, 2), kept));
+    reply(rt, pattern::read_given(file::field(r, 2), kept));
 }
 
 // A row: what is done, a text, the pattern's bytes, and for slots from outside four bytes more. Done is: 0 the text alone, 1 the
 // reply, 2 the reply with slots from outside, and else the number of the refusal alone.
-pub fn row(r: &[u8]) {
-    print::text(file::field(r, 1));
+pub fn row(rt: &impl Print, r: &[u8]) {
+    print::text(rt, file::field(r, 1));
     match file::byte(r, 0) {
         0 => {}
-        1 => reply(pattern::read_pattern(file::field(r, 2))),
-        2 => given(r),
-        _ => print::number(number_of(pattern::read_pattern(file::field(r, 2))) as usize),
+        1 => reply(rt, pattern::read_pattern(file::field(r, 2))),
+        2 => given(rt, r),
+        _ => print::number(
+            rt,
+            number_of(pattern::read_pattern(file::field(r, 2))) as usize,
+        ),
     }
 }

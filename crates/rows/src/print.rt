@@ -1,19 +1,18 @@
-// Printing: what every table needs.
-
-pub fn text(s: &[u8]) {
-    io::write_all(1, s);
+// Printing: what every table needs. What cannot be printed is left out.
+pub fn text(rt: &impl Print, s: &[u8]) {
+    let _ = rt.write_all(s);
 }
 
-pub fn number(n: usize) {
-    io::print_decimal(1, n as u64);
+pub fn number(rt: &impl Print, n: usize) {
+    let _ = rt.print(n);
 }
 
 // A refusal: its number, and the second number where it is not 0.
-pub fn refused(q: u8, second: usize) {
-    text(b"refused ");
-    number(q as usize);
+pub fn refused(rt: &impl Print, q: u8, second: usize) {
+    text(rt, b"refused ");
+    number(rt, q as usize);
     if second != 0 {
-        text(b" with ");
-        number(second);
+        text(rt, b" with ");
+        number(rt, second);
     }
 }

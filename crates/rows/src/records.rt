@@ -1,6 +1,6 @@
 // Rows about records: document 01's, records at every question's edge, and round trips of made lines. Each row prints its name and the
 // reply.
-ghost use Rattle.io.specs.Counts.{IsPrefixLen};
+ghost use Rattle.std.specs.Prelude.{◌≤◌, length};
 
 use crate::{file, print};
 use record::{Line, LineReply};
@@ -8,83 +8,83 @@ use writing::WriteReply;
 
 // ---- what is written
 
-fn refused(q: u8, second: usize) {
-    print::refused(q, second);
-    print::text(b"\n");
+fn refused(rt: &impl Print, q: u8, second: usize) {
+    print::refused(rt, q, second);
+    print::text(rt, b"\n");
 }
 
-fn length(n: usize) {
-    print::text(b"length ");
-    print::number(n);
-    print::text(b"\n");
+fn length(rt: &impl Print, n: usize) {
+    print::text(rt, b"length ");
+    print::number(rt, n);
+    print::text(rt, b"\n");
 }
 
-fn counted(n: usize) {
-    print::number(n);
-    print::text(b"\n");
+fn counted(rt: &impl Print, n: usize) {
+    print::number(rt, n);
+    print::text(rt, b"\n");
 }
 
-fn wrote(r: WriteReply) {
+fn wrote(rt: &impl Print, r: WriteReply) {
     match r {
-        WriteReply::Length(n) => length(n),
-        WriteReply::Refused(q, second) => refused(q, second),
+        WriteReply::Length(n) => length(rt, n),
+        WriteReply::Refused(q, second) => refused(rt, q, second),
     }
 }
 
-fn operand(n: usize) {
-    print::text(b" ");
-    print::number(n);
+fn operand(rt: &impl Print, n: usize) {
+    print::text(rt, b" ");
+    print::number(rt, n);
 }
 
-fn byte(b: u8) {
-    operand(b as usize);
+fn byte(rt: &impl Print, b: u8) {
+    operand(rt, b as usize);
 }
 
-fn operands(l: Line) {
-    operand(l.from as usize);
-    operand(l.kind as usize);
-    operand(l.class as usize);
-    operand(l.sail as usize);
-    operand(l.to as usize);
+fn operands(rt: &impl Print, l: Line) {
+    operand(rt, l.from as usize);
+    operand(rt, l.kind as usize);
+    operand(rt, l.class as usize);
+    operand(rt, l.sail as usize);
+    operand(rt, l.to as usize);
 }
 
-fn untimed(l: Line) {
-    print::text(b"line");
-    operands(l);
-    print::text(b"\n");
+fn untimed(rt: &impl Print, l: Line) {
+    print::text(rt, b"line");
+    operands(rt, l);
+    print::text(rt, b"\n");
 }
 
-fn timed(l: Line, time: u32) {
-    print::text(b"timed line");
-    operands(l);
-    operand(time as usize);
-    print::text(b"\n");
+fn timed(rt: &impl Print, l: Line, time: u32) {
+    print::text(rt, b"timed line");
+    operands(rt, l);
+    operand(rt, time as usize);
+    print::text(rt, b"\n");
 }
 
 // A line read back: a record that passes and has no line i says 18.
-fn line(day: &[u8], i: u16) {
+fn line(rt: &impl Print, day: &[u8], i: u16) {
     match record::read_line(day, i) {
-        LineReply::Line(l) => untimed(l),
-        LineReply::Timed(l, time) => timed(l, time),
-        LineReply::Refused(q, second) => refused(q, second),
+        LineReply::Line(l) => untimed(rt, l),
+        LineReply::Timed(l, time) => timed(rt, l, time),
+        LineReply::Refused(q, second) => refused(rt, q, second),
     }
 }
 
 // Every byte of a buffer.
-fn shown(buf: &[u8]) {
+fn shown(rt: &impl Print, buf: &[u8]) {
     let mut i: usize = 0;
     while i < buf.len() {
-        byte(buf[i]);
+        byte(rt, buf[i]);
         i += 1;
     }
-    print::text(b"\n");
+    print::text(rt, b"\n");
 }
 
 // ---- a buffer
 
 // A number of bytes, or all that a buffer has where those are fewer.
 fn room(n: usize, buf: &[u8]) -> usize
-    ensures { IsPrefixLen result buf.now }
+    ensures { result ≤ length buf.now }
 {
     if n <= buf.len() { n } else { buf.len() }
 }
@@ -146,25 +146,28 @@ fn grown(buf: &mut [u8], start: usize, lines: &[u8]) -> usize {
 // ---- rows
 
 // A row about one buffer, which stays from row to row: what is done, a text, how many bytes of the buffer are lent, a number, bytes.
-pub fn row(r: &[u8], buf: &mut [u8]) {
+pub fn row(rt: &impl Print, r: &[u8], buf: &mut [u8]) {
     let n = room(file::long(r, 2), buf);
-    print::text(file::field(r, 1));
+    print::text(rt, file::field(r, 1));
     match file::byte(r, 0) {
-        0 => line(file::field(r, 4), file::short(r, 3)),
-        1 => line(&buf[..n], file::short(r, 3)),
-        2 => wrote(writing::begin_record(&mut buf[..n], file::short(r, 3))),
-        3 => wrote(writing::add_line(&mut buf[..n], file::long(r, 3), made(file::field(r, 4)))),
-        _ => about_bytes(r, &mut buf[..n]),
+        0 => line(rt, file::field(r, 4), file::short(r, 3)),
+        1 => line(rt, &buf[..n], file::short(r, 3)),
+        2 => wrote(rt, writing::begin_record(&mut buf[..n], file::short(r, 3))),
+        3 => wrote(
+            rt,
+            writing::add_line(&mut buf[..n], file::long(r, 3), made(file::field(r, 4))),
+        ),
+        _ => about_bytes(rt, r, &mut buf[..n]),
     }
 }
 
 // A row about the lent bytes themselves, or about many lines.
-fn about_bytes(r: &[u8], buf: &mut [u8]) {
+fn about_bytes(rt: &impl Print, r: &[u8], buf: &mut [u8]) {
     let start = file::long(r, 3);
     match file::byte(r, 0) {
-        4 => shown(buf),
+        4 => shown(rt, buf),
         5 => fill(buf, start, file::byte(r, 4)),
-        6 => counted(grown(buf, start, file::field(r, 4))),
-        _ => counted(nines(buf, start)),
+        6 => counted(rt, grown(buf, start, file::field(r, 4))),
+        _ => counted(rt, nines(buf, start)),
     }
 }
