@@ -28,7 +28,6 @@ use Rattle.sorted.specs.Passes.{Ground}
 use Rattle.sorted.specs.Sorting.{keys, key_in, pack_in, sorted_end, Sorted, Keyed, Kept}
 use Rattle.sorted.specs.Runs.{sorted-same}
 use Rattle.sorted.specs.declared.Order.{Order}
-use Rattle.sorted.specs.declared.Order.TheVariants as Order
 use Rattle.sorted.proofs.Turns.{kept-take}
 use Rattle.forward.specs.Firsts.{first_states}
 use Rattle.holding.specs.declared.SearchState.{SearchState}

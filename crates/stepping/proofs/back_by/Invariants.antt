@@ -1,0 +1,11 @@
+-- `stepping::back_by` meets its contract: the invariant is the contract for the turns that are done. Assumes nothing.
+use Rattle.sweeping.specs.Sweeping.{index_at}
+use Rattle.stepping.specs.Stepping.{Turned}
+use Rattle.stepping.proofs.back_by.Given as goal
+
+abbrev pub invariant-loop-left : goal.invariant-loop-left
+invariant-loop-left l =
+    Turned (λ _. Unit {0}) (index_at l.initial.state.plan) l.initial.state l.program l.begin l.amount l.initial.work (record { state = l.state; left = l.left }) l.work
+
+abbrev pub decreases-loop-left : goal.decreases-loop-left
+decreases-loop-left l = l.left
