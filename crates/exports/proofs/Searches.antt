@@ -1,6 +1,6 @@
 -- The numbers for C, Rust and Python of a search in steps: what begin says has a small second number (`begun-second`), and what finish promises of its number (`finish-number`).
 -- Assumes nothing.
-use mathlib.Core.Path.{◌≡◌, sym, ap, subst}
+use mathlib.Core.Path.{◌≡◌, sym, subst}
 use mathlib.Core.List.{List}
 use Prim.Native.Nat.{ℕ}
 use native.Mathlib.Omega.{arith}
