@@ -1,11 +1,3 @@
 pub mod Automaton
-pub mod Rounds
-pub mod Runs
-pub mod Scope
-pub mod Placed
-pub mod Sound
-pub mod Complete
-pub mod Words
 pub mod Shape
-pub mod Readings
 pub mod Rows

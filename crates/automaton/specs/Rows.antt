@@ -1,11 +1,9 @@
 -- Computed examples: the automata of document 01's patterns P and S and of some more, and words that they accept or not. Nothing to believe.
-use Rattle.std.specs.Prelude.{◌≡◌, refl, Bool, true, false, List, [], ◌∷◌, ◌↔◌, ℕ, zero, suc}
-use Rattle.std.proofs.Math.Bool.{So}
+use Rattle.std.specs.Prelude.{◌≡◌, refl, Bool, true, false, List, [], ◌∷◌, ℕ, zero, suc}
 use Rattle.meaning.specs.Record.{Boat}
 use Rattle.meaning.specs.Pattern.{Pattern, nothing, line, test, same, other, either, then, repeat, keep, counted}
-use Rattle.meaning.specs.Language.{Letter, Word, unbound, bind, L}
+use Rattle.meaning.specs.Language.{Letter, Word}
 use Rattle.automaton.specs.Automaton.{Node, Test, always, against, silent, nodes, start, accepts}
-use Rattle.automaton.specs.Words.{same-words-in}
 
 boat : ℕ → ℕ → Boat
 boat c n = record { class = c; sail = n }
@@ -147,10 +145,6 @@ nodes-G = refl
 G-given : accepts G (3 ∷ []) (boat 1 1 ∷ []) (letter 1 (boat 1 1) ∷ letter 1 (boat 1 2) ∷ letter 1 (boat 1 1) ∷ []) ≡ true
 unfolding G letter boat
 G-given = refl
-
--- with one boat from outside the valuation is the language's own binding
-one-given : (p : Pattern) (s : ℕ) (b : Boat) (w : Word) → L p (bind unbound s b) w ↔ So (accepts p (s ∷ []) (b ∷ []) w)
-one-given p s b w = same-words-in p (s ∷ []) (b ∷ []) refl w
 
 -- a slot that no keep around it has: no letter is taken
 unkept : accepts (test other 1 0) [] [] (letter 1 (boat 1 1) ∷ []) ≡ false

@@ -13,14 +13,15 @@ use borrow.Author.Tests.{eq-eqb, ne_eqb, leb-true}
 use Rattle.search.specs.Along.{goal}
 use Rattle.graph.specs.Early.{Ended, met_by}
 use Rattle.graph.specs.Loops.{loop}
-use Rattle.graph.specs.PhaseOne.{Progress, waiting, begun, advance_by, advance-next, advance-add}
+use Rattle.graph.specs.PhaseOne.{Progress, waiting, begun, advance_by}
+use Rattle.graph.proofs.PhaseOne.{advance-next, advance-add}
 use Rattle.graph.specs.PhaseTwo.{nearest_word}
 use Rattle.search.specs.Product.{Setting}
 use Rattle.graph.specs.Table.{Search, blank, push}
 use Rattle.area.specs.Area.{stretch, found, Ready, Step}
 use Rattle.request.specs.Layout.{Laid}
 use Rattle.request.specs.declared.Plan.{Plan}
-use Rattle.search.specs.Front.{goal-in}
+use Rattle.search.proofs.Front.{goal-in}
 use Rattle.search.specs.Loaded.{setting_in, setting_at}
 use Rattle.states.specs.Pairs.{StepBack}
 use Rattle.states.specs.Spots.{front}

@@ -15,16 +15,19 @@ use Rattle.lists.specs.Listed.{◌∈◌}
 use Rattle.positions.specs.Program.{members}
 use Rattle.request.specs.declared.Plan.{Plan}
 use Rattle.graph.specs.Plain.{flat, memb}
-use Rattle.graph.specs.Sets.{in-memb}
+use Rattle.graph.proofs.Sets.{in-memb}
 use Rattle.meaning.specs.Chain.{exist}
-use Rattle.search.specs.Check.{moved, moved-members}
+use Rattle.search.specs.Check.{moved}
+use Rattle.search.proofs.Check.{moved-members}
 use Rattle.search.specs.Along.{goal, starting}
-use Rattle.graph.specs.Loops.{loop, turns, loop-append, loop-flat, loop-same}
+use Rattle.graph.specs.Loops.{loop, turns}
+use Rattle.graph.proofs.Loops.{loop-append, loop-flat, loop-same}
 use Rattle.graph.specs.Table.{Search, blank, push}
 use Rattle.area.specs.Area.{stretch, found, outside, Outside, Ready, Step, Under}
 use Rattle.search.specs.Product.{Setting, succs}
 use Rattle.search.specs.Loaded.{setting_in}
-use Rattle.search.specs.Moves.{visit, onward, push-law}
+use Rattle.search.specs.Moves.{visit, onward}
+use Rattle.search.proofs.Moves.{push-law}
 use Rattle.forward.specs.Firsts.{first_states}
 use Rattle.states.specs.Spots.{front, Fit, next_turn}
 use Rattle.area.proofs.Stretches.{stretch-none, stretch-get, stretch-set, stretch-below, stretch-above, stretch-push}

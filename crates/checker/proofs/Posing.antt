@@ -16,7 +16,7 @@ use Rattle.search.specs.Product.{Setting, succs}
 use Rattle.search.specs.Along.{goal, starting}
 use Rattle.search.specs.Loaded.{setting_in}
 use Rattle.search.specs.Check.{moved, checked}
-use Rattle.search.specs.ReadBack.{loaded-check}
+use Rattle.search.proofs.ReadBack.{loaded-check}
 use Rattle.forward.specs.Posed.{Posed}
 use Rattle.states.specs.Spots.{front}
 use Rattle.forward.proofs.Posing.{posed-tables}

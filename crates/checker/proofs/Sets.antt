@@ -14,12 +14,14 @@ use lib.Seq.{get_or-set_same, ext_get_or}
 use borrow.Author.Tests.{ltb-true}
 use Rattle.lists.specs.Listed.{◌∈◌, none_in}
 use Rattle.graph.specs.Plain.{state_of, look, news, memb, nub, flat}
-use Rattle.graph.specs.Sets.{memb-in, nub-in, flat_in}
-use Rattle.graph.specs.Entries.{under, look-some, look_none}
+use Rattle.graph.proofs.Sets.{memb-in, nub-in, flat_in}
+use Rattle.graph.proofs.Entries.{under, look-some, look_none}
 use Rattle.graph.specs.Loops.{loop}
-use Rattle.graph.specs.Table.{Search, blank, mark, Holds, blank-holds, loop-holds}
+use Rattle.graph.specs.Table.{Search, blank, mark}
+use Rattle.graph.proofs.Table.{Holds, blank-holds, loop-holds}
 use Rattle.meaning.specs.Chain.{exist}
-use Rattle.search.specs.Check.{moved, moved-members}
+use Rattle.search.specs.Check.{moved}
+use Rattle.search.proofs.Check.{moved-members}
 use Rattle.checker.specs.Walk.{seeded, stepped, walked, wiped}
 
 pub memb-not : {t : ℕ} {l : List ℕ} → (t ∈ l → ⊥) → memb t l ≡ false

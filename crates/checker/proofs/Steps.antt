@@ -15,16 +15,19 @@ use Rattle.lists.specs.Listed.{◌∈◌, when-sound}
 use Rattle.positions.specs.Program.{bit_of, members, node_in, depth_at}
 use Rattle.request.specs.declared.Plan.{Plan}
 use Rattle.graph.specs.Plain.{memb, count}
-use Rattle.graph.specs.Sets.{filt-in, count-in}
-use Rattle.graph.specs.Loops.{turns, turns_same}
+use Rattle.graph.proofs.Sets.{filt-in, count-in}
+use Rattle.graph.specs.Loops.{turns}
+use Rattle.graph.proofs.Loops.{turns_same}
 use Rattle.graph.specs.Table.{Search, blank, push}
 use Rattle.search.specs.Product.{Setting, state, place_of, stack_of, pos_of, cut, takes, pushed, following, succs}
 use Rattle.search.specs.Along.{goal, starting}
 use Rattle.search.specs.Loaded.{setting_in}
-use Rattle.search.specs.Moves.{visit, visit-any}
+use Rattle.search.specs.Moves.{visit}
+use Rattle.search.proofs.Moves.{visit-any}
 use Rattle.forward.specs.Firsts.{first_states, first-law}
 use Rattle.states.specs.Spots.{front, Fit, next_turn}
-use Rattle.search.specs.Front.{line-at, state_in, state-in}
+use Rattle.search.specs.Front.{state_in}
+use Rattle.search.proofs.Front.{line-at, state-in}
 use Rattle.states.proofs.Bounds.{state-low, power_pos, power-fits, stacks-pos}
 use Rattle.forward.proofs.Firsts.{first-states}
 use Rattle.checker.specs.Walk.{seeded}

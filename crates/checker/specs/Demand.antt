@@ -17,7 +17,8 @@ use Rattle.record.specs.Fit.{record-fits}
 use Rattle.pattern.specs.Kinds.{read-kinds}
 use Rattle.pattern.specs.Masked.{whole-day-accepts}
 use Rattle.request.specs.Told.{Parts, asked-parts, Late, asked-late}
-use Rattle.search.specs.Asked.{check, check-says}
+use Rattle.search.specs.Asked.{check}
+use Rattle.search.proofs.Asked.{check-says}
 use Rattle.checker.specs.Promise.{lines_exist, check_of, Says, Demand2}
 
 -- ---- demand 2, for bytes below 256

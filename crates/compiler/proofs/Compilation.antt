@@ -11,7 +11,7 @@ use Rattle.meaning.specs.Outcome.{passed}
 use Rattle.meaning.specs.Pattern.{Pattern, counted, unfolded, Outside, outermost, inside, Part, read_pattern, none_given}
 use Rattle.pattern.specs.Passed.{inside-small}
 use Rattle.automaton.specs.Automaton.{Node, silent, compile, nodes, node_at, before as first-left, enter_counted, compile_counted}
-use Rattle.automaton.specs.Placed.{compile-length}
+use Rattle.automaton.proofs.Lengths.{compile-length}
 use Rattle.positions.specs.Program.{node_in, Compiled}
 use Rattle.positions.specs.Masks.{Marks}
 use Rattle.compiler.specs.declared.Step.{Step}

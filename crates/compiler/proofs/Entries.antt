@@ -14,7 +14,7 @@ use Rattle.automaton.specs.Automaton.{Node, Test, always, against, silent, takin
 use Rattle.positions.specs.Program.{test_in}
 use Rattle.positions.specs.declared.Rule.TheVariants as Asked
 use Rattle.positions.specs.Masks.{Marks, marks-none}
-use Rattle.automaton.specs.Scope.{Below, level-below}
+use Rattle.automaton.proofs.Scope.{Below, level-below}
 use Rattle.compiler.specs.Compiling.{OnePattern, around_of, mark, scope_in, after_in, after_first, Says, first_node, asked_rule}
 use Rattle.compiler.specs.declared.Step.{Step}
 use Rattle.compiler.specs.declared.Entry.{Entry}

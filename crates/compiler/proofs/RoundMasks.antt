@@ -11,7 +11,7 @@ use lib.Bits.{bit_or}
 use lib.Dec.{eqb}
 use Rattle.meaning.specs.Pattern.{Pattern, counted, unfolded}
 use Rattle.automaton.specs.Automaton.{nullable, null_rounds, before, heads_counted, enter_counted}
-use Rattle.automaton.specs.Rounds.{null-rounds, rounds-low, rounds-moved}
+use Rattle.automaton.proofs.Rounds.{null-rounds, rounds-low, rounds-moved}
 use Rattle.positions.specs.Masks.{Marks, marks-moved, marks-when}
 use Rattle.compiler.specs.declared.Begin.{Begin}
 use Rattle.compiler.specs.declared.Round.{Round}

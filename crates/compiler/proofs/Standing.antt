@@ -8,7 +8,7 @@ use native.Mathlib.Decide.{dec_lt}
 use lib.ListN.{length, get_or}
 use Rattle.meaning.specs.Pattern.{Pattern, unfolded}
 use Rattle.automaton.specs.Automaton.{Node, silent, nodes, node_at}
-use Rattle.automaton.specs.Placed.{nodes-length, end-silent}
+use Rattle.automaton.proofs.Placed.{nodes-length, end-silent}
 use Rattle.positions.specs.Program as Program
 use Rattle.compiler.specs.Compiling.{entry_at, Says, Stand, Put, Written}
 use Rattle.compiler.specs.declared.Entry.{Entry}

@@ -10,7 +10,7 @@ use lib.ListN.{length, get_or, set, length-append}
 use lib.Seq.{get_or-set_same, get_or-set_other}
 use borrow.Author.Tests.{eqb-true, eqb-false}
 use Rattle.automaton.specs.Automaton.{level_of}
-use Rattle.automaton.specs.Scope.{level-inside}
+use Rattle.automaton.proofs.Scope.{level-inside}
 use Rattle.compiler.specs.Compiling.{mark}
 
 module _ (levels scope : List ℕ) {depth : ℕ} (slot : ℕ) (long : slot < length levels) (deep : depth ≡ length scope)

@@ -10,7 +10,8 @@ use borrow.Author.Tests.{eq-eqb, ne_eqb}
 use Rattle.positions.specs.Program.{bit_of, follow_at, leaves_at}
 use Rattle.request.specs.declared.Plan.{Plan}
 use Rattle.graph.specs.Loops.{turns}
-use Rattle.graph.specs.Table.{Search, push, push-met}
+use Rattle.graph.specs.Table.{Search, push}
+use Rattle.graph.proofs.Table.{push-met}
 use Rattle.area.specs.Area.{Under}
 use Rattle.sorted.specs.Runs.{sorted-same}
 use Rattle.sorted.specs.declared.Order.{Order}

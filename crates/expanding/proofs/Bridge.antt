@@ -14,10 +14,12 @@ use Rattle.request.specs.Layout.{from_in}
 use Rattle.request.specs.declared.Plan.{Plan}
 use Rattle.graph.specs.Plain.{memb}
 use Rattle.search.specs.Digits.{push_on, pop_off}
-use Rattle.graph.specs.Loops.{turns, turns-within}
+use Rattle.graph.specs.Loops.{turns}
+use Rattle.graph.proofs.Loops.{turns-within}
 use Rattle.graph.specs.Table.{Search, push}
 use Rattle.search.specs.Product.{Setting, stacks, state, place_of, pos_of, stack_of, popped, undoes}
-use Rattle.search.specs.Front.{state_in, lines-many, line-at}
+use Rattle.search.specs.Front.{state_in}
+use Rattle.search.proofs.Front.{lines-many, line-at}
 use Rattle.search.specs.Loaded.{boat_at, code_at, word_at, setting_in}
 use Rattle.search.specs.Moves.{over_stacks, over_lines, expand}
 use Rattle.states.specs.Spots.{spot_in, off, off_by, on, on_by, okay, stack_at, stack_turn, line_turn, target_in, spot_turn}

@@ -9,7 +9,8 @@ use lib.Arith.{digits_lt, digits_div, digits_mod}
 use lib.Dec.{eqb}
 use borrow.Author.Tests.{eq-eqb, ne_eqb}
 use Rattle.request.specs.declared.Plan.{Plan}
-use Rattle.graph.specs.Loops.{turns, turns-idle}
+use Rattle.graph.specs.Loops.{turns}
+use Rattle.graph.proofs.Loops.{turns-idle}
 use Rattle.graph.specs.Table.{Search, push}
 use Rattle.states.specs.Spots.{read_by, stack_turn}
 use Rattle.ways.proofs.Right.{at_x, turns-one, turns-alike, tested-stands}

@@ -14,7 +14,8 @@ use Rattle.sorted.specs.Sorting.{pack_by}
 use Rattle.request.specs.declared.Plan.{Plan}
 use Rattle.search.specs.Front.{state_in}
 use Rattle.search.specs.Loaded.{boat_at, code_at, word_at}
-use Rattle.graph.specs.Loops.{turns, turns_same}
+use Rattle.graph.specs.Loops.{turns}
+use Rattle.graph.proofs.Loops.{turns_same}
 use Rattle.graph.specs.Table.{Search}
 use Rattle.area.specs.Area.{UnderAny}
 use Rattle.states.specs.Pairs.{RoomBack}

@@ -14,8 +14,9 @@ use Rattle.request.specs.declared.Plan.{Plan}
 use Rattle.search.specs.Answer.{solution}
 use Rattle.search.specs.Asked.{answer}
 use Rattle.search.specs.Loaded.{setting_in}
-use Rattle.search.specs.Moves.{expand, from_state, expand-law, from-law}
-use Rattle.search.specs.ReadBack.{loaded-ended}
+use Rattle.search.specs.Moves.{expand, from_state}
+use Rattle.search.proofs.Moves.{expand-law, from-law}
+use Rattle.search.proofs.ReadBack.{loaded-ended}
 use Rattle.forward.specs.Firsts.{first_states}
 use Rattle.forward.specs.Posed.{Posed}
 use Rattle.states.specs.Spots.{front}

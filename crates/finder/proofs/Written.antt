@@ -10,7 +10,8 @@ use borrow.Author.Tests.{le-leb, lt-leb}
 use Rattle.request.specs.declared.Plan.{Plan}
 use Rattle.graph.specs.Loops.{loop}
 use Rattle.graph.specs.Table.{Search, blank}
-use Rattle.graph.specs.PhaseTwo.{nearest_word, put, walk, walk-long, forward_by, forward}
+use Rattle.graph.specs.PhaseTwo.{nearest_word, put, walk, forward_by, forward}
+use Rattle.graph.proofs.PhaseTwo.{walk-long}
 use Rattle.search.specs.Product.{Setting}
 use Rattle.search.specs.Moves.{expand, from_state}
 use Rattle.area.specs.Area.{stretch, found, Outside, outside}

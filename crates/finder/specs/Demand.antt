@@ -14,8 +14,9 @@ use Rattle.record.specs.Outcomes.{and-true}
 use Rattle.record.specs.Fit.{record-fits}
 use Rattle.pattern.specs.Kinds.{Kinds, read-kinds}
 use Rattle.request.specs.Told.{Parts, asked-parts, asked_of, Late, asked-late}
-use Rattle.search.specs.Answer.{LinesWithin}
-use Rattle.search.specs.Asked.{answer, answer-none, answer-some}
+use Rattle.search.proofs.Answer.{LinesWithin}
+use Rattle.search.specs.Asked.{answer}
+use Rattle.search.proofs.Asked.{answer-none, answer-some}
 use Rattle.finder.specs.Promise.{chain, too_long, settled, searched, find_of, Said, found, none_found, refusal, said, out_after, Answers, Demand3}
 
 -- ---- the definition meets it

@@ -12,9 +12,10 @@ use Rattle.positions.specs.Program.{row_at, follow_at, depth_at, node_in}
 use Rattle.request.specs.Layout.{from_in, to_in, kind_in}
 use Rattle.request.specs.declared.Plan.{Plan}
 use Rattle.graph.specs.Plain.{memb}
-use Rattle.graph.specs.Loops.{turns, turns-within}
+use Rattle.graph.specs.Loops.{turns}
+use Rattle.graph.proofs.Loops.{turns-within}
 use Rattle.search.specs.Product.{Setting, stacks, state, place_of, pos_of, stack_of, cut, pushed}
-use Rattle.search.specs.Front.{line-at}
+use Rattle.search.proofs.Front.{line-at}
 use Rattle.search.specs.Loaded.{boat_at, code_at, word_at, setting_in}
 use Rattle.search.specs.Moves.{over_next, onward}
 use Rattle.states.specs.Spots.{spot_in, on, okay, next_turn}

@@ -11,10 +11,11 @@ use Rattle.positions.specs.Program.{bit_of, members_from, members}
 use Rattle.request.specs.Layout.{Laid}
 use Rattle.request.specs.declared.Plan.{Plan}
 use Rattle.graph.specs.Plain.{filt, count}
-use Rattle.graph.specs.Sets.{filt-in, count-in}
+use Rattle.graph.proofs.Sets.{filt-in, count-in}
 use Rattle.search.specs.Along.{starting}
 use Rattle.search.specs.Loaded.{setting_in}
-use Rattle.search.specs.Front.{state_in, starting-in}
+use Rattle.search.specs.Front.{state_in}
+use Rattle.search.proofs.Front.{starting-in}
 use Rattle.forward.specs.Firsts.{first_states}
 
 module _ (mask : ℕ) where

@@ -24,10 +24,12 @@ use Rattle.boats.specs.Codes.{codes, code-low, codes-length}
 use Rattle.request.specs.Layout.{Laid, Planned, boat_words, line_word, met_by, from_in, to_in, line-from, line-to, boats_loaded, table-long, loaded_of}
 use Rattle.request.specs.Told.{Parts, Told}
 use Rattle.request.specs.declared.Plan.{Plan}
-use Rattle.search.specs.Asked.{met_asked, met-planned, met-within, met-boat}
+use Rattle.search.specs.Asked.{met_asked}
+use Rattle.search.proofs.Asked.{met-planned, met-within, met-boat}
 use Rattle.search.specs.Loaded.{code_at, word_at}
-use Rattle.search.specs.Front.{line-at, tables}
-use Rattle.search.specs.ReadBack.{code-back, line-back}
+use Rattle.search.specs.Front.{tables}
+use Rattle.search.proofs.Front.{line-at}
+use Rattle.search.proofs.ReadBack.{code-back, line-back}
 use Rattle.states.specs.Spots.{front, Fit}
 use Rattle.forward.specs.Posed.{Posed}
 

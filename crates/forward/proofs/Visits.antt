@@ -9,7 +9,8 @@ use lib.ListN.{get_or}
 use borrow.Author.Tests.{eq-eqb, ne_eqb}
 use Rattle.positions.specs.Program.{bit_of, depth_at}
 use Rattle.request.specs.declared.Plan.{Plan}
-use Rattle.graph.specs.Loops.{turns, turns-idle}
+use Rattle.graph.specs.Loops.{turns}
+use Rattle.graph.proofs.Loops.{turns-idle}
 use Rattle.graph.specs.Table.{Search, push}
 use Rattle.search.specs.Moves.{visit}
 use Rattle.search.specs.Front.{state_in}

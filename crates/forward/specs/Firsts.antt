@@ -6,10 +6,12 @@ use Rattle.std.proofs.Math.Nat.{zero-mod, zero-div}
 use Rattle.positions.specs.Program.{bit_of, depth_at}
 use Rattle.request.specs.declared.Plan.{Plan}
 use Rattle.graph.specs.Plain.{filt, count}
-use Rattle.graph.specs.Loops.{loop, turns, loop-map, loop-filt, loop-count, turns_same}
+use Rattle.graph.specs.Loops.{loop, turns}
+use Rattle.graph.proofs.Loops.{loop-map, loop-filt, loop-count, turns_same}
 use Rattle.graph.specs.Table.{Search}
 use Rattle.graph.specs.PhaseTwo.{lesser_word, nearest_word, put}
-use Rattle.search.specs.Moves.{visit, visit-put}
+use Rattle.search.specs.Moves.{visit}
+use Rattle.search.proofs.Moves.{visit-put}
 use Rattle.search.specs.Front.{state_in}
 use Rattle.states.specs.Spots.{next_turn}
 

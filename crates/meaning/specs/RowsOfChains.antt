@@ -1,15 +1,15 @@
 -- Computed examples of chains: nothing to believe. An edited definition of `Chain` or `Language` breaks one of them.
 -- Chains of document 01's records that lead or do not, are accepted or are not, come first or do not.
-use Rattle.std.specs.Prelude.{◌≡◌, refl, true, false, ℕ, zero, suc, length}
+use Rattle.std.specs.Prelude.{◌≡◌, refl, true, false, ℕ, length}
 use Rattle.std.proofs.Common.{ap, ap₂, ◌∙◌, inl, inr, arith, length-append}
 use Rattle.std.proofs.lemmas.Bool.{false≢true}
-use mathlib.Core.List.{List, [], ◌∷◌, ◌++◌, map, nil≢cons, head-eq_of_cons-eq, tail-eq_of_cons-eq}
+use mathlib.Core.List.{List, [], ◌∷◌, ◌++◌, map, head-eq_of_cons-eq, tail-eq_of_cons-eq}
 use Rattle.meaning.specs.Record.{Line}
 use Rattle.meaning.specs.Pattern.{Pattern, line, test, same, repeat, keep, counted}
-use Rattle.meaning.specs.Language.{Letter, Word, compared, meets, unbound, stop, more, Power, L}
+use Rattle.meaning.specs.Language.{Letter, compared, meets, stop, more}
 use Rattle.meaning.specs.Windows.{plain}
 use Rattle.meaning.specs.Request.{Asked}
-use Rattle.meaning.specs.Chain.{Exist, exist, Leads, word, Matches, Accepted, Before, First}
+use Rattle.meaning.specs.Chain.{Exist, exist, Leads, word, Matches, Accepted, Before}
 use Rattle.meaning.specs.Rows.{line_of, lines_r, P, S}
 
 -- ---- which chains of record R lead where
@@ -89,7 +89,7 @@ other-class (exists, leads, (a, u, e, k, (v, w, f, (b, g, l, met), rest))) =
     false≢true (ap₂ (λ (x y : Letter). meets same (compared x.boat y.boat)) tested kept ∙ met)
 
 -- document 01's record T: two boats at one place
-lines_t : List Line
+pub lines_t : List Line
 lines_t = line_of 0 1 1 1 0 ∷ line_of 0 1 1 2 0 ∷ []
 
 -- by S: the inner keep has the slot in its own pattern only, and after it the outer boat is back
@@ -133,17 +133,6 @@ counted-T = (
     (2, omega arith, omega arith, (letter 1 1 2 ∷ [], letter 1 1 1 ∷ [], refl, (letter 1 1 2, refl, refl), (letter 1 1 1 ∷ [], [], refl, (letter 1 1 1, refl, refl), refl))),
   ),
 )
-
--- not none and not three, where a round is a line: it has as many letters as there are rounds
-lines_long : (n : ℕ) (w : Word) → Power (L (line 1) unbound) n w → length w ≡ n
-lines_long zero w e = ap length e
-lines_long (suc n) w (u, v, e, (a, f, k), x) = omega (arith, ap length e, length-append u v, ap length f, lines_long n v x)
-
-not-none-T : Matches lines_t (counted 1 2 (line 1)) 0 0 [] → ⊥
-not-none-T (exists, leads, (n, low, high, x)) = omega (arith, low, lines_long n [] x)
-
-not-three-T : Matches lines_t (counted 1 2 (line 1)) 0 0 (1 ∷ 0 ∷ 1 ∷ []) → ⊥
-not-three-T (exists, leads, (n, low, high, x)) = omega (arith, high, lines_long n (word lines_t (1 ∷ 0 ∷ 1 ∷ [])) x)
 
 -- a round may be empty
 empty-rounds-T : Matches lines_t (counted 1 3 (repeat (line 1))) 0 0 []
@@ -191,7 +180,7 @@ not-longer (inr h) = omega (arith, h.0)
 lower-first : Before (0 ∷ 0 ∷ 1 ∷ 0 ∷ []) (0 ∷ 1 ∷ 0 ∷ 0 ∷ [])
 lower-first = inr (refl, (0 ∷ [], 0, 1, 1 ∷ 0 ∷ [], 0 ∷ 0 ∷ [], refl, refl, omega arith))
 
-not-higher : Before (1 ∷ []) (0 ∷ []) → ⊥
+pub not-higher : Before (1 ∷ []) (0 ∷ []) → ⊥
 not-higher (inl h) = omega (arith, h)
 not-higher (inr (long, ([], i, j, v, v', e, f, less))) = omega (arith, head-eq_of_cons-eq e, head-eq_of_cons-eq f, less)
 not-higher (inr (long, (m ∷ u, i, j, v, v', e, f, less))) = omega (arith, head-eq_of_cons-eq e, head-eq_of_cons-eq f)
@@ -204,21 +193,9 @@ not_itself (inr (long, (m ∷ u, i, j, v, v', e, f, less))) = omega (arith, ap l
 -- ---- the first
 
 -- a request about these lines, for the whole day
-abbrev asking : List Line → Pattern → Asked
+abbrev pub asking : List Line → Pattern → Asked
 asking lines p = record { day = record { places = 4; lines = lines }; pattern = p; options = plain }
 
-line-0 : Accepted (asking lines_t (line 1)) 0 0 (0 ∷ [])
+pub line-0 : Accepted (asking lines_t (line 1)) 0 0 (0 ∷ [])
 unfolding lines_t line_of letter
 line-0 = (((omega arith, tt), (refl, refl), (letter 1 1 1, refl, refl)), (refl, tt))
-
-first-line : First (asking lines_t (line 1)) 0 0 (0 ∷ [])
-first-line = (line-0, others)
-  where
-    others : (c : List ℕ) → Accepted (asking lines_t (line 1)) 0 0 c → ¬ (0 ∷ [] ≡ c) → Before (0 ∷ []) c
-    others [] ((exists, leads, (a, e, k)), used) n = absurd (nil≢cons e)
-    others (zero ∷ []) accepted n = absurd (n refl)
-    others (suc i ∷ []) accepted n = inr (refl, ([], 0, suc i, [], [], refl, refl, omega arith))
-    others (i ∷ j ∷ c) accepted n = inl (omega arith)
-
-not-the-second : First (asking lines_t (line 1)) 0 0 (1 ∷ []) → ⊥
-not-the-second h = not-higher (h.1 (0 ∷ []) line-0 (λ e. omega (arith, head-eq_of_cons-eq e)))

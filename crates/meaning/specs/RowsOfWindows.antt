@@ -1,15 +1,15 @@
 -- Computed examples of windows: nothing to believe. An edited definition of `Windows`, or of how `Chain` goes by them, breaks one of them.
 -- Lines inside and outside, question 27, the lines as a search meets them, and chains that are accepted or not for where their lines stand.
-use Rattle.std.specs.Prelude.{◌≡◌, refl, true, false, ℕ, zero, suc, ◌-◌, ltb, replicate}
+use Rattle.std.specs.Prelude.{◌≡◌, refl, true, false, ℕ, ◌-◌, ltb, replicate}
 use Rattle.std.proofs.lemmas.Bool.{false≢true}
-use mathlib.Core.List.{List, [], ◌∷◌, ◌++◌, map, nil≢cons}
-use Rattle.std.proofs.Common.{inl, inr, arith}
+use mathlib.Core.List.{List, [], ◌∷◌, ◌++◌, map}
+use Rattle.std.proofs.Common.{arith}
 use Rattle.meaning.specs.Record.{Line}
 use Rattle.meaning.specs.Pattern.{Pattern, line, then}
 use Rattle.meaning.specs.Language.{Letter}
 use Rattle.meaning.specs.Windows.{Windows, inside, first_allowed, windows_allowed, whole_day}
 use Rattle.meaning.specs.Request.{Asked}
-use Rattle.meaning.specs.Chain.{usable, Accepted, Before, First, masked, lines_met}
+use Rattle.meaning.specs.Chain.{usable, Accepted, masked, lines_met}
 use Rattle.meaning.specs.Rows.{line_of, timed_of}
 
 -- ---- inside and outside
@@ -74,10 +74,10 @@ first-asked = refl
 -- ---- the lines as a search meets them
 
 -- four lines between two places, three of them timed; kind 1 has a window from 6 to 10
-lines_w : List Line
+pub lines_w : List Line
 lines_w = timed_of 0 1 1 150 1 5 ∷ timed_of 0 1 2 150 1 9 ∷ line_of 0 1 1 151 1 ∷ timed_of 1 2 1 150 0 5 ∷ []
 
-abbrev asking : Pattern → Asked
+abbrev pub asking : Pattern → Asked
 asking p = record { day = record { places = 2; lines = lines_w }; pattern = p; options = record { windows = one_kind 0 6 10 } }
 
 usable-lines : map (usable (asking (line 1))) (0 ∷ 1 ∷ 2 ∷ 3 ∷ []) ≡ false ∷ true ∷ false ∷ true ∷ []
@@ -99,12 +99,12 @@ masked-from = refl
 letter : ℕ → ℕ → ℕ → Letter
 letter kind class sail = record { kind = kind; boat = record { class = class; sail = sail } }
 
-line-inside : Accepted (asking (line 1)) 0 1 (1 ∷ [])
+pub line-inside : Accepted (asking (line 1)) 0 1 (1 ∷ [])
 unfolding lines_w line_of timed_of one_kind letter
 line-inside = (((omega arith, tt), (refl, refl), (letter 1 2 150, refl, refl)), (refl, tt))
 
 -- before the window opens, and without a time
-line-early : Accepted (asking (line 1)) 0 1 (0 ∷ []) → ⊥
+pub line-early : Accepted (asking (line 1)) 0 1 (0 ∷ []) → ⊥
 unfolding lines_w line_of timed_of one_kind
 line-early (matches, used) = false≢true used.0
 
@@ -127,14 +127,3 @@ both-inside = (
 one_outside : Accepted (asking (then (line 2) (line 1))) 1 1 (3 ∷ 0 ∷ []) → ⊥
 unfolding lines_w line_of timed_of one_kind
 one_outside (matches, used) = false≢true used.1.0
-
--- line 0 is before line 1 but is not accepted, so line 1 is the first
-first-inside : First (asking (line 1)) 0 1 (1 ∷ [])
-first-inside = (line-inside, others)
-  where
-    others : (c : List ℕ) → Accepted (asking (line 1)) 0 1 c → ¬ (1 ∷ [] ≡ c) → Before (1 ∷ []) c
-    others [] ((exists, leads, (a, e, k)), used) n = absurd (nil≢cons e)
-    others (zero ∷ []) accepted n = absurd (line-early accepted)
-    others (suc zero ∷ []) accepted n = absurd (n refl)
-    others (suc (suc i) ∷ []) accepted n = inr (refl, ([], 1, suc (suc i), [], [], refl, refl, omega arith))
-    others (i ∷ j ∷ c) accepted n = inl (omega arith)

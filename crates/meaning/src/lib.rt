@@ -1,3 +1,2 @@
 // What a reader must believe stands in specs/; no code is here.
 #![tactic(auto)]
-

@@ -6,7 +6,8 @@ use Rattle.std.proofs.Common.{zero-add, le_of_eq, arith}
 use Rattle.meaning.specs.Pattern.{Pattern, unfolded, keeps}
 use Rattle.lists.specs.Listed.{◌∈◌}
 use Rattle.automaton.specs.Automaton.{Node, nodes, node_at}
-use Rattle.automaton.specs.Shape.{Shape, deeper, leaves, shape, start-within}
+use Rattle.automaton.specs.Shape.{deeper, leaves}
+use Rattle.automaton.proofs.Shape.{Shape, shape, start-within}
 use Rattle.positions.specs.Program.{members, depth_at, leaves_at, node_in, Compiled}
 
 depth-leaves : (n : Node) → n.depth ≤ leaves n

@@ -12,7 +12,8 @@ use lib.ListN.{length, get_or, set, take, drop, replicate, length-map, length-se
 use lib.Seq.{length-take-le, get_or-set_same, get_or-set_other, get_or-take, drop-set-lt, drop-cons, drop_at, ext_get_or}
 use borrow.Author.Tests.{eq-eqb, ne_eqb, lt-ltb, ltb-true}
 use Rattle.graph.specs.Plain.{filt}
-use Rattle.graph.specs.Loops.{loop, turns, loop-filt}
+use Rattle.graph.specs.Loops.{loop, turns}
+use Rattle.graph.proofs.Loops.{loop-filt}
 use Rattle.graph.specs.PhaseTwo.{lesser_word, nearest_word}
 use Rattle.graph.specs.Sweep.{line_into, chain_in}
 use Rattle.request.specs.declared.Plan.{Plan}

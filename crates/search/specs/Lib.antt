@@ -1,7 +1,5 @@
-pub mod Order
 pub mod Digits
 pub mod Product
-pub mod Steps
 pub mod Along
 pub mod Loaded
 pub mod Moves
@@ -9,9 +7,5 @@ pub mod Traced
 pub mod Answer
 pub mod Check
 pub mod Asked
-pub mod Same
-pub mod TracedRight
 pub mod Front
-pub mod ReadBack
 pub mod Rows
-pub mod ByPlace

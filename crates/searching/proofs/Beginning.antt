@@ -17,16 +17,17 @@ use Rattle.positions.specs.Program.{bit_of, members, Compiled}
 use Rattle.graph.specs.Loops.{loop}
 use Rattle.graph.specs.PhaseOne.{begun}
 use Rattle.graph.specs.Plain.{memb, filt, count}
-use Rattle.graph.specs.Sets.{memb-in, in-memb, memb-same, count-in}
+use Rattle.graph.proofs.Sets.{memb-in, in-memb, memb-same, count-in}
 use Rattle.graph.specs.Table.{Search, blank, push}
 use Rattle.graph.specs.Underway.{Underway, queue_of, settled, begun_from, taken_by}
 use Rattle.request.specs.Layout.{Laid, loaded_of}
 use Rattle.request.specs.declared.Plan.{Plan}
 use Rattle.search.specs.Answer.{setting}
-use Rattle.search.specs.Front.{state_in, starting-in, goal-in}
+use Rattle.search.specs.Front.{state_in}
+use Rattle.search.proofs.Front.{starting-in, goal-in}
 use Rattle.search.specs.Loaded.{setting_in}
-use Rattle.search.specs.ReadBack.{size-asked, loaded-same}
-use Rattle.search.specs.Same.{Same, filt-same, same-goal, same-starting}
+use Rattle.search.proofs.ReadBack.{size-asked, loaded-same}
+use Rattle.search.proofs.Same.{Same, filt-same, same-goal, same-starting}
 use Rattle.area.specs.Area.{stretch, patch, found, Outside, outside}
 use Rattle.area.proofs.Changes.{blank-good, ready-long}
 use Rattle.area.proofs.Anyhow.{room_of, room-long}

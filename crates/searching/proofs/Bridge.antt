@@ -26,11 +26,11 @@ use Rattle.positions.specs.Program.{bit_of, members, Compiled}
 use Rattle.positions.specs.Masks.{members-bit}
 use Rattle.compiler.specs.Compiling.{CompiledFrom, SmallUpTo}
 use Rattle.graph.specs.Plain.{memb, filt, count}
-use Rattle.graph.specs.Sets.{memb-in, in-memb, memb-same, count-in}
+use Rattle.graph.proofs.Sets.{memb-in, in-memb, memb-same, count-in}
 use Rattle.graph.specs.Table.{Search}
 use Rattle.graph.specs.Underway.{Underway, queue_of, taken_by}
-use Rattle.graph.specs.SameSearch.{same_taken}
-use Rattle.graph.specs.Marking.{count_marked, WordsFound}
+use Rattle.graph.proofs.SameSearch.{same_taken}
+use Rattle.graph.proofs.Marking.{count_marked, WordsFound}
 use Rattle.request.specs.Met.{met-long}
 use Rattle.request.specs.Layout.{largest, table_words, boat_words, line_word, boats_loaded, table-long, loaded_of, Planned}
 use Rattle.request.specs.Told.{Parts, search-parts}
@@ -38,13 +38,16 @@ use Rattle.request.specs.declared.Plan.{Plan}
 use Rattle.request.proofs.Sizes.{boats-in-radix}
 use Rattle.search.specs.Product.{state, succs}
 use Rattle.search.specs.Traced.{trace}
-use Rattle.search.specs.TracedRight.{same-trace}
-use Rattle.search.specs.Answer.{LinesWithin, setting}
-use Rattle.search.specs.Asked.{met_asked, met-size}
+use Rattle.search.proofs.TracedRight.{same-trace}
+use Rattle.search.specs.Answer.{setting}
+use Rattle.search.proofs.Answer.{LinesWithin}
+use Rattle.search.specs.Asked.{met_asked}
+use Rattle.search.proofs.Asked.{met-size}
 use Rattle.search.specs.Loaded.{setting_at}
-use Rattle.search.specs.Front.{state_in, state-in}
-use Rattle.search.specs.Same.{Same, filt-same, same-state, same-succs}
-use Rattle.search.specs.ReadBack.{size-asked, loaded-same}
+use Rattle.search.specs.Front.{state_in}
+use Rattle.search.proofs.Front.{state-in}
+use Rattle.search.proofs.Same.{Same, filt-same, same-state, same-succs}
+use Rattle.search.proofs.ReadBack.{size-asked, loaded-same}
 use Rattle.area.specs.Area.{stretch, marked, Good, found}
 use Rattle.area.proofs.Stretches.{stretch-take}
 use Rattle.states.specs.Spots.{Fit, front}

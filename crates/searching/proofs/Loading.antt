@@ -14,7 +14,8 @@ use Rattle.pattern.specs.Short.{read-few}
 use Rattle.request.specs.Layout.{table_words, Laid, met_by, loaded_of}
 use Rattle.request.specs.Told.{Parts, ToldSearch}
 use Rattle.request.specs.declared.Plan.{Plan}
-use Rattle.search.specs.Asked.{met_asked, met-planned}
+use Rattle.search.specs.Asked.{met_asked}
+use Rattle.search.proofs.Asked.{met-planned}
 use Rattle.forward.specs.Posed.{Posed}
 use Rattle.forward.proofs.Posing.{tables-long, posed-loaded}
 use Rattle.searching.specs.Searching.{ReadyToBegin}

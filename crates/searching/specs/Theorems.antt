@@ -16,26 +16,32 @@ use Rattle.lists.specs.Listed.{◌∈◌}
 use Rattle.record.specs.Fit.{record-fits}
 use Rattle.request.specs.Told.{search-parts}
 use Rattle.automaton.specs.Automaton.{start}
-use Rattle.automaton.specs.Shape.{start-within}
+use Rattle.automaton.proofs.Shape.{start-within}
 use Rattle.graph.specs.Plain.{memb, filt, count, news, steps}
-use Rattle.graph.specs.Sets.{memb-in, in-memb, filt-in, count-in}
-use Rattle.graph.specs.Table.{Holds}
-use Rattle.graph.specs.Trace.{Reached, tag_of, Tagged}
+use Rattle.graph.proofs.Sets.{memb-in, in-memb, filt-in, count-in}
+use Rattle.graph.proofs.Table.{Holds}
+use Rattle.graph.specs.Trace.{Reached, tag_of}
+use Rattle.graph.proofs.Trace.{Tagged}
 use Rattle.graph.specs.Underway.{dist_of, queue_of, begun_from, taken_by, taken_up, at_end, outcome}
-use Rattle.graph.specs.Taking as Taking
-use Rattle.graph.specs.Taking.{sum_of, taken_each, Standing}
-use Rattle.graph.specs.Marking as Marking
-use Rattle.graph.specs.Marking.{WordsFound}
-use Rattle.graph.specs.Finishing as Finishing
-use Rattle.graph.specs.Reaching as Reaching
+use Rattle.graph.proofs.Taking as Taking
+use Rattle.graph.specs.Taking.{taken_each}
+use Rattle.graph.proofs.Taking.{sum_of, Standing}
+use Rattle.graph.proofs.Marking as Marking
+use Rattle.graph.proofs.Marking.{WordsFound}
+use Rattle.graph.proofs.Finishing as Finishing
+use Rattle.graph.proofs.Reaching as Reaching
 use Rattle.search.specs.Product.{Setting, state, preds, succs}
-use Rattle.search.specs.Steps.{Sound, Ok, next-ok, preds-ok, edges}
-use Rattle.search.specs.Moves.{expand, expand-law, from_state, from-law}
-use Rattle.search.specs.Traced.{trace, trace-table, trace-long}
-use Rattle.search.specs.TracedRight.{trace-right}
+use Rattle.search.proofs.Steps.{Sound, Ok, next-ok, preds-ok, edges}
+use Rattle.search.specs.Moves.{expand, from_state}
+use Rattle.search.proofs.Moves.{expand-law, from-law}
+use Rattle.search.specs.Traced.{trace}
+use Rattle.search.proofs.Traced.{trace-table, trace-long}
+use Rattle.search.proofs.TracedRight.{trace-right}
 use Rattle.search.specs.Along.{goal, starting}
-use Rattle.search.specs.Answer.{setting, starts, solution, starts-ok, goal-ok, LinesWithin, sound, below-size, solution-any}
-use Rattle.search.specs.Asked.{met_asked, met-within}
+use Rattle.search.specs.Answer.{setting, starts, solution}
+use Rattle.search.proofs.Answer.{starts-ok, goal-ok, LinesWithin, sound, below-size, solution-any}
+use Rattle.search.specs.Asked.{met_asked}
+use Rattle.search.proofs.Asked.{met-within}
 use Rattle.searching.specs.Promise.{firsts_of, search_at, begun_told, begun_after, Begins}
 use Rattle.searching.specs.Words.{Sized}
 

@@ -11,17 +11,20 @@ use Rattle.meaning.specs.Request.{Asked, all_below}
 use Rattle.positions.specs.Program.{Compiled, members}
 use Rattle.positions.specs.Limits.{compiled-start}
 use Rattle.request.specs.declared.Plan.{Plan}
-use Rattle.graph.specs.Early.{ended-none}
-use Rattle.graph.specs.PhaseOne.{waiting, queue-distinct, queue-room}
-use Rattle.graph.specs.Queue.{Distinct}
-use Rattle.graph.specs.PhaseTwo.{nearest_word, word_of, forward-word}
+use Rattle.graph.proofs.Early.{ended-none}
+use Rattle.graph.specs.PhaseOne.{waiting}
+use Rattle.graph.proofs.PhaseOne.{queue-distinct, queue-room}
+use Rattle.graph.proofs.Queue.{Distinct}
+use Rattle.graph.specs.PhaseTwo.{nearest_word, word_of}
+use Rattle.graph.proofs.PhaseTwo.{forward-word}
 use Rattle.search.specs.Along.{goal, starting}
 use Rattle.search.specs.Answer.{solution}
 use Rattle.search.specs.Loaded.{setting_in}
-use Rattle.search.specs.Moves.{expand, from_state, expand-law, from-law}
+use Rattle.search.specs.Moves.{expand, from_state}
+use Rattle.search.proofs.Moves.{expand-law, from-law}
 use Rattle.search.specs.Product.{Setting, preds}
-use Rattle.search.specs.ReadBack.{valid-low, valid-preds, valid-goal, loaded-ended}
-use Rattle.search.specs.Same.{map_same}
+use Rattle.search.proofs.ReadBack.{valid-low, valid-preds, valid-goal, loaded-ended}
+use Rattle.search.proofs.Same.{map_same}
 use Rattle.forward.specs.Posed.{Posed}
 use Rattle.forward.proofs.Firsts.{first-states}
 use Rattle.forward.proofs.Posing.{posed-tables}

@@ -15,14 +15,18 @@ use Rattle.pattern.specs.Kinds.{Kinds, read-kinds}
 use Rattle.lists.specs.Listed.{◌∈◌}
 use Rattle.record.specs.Fit.{record-fits}
 use Rattle.request.specs.Told.{Parts, asked-parts}
-use Rattle.graph.specs.PhaseOne.{Progress, waiting, begun, advance_by, advances-within, queue-distinct, queue-room, all-expanded}
-use Rattle.graph.specs.Queue.{Distinct}
+use Rattle.graph.specs.PhaseOne.{Progress, waiting, begun, advance_by}
+use Rattle.graph.proofs.PhaseOne.{advances-within, queue-distinct, queue-room, all-expanded}
+use Rattle.graph.proofs.Queue.{Distinct}
 use Rattle.search.specs.Along.{goal}
-use Rattle.search.specs.Answer.{setting, LinesWithin, goal-ok, sound, below-size}
-use Rattle.search.specs.Asked.{answer, met-size, met-within, answer-none, answer-some}
-use Rattle.search.specs.Moves.{expand, expand-law}
+use Rattle.search.specs.Answer.{setting}
+use Rattle.search.proofs.Answer.{LinesWithin, goal-ok, sound, below-size}
+use Rattle.search.specs.Asked.{answer}
+use Rattle.search.proofs.Asked.{met-size, met-within, answer-none, answer-some}
+use Rattle.search.specs.Moves.{expand}
+use Rattle.search.proofs.Moves.{expand-law}
 use Rattle.search.specs.Product.{Setting, preds}
-use Rattle.search.specs.Steps.{Ok, preds-ok}
+use Rattle.search.proofs.Steps.{Ok, preds-ok}
 use Rattle.finder.specs.Promise.{chain, too_long, settled, find_of, found, none_found, said}
 use Rattle.starts.specs.Promise.{no_length, length_of, length_from, lengths_of, LengthSays}
 use Rattle.starts.specs.Highest.{asked-from}

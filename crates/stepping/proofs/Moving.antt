@@ -14,7 +14,7 @@ use lib.Seq.{take-take}
 use borrow.Author.Tests.{lt-leb, le-leb}
 use Rattle.graph.specs.Trace.{Reached}
 use Rattle.graph.specs.Underway.{Underway, swept_next, taken, taken_by, at_end}
-use Rattle.graph.specs.Taking.{Took, backward, forward, ended, took, taken-add}
+use Rattle.graph.proofs.Taking.{Took, backward, forward, ended, took, taken-add}
 use Rattle.request.specs.Layout.{Laid}
 use Rattle.request.specs.declared.Plan.{Plan}
 use Rattle.search.specs.Loaded.{setting_at, setting_in}

@@ -17,7 +17,7 @@ use Rattle.graph.specs.Plain.{filt}
 use Rattle.graph.specs.PhaseTwo.{nearest_word}
 use Rattle.graph.specs.Sweep.{marked}
 use Rattle.graph.specs.Underway.{Underway, waiting_in, last_word, given_up, near_in, goes_on, turned, settled, expanded_next, swept_next, taken}
-use Rattle.graph.specs.Taking.{expanded-end, expanded-one}
+use Rattle.graph.proofs.Taking.{expanded-end, expanded-one}
 use Rattle.search.specs.Loaded.{setting_at}
 use Rattle.search.specs.Product.{Setting, succs}
 use Rattle.search.specs.Traced.{trace}

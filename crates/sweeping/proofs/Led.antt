@@ -12,11 +12,13 @@ use Rattle.lists.specs.Listed.{◌∈◌}
 use Rattle.positions.specs.Program.{bit_of}
 use Rattle.request.specs.declared.Plan.{Plan}
 use Rattle.graph.specs.Plain.{filt}
-use Rattle.graph.specs.Loops.{loop, turns, loop-filt}
+use Rattle.graph.specs.Loops.{loop, turns}
+use Rattle.graph.proofs.Loops.{loop-filt}
 use Rattle.graph.specs.Sweep.{marked, ahead}
 use Rattle.search.specs.Front.{state_in}
 use Rattle.search.specs.Loaded.{setting_at}
-use Rattle.search.specs.Moves.{onward, onward-law}
+use Rattle.search.specs.Moves.{onward}
+use Rattle.search.proofs.Moves.{onward-law}
 use Rattle.search.specs.Product.{Setting, succs}
 use Rattle.states.specs.Pairs.{distances}
 use Rattle.states.specs.Spots.{front}

@@ -18,9 +18,10 @@ use Rattle.lists.specs.Listed.{◌∈◌, none_in, get_or-in, when-sound}
 use Rattle.request.specs.Layout.{Laid, from_in}
 use Rattle.request.specs.declared.Plan.{Plan}
 use Rattle.graph.specs.Plain.{filt, count}
-use Rattle.graph.specs.Sets.{filt-in, count-in}
-use Rattle.graph.specs.Sweep.{Noted, marked, ahead, least, lead, Leads, ahead_in, least-spec}
-use Rattle.search.specs.Front.{line-at}
+use Rattle.graph.proofs.Sets.{filt-in, count-in}
+use Rattle.graph.specs.Sweep.{Noted, marked, ahead, least, lead}
+use Rattle.graph.proofs.Sweep.{Leads, ahead_in, least-spec}
+use Rattle.search.proofs.Front.{line-at}
 use Rattle.search.specs.Loaded.{word_at, setting_in}
 use Rattle.search.specs.Moves.{onward}
 use Rattle.search.specs.Product.{Setting, stacks, place_of, pos_of, stack_of, takes, succs}

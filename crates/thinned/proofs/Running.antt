@@ -12,7 +12,7 @@ use Rattle.lists.specs.Listed.{◌∈◌, get_or-in}
 use Rattle.request.specs.Layout.{Laid}
 use Rattle.request.specs.declared.Plan.{Plan}
 use Rattle.graph.specs.Plain.{count}
-use Rattle.graph.specs.Sets.{filt-in, count-in}
+use Rattle.graph.proofs.Sets.{filt-in, count-in}
 use Rattle.sorted.specs.Sorting.{pack_by, keys, key_in, pack_in, having, lines_from, sorted_end, Run, Kept}
 use Rattle.sorted.specs.declared.Order.TheVariants as Order
 use Rattle.sorted.proofs.Turns.{kept_then, kept_set, kept-take, kept-wider, kept-get}

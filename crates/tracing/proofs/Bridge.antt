@@ -14,11 +14,12 @@ use Rattle.positions.specs.Program.{bit_of, follow_at, leaves_at, depth_at, node
 use Rattle.automaton.specs.Shape.{leaves}
 use Rattle.request.specs.declared.Plan.{Plan}
 use Rattle.graph.specs.Plain.{memb}
-use Rattle.graph.specs.Loops.{turns, turns-within, turns_same}
+use Rattle.graph.specs.Loops.{turns}
+use Rattle.graph.proofs.Loops.{turns-within, turns_same}
 use Rattle.graph.specs.Table.{Search}
 use Rattle.graph.specs.Trace.{Reached, tag_of, tagged}
 use Rattle.search.specs.Product.{Setting, stacks, place_of, pos_of, stack_of}
-use Rattle.search.specs.Front.{lines-many, line-at}
+use Rattle.search.proofs.Front.{lines-many, line-at}
 use Rattle.search.specs.Loaded.{setting_in}
 use Rattle.search.specs.Moves.{over_stacks}
 use Rattle.search.specs.Traced.{over_traced, trace}

@@ -10,9 +10,11 @@ use lib.Seq.{take-suc-set, drop-set-lt, drop-drop}
 use borrow.Author.Tests.{eq-eqb, ne_eqb}
 use Rattle.graph.specs.Loops.{turns}
 use Rattle.graph.specs.Table.{Search}
-use Rattle.graph.specs.PhaseTwo.{Tried, gather, try, try-next, try-here, walk}
+use Rattle.graph.specs.PhaseTwo.{Tried, gather, try, walk}
+use Rattle.graph.proofs.PhaseTwo.{try-next, try-here}
 use Rattle.search.specs.Product.{Setting}
-use Rattle.search.specs.Moves.{visit, onward, from_state, onward-from}
+use Rattle.search.specs.Moves.{visit, onward, from_state}
+use Rattle.search.proofs.Moves.{onward-from}
 use Rattle.walk.specs.Chosen.{try_table, anything}
 
 -- ---- a line gathered

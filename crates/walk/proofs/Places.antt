@@ -18,16 +18,17 @@ use Rattle.positions.specs.Program.{bit_of, node_in}
 use Rattle.request.specs.Layout.{Laid, ordered_end}
 use Rattle.request.specs.declared.Plan.{Plan}
 use Rattle.graph.specs.Plain.{filt, count}
-use Rattle.graph.specs.Sets.{filt-in, count-in}
-use Rattle.search.specs.Same.{filt-same}
+use Rattle.graph.proofs.Sets.{filt-in, count-in}
+use Rattle.search.proofs.Same.{filt-same}
 use Rattle.graph.specs.Loops.{loop}
 use Rattle.graph.specs.Table.{Search, blank}
 use Rattle.graph.specs.PhaseTwo.{Tried, put, gather, try}
 use Rattle.search.specs.Product.{Setting, stacks, place_of}
 use Rattle.search.specs.Loaded.{setting_in}
 use Rattle.search.specs.Moves.{from_state}
-use Rattle.search.specs.Front.{state_in, line-at}
-use Rattle.search.specs.ByPlace.{try_list, list-next, list-here, Stand, comes_from, try-place, try-stand, put-stand}
+use Rattle.search.specs.Front.{state_in}
+use Rattle.search.proofs.Front.{line-at}
+use Rattle.search.proofs.ByPlace.{try_list, list-next, list-here, Stand, comes_from, try-place, try-stand, put-stand}
 use Rattle.area.specs.Area.{stretch, found, Ready, Step, Under}
 use Rattle.states.specs.Spots.{front, Starts, Fit}
 use Rattle.states.proofs.Bounds.{stacks-pos}

@@ -13,10 +13,11 @@ use lib.Seq.{get_or-drop}
 use Rattle.lists.specs.Listed.{◌∈◌, get_or-in}
 use Rattle.request.specs.declared.Plan.{Plan}
 use Rattle.graph.specs.Plain.{count}
-use Rattle.graph.specs.Sets.{filt-in, count-in}
+use Rattle.graph.proofs.Sets.{filt-in, count-in}
 use Rattle.sorted.specs.Sorting.{pack_by, key_in, pack_in, having, sorted_end, Run}
 use Rattle.sorted.specs.declared.Order.{Order}
-use Rattle.graph.specs.Table.{Search, push, push-met}
+use Rattle.graph.specs.Table.{Search, push}
+use Rattle.graph.proofs.Table.{push-met}
 use Rattle.area.specs.Area.{stretch, found, Ready, Under}
 use Rattle.states.specs.Spots.{front}
 use Rattle.area.proofs.Changes.{under_back}

@@ -14,7 +14,8 @@ use Rattle.request.specs.Layout.{largest, Laid, from_in, to_in, kind_in}
 use Rattle.request.specs.declared.Plan.{Plan}
 use Rattle.search.specs.Front.{state_in}
 use Rattle.search.specs.Loaded.{boat_at, code_at, word_at}
-use Rattle.graph.specs.Loops.{turns, turns-idle}
+use Rattle.graph.specs.Loops.{turns}
+use Rattle.graph.proofs.Loops.{turns-idle}
 use Rattle.graph.specs.Table.{Search, push}
 use Rattle.sorted.specs.Runs.{turns-within}
 use Rattle.sorted.specs.Sorting.{pack_by, keys, key_in, pack_in}

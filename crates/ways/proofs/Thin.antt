@@ -17,7 +17,8 @@ use borrow.Author.Tests.{eqb-true, eqb-false, ne_eqb}
 use Rattle.lists.specs.Listed.{◌∈◌, none_in}
 use Rattle.request.specs.declared.Plan.{Plan}
 use Rattle.search.specs.Front.{state_in}
-use Rattle.graph.specs.Loops.{loop, turns, loop-append, turns_same, turns-idle}
+use Rattle.graph.specs.Loops.{loop, turns}
+use Rattle.graph.proofs.Loops.{loop-append, turns_same, turns-idle}
 use Rattle.graph.specs.Table.{Search, push}
 use Rattle.sorted.specs.Runs.{turns-run, loop-stretch}
 use Rattle.sorted.specs.Sorting.{pack_by, sorted_end, Run}

@@ -5,7 +5,8 @@ use Rattle.request.specs.declared.Plan.{Plan}
 use Rattle.area.specs.Area.{found}
 use Rattle.search.specs.Product.{succs}
 use Rattle.request.specs.Layout.{Laid}
-use Rattle.search.specs.Front.{state_in, goal-in}
+use Rattle.search.specs.Front.{state_in}
+use Rattle.search.proofs.Front.{goal-in}
 use Rattle.search.specs.Loaded.{setting_at}
 use Rattle.states.specs.Spots.{front, Fit}
 use Rattle.states.proofs.Bounds.{fit_same, stacks-pos}

@@ -4,7 +4,7 @@ use mathlib.Core.Path.{subst}
 use Prim.Native.Nat.{◌-◌, ◌^◌}
 use native.Mathlib.Omega.{arith}
 use Rattle.ways.proofs.Filing.{boats-fit}
-use Rattle.graph.specs.Loops.{turns-idle}
+use Rattle.graph.proofs.Loops.{turns-idle}
 use Rattle.states.specs.Spots.{front}
 use Rattle.area.proofs.Changes.{step-as, step-none}
 use Rattle.ways.specs.Ways.{Right}

@@ -1,6 +1,6 @@
 -- `forward::lesser`: each return is a case of the lesser of two words.
 use Rattle.std.proofs.Common.{arith}
-use Rattle.graph.specs.PhaseTwo.{lesser-first, lesser-second, lesser-min}
+use Rattle.graph.proofs.PhaseTwo.{lesser-first, lesser-second, lesser-min}
 use Rattle.forward.proofs.lesser.Goals as goal
 
 pub returns-then-v-eq0 : goal.returns-then-v-eq0

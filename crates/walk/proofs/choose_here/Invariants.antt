@@ -2,7 +2,7 @@
 use Rattle.std.proofs.Common.{◌≡◌, ◌-◌, ◌≤◌}
 use Rattle.area.specs.Area.{stretch, Under}
 use Rattle.graph.specs.PhaseTwo.{try}
-use Rattle.search.specs.ByPlace.{try_list}
+use Rattle.search.proofs.ByPlace.{try_list}
 use Rattle.states.specs.Pairs.{found_forth}
 use Rattle.walk.specs.Chosen.{try_table}
 use Rattle.walk.specs.Leading.{leads}

@@ -9,10 +9,10 @@ use Rattle.meaning.specs.Pattern.{Pattern, unfolded}
 use Rattle.meaning.specs.Language.{Word, Valuation, bind, Star, stop, more, Power, L}
 use Rattle.lists.specs.Listed.{◌∈◌, when, when-sound, when-complete}
 use Rattle.automaton.specs.Automaton.{Node, before, null_rounds, nullable, heads, enter, heads_counted, enter_counted, by_boat}
-use Rattle.automaton.specs.Rounds.{Round, the-first, a-later}
-use Rattle.automaton.specs.Runs.{From, from_more, from_cut, step-complete}
-use Rattle.automaton.specs.Scope.{Holds, holds-inside, passes-meets}
-use Rattle.automaton.specs.Placed.{Placed, is-nothing, is-line, is-test, is-either, is-then, is-repeat, is-keep, is-counted, Within, within-heads, within-enter, within-inside, within_low, within-rounds}
+use Rattle.automaton.proofs.Rounds.{Round, the-first, a-later}
+use Rattle.automaton.proofs.Runs.{From, from_more, from_cut, step-complete}
+use Rattle.automaton.proofs.Scope.{Holds, holds-inside, passes-meets}
+use Rattle.automaton.proofs.Placed.{Placed, is-nothing, is-line, is-test, is-either, is-then, is-repeat, is-keep, is-counted, Within, within-heads, within-enter, within-inside, within_low, within-rounds}
 
 -- ---- the positions that a command is entered by
 

@@ -8,7 +8,7 @@ use mathlib.Core.List.Memᴰ
 use Rattle.std.proofs.Math.Decide.{ℕ_discrete}
 use Rattle.lists.specs.Listed.{◌∈◌, none_in}
 use Rattle.graph.specs.Plain.{Entry, states, look, news, count, memb, nub, filt, flat, is_at, level}
-use Rattle.graph.specs.Entries.{look-push, look-push-other, news-old, news-new}
+use Rattle.graph.proofs.Entries.{look-push, look-push-other, news-old, news-new}
 
 -- ---- the test of membership
 

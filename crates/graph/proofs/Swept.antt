@@ -8,11 +8,12 @@ use Rattle.std.proofs.lemmas.List.{length-map}
 use Rattle.std.proofs.Math.ListN.{get_or-eq_default}
 use Rattle.lists.specs.Listed.{◌∈◌, none_in}
 use Rattle.graph.specs.Plain.{Entry, state_of, states, look, news, steps}
-use Rattle.graph.specs.Entries.{look-some, once-look, Sorted}
-use Rattle.graph.specs.Sets.{news-in}
-use Rattle.graph.specs.Table.{Search, mark, Holds}
-use Rattle.graph.specs.Early.{news-at, sorted-append, sorted-even, steps-keep}
-use Rattle.graph.specs.Sweep.{Levels, Falls}
+use Rattle.graph.proofs.Entries.{look-some, once-look, Sorted}
+use Rattle.graph.proofs.Sets.{news-in}
+use Rattle.graph.specs.Table.{Search, mark}
+use Rattle.graph.proofs.Table.{Holds}
+use Rattle.graph.proofs.Early.{news-at, sorted-append, sorted-even, steps-keep}
+use Rattle.graph.proofs.Sweep.{Levels, Falls}
 
 -- ---- the entries at every count
 

@@ -18,27 +18,32 @@ use Rattle.meaning.specs.Chain.{exist}
 use Rattle.record.specs.Fit.{Fit}
 use Rattle.lists.specs.Listed.{◌∈◌}
 use Rattle.automaton.specs.Automaton.{Test, never, always, against, nodes, node_at, start}
-use Rattle.automaton.specs.Shape.{deeper, Reads, shape}
+use Rattle.automaton.specs.Shape.{deeper}
+use Rattle.automaton.proofs.Shape.{Reads, shape}
 use Rattle.positions.specs.Program.{Compiled, members}
 use Rattle.boats.specs.Codes.{codes, codes-length, code-low, telling}
 use Rattle.boats.specs.Table.{boat_table, class_in, told_by, table-told}
 use Rattle.request.specs.Layout.{Laid, Planned, line_word, line-from, line-to, line-kind, boat_words, boats_loaded, table-long, some_words, loaded_of}
 use Rattle.request.specs.declared.Plan.{Plan}
 use Rattle.graph.specs.Plain.{memb, solve}
-use Rattle.graph.specs.Sets.{memb-same}
+use Rattle.graph.proofs.Sets.{memb-same}
 use Rattle.graph.specs.Loops.{loop}
 use Rattle.graph.specs.Table.{Search, push}
 use Rattle.graph.specs.PhaseOne.{begun, advance_by}
 use Rattle.graph.specs.PhaseTwo.{put, forward}
-use Rattle.graph.specs.Early.{Ended, ended_is}
+use Rattle.graph.specs.Early.{Ended}
+use Rattle.graph.proofs.Early.{ended_is}
 use Rattle.search.specs.Product.{Setting, state, passes, succs, preds}
 use Rattle.search.specs.Along.{goal, starting}
-use Rattle.search.specs.Answer.{setting, starts, solution, starts-ok, goal-ok, sound, below-size, solution-any}
-use Rattle.search.specs.Check.{moved, moved-members, checked}
+use Rattle.search.specs.Answer.{setting, starts, solution}
+use Rattle.search.proofs.Answer.{starts-ok, goal-ok, sound, below-size, solution-any}
+use Rattle.search.specs.Check.{moved, checked}
+use Rattle.search.proofs.Check.{moved-members}
 use Rattle.search.specs.Loaded.{boat_at, code_at, word_at, line_in, lines_in, setting_in}
-use Rattle.search.specs.Steps.{Ok, next-ok, preds-ok}
-use Rattle.search.specs.Same.{Same, same-succs, same-preds, same-goal, same-starting, same-solve, same-moved}
-use Rattle.search.specs.Front.{lines-many, line-at, tables, table_at}
+use Rattle.search.proofs.Steps.{Ok, next-ok, preds-ok}
+use Rattle.search.proofs.Same.{Same, same-succs, same-preds, same-goal, same-starting, same-solve, same-moved}
+use Rattle.search.specs.Front.{tables}
+use Rattle.search.proofs.Front.{lines-many, line-at, table_at}
 
 -- ---- of a request
 

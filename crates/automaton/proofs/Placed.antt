@@ -1,14 +1,15 @@
 -- A pattern's automaton stands in a table of nodes, from a position on.
 -- The proofs of `Sound`, `Complete` and `Shape` go by this, and never by the list of nodes; `compile-placed` ties the two.
-use Rattle.std.specs.Prelude.{◌≡◌, refl, true, false, List, [], ◌∷◌, ◌++◌, ℕ, suc, ◌+◌, ◌*◌, ◌≤◌, ◌<◌, drop, get_or, length}
+use Rattle.std.specs.Prelude.{◌≡◌, true, false, List, [], ◌∷◌, ◌++◌, ℕ, suc, ◌+◌, ◌*◌, ◌≤◌, ◌<◌, drop, get_or, length}
 use Rattle.std.proofs.Common.{sym, ap, ◌∙◌, append_assoc, append-nil, ⊎_elim, add-zero, suc-mul, add-one, arith, length-append, drop-drop, drop_at, get_or-drop}
 use mathlib.Core.List.Memᴰ
 use Rattle.std.proofs.Math.ListN.{get_or-eq_default}
 use Rattle.meaning.specs.Pattern.{Rule, Pattern, nothing, line, test, either, then, repeat, keep, counted, unfolded}
 use Rattle.lists.specs.Listed.{◌∈◌, none_in, when-sound}
-use Rattle.automaton.specs.Runs.{Stands}
+use Rattle.automaton.proofs.Runs.{Stands}
 use Rattle.automaton.specs.Automaton.{Node, silent, taking, always, test_of, level_of, before, null_rounds, nullable, heads, enter, heads_counted, enter_counted, compile, compile_counted, nodes, node_at}
-use Rattle.automaton.specs.Rounds.{Round, the-first, a-later, round-after, rounds-heads, rounds-length}
+use Rattle.automaton.proofs.Rounds.{Round, the-first, a-later, round-after, rounds-heads}
+use Rattle.automaton.proofs.Lengths.{compile-length}
 
 module _ (node : ℕ → Node) (done : ℕ) where
   -- the nodes of p that take a letter stand from b on, with the slots around p and the positions K after it
@@ -91,23 +92,6 @@ module _ {node : ℕ → Node} {done : ℕ} where
   within_low e d k m = omega (arith, e, (d.at k m).1)
 
 -- ---- a compiled pattern is placed
-
-pub compile-length : (p : Pattern) (b : ℕ) (scope K : List ℕ) → length (compile p b scope K) ≡ unfolded p
-compile-length nothing b scope K = refl
-compile-length (line k) b scope K = refl
-compile-length (test r k s) b scope K = refl
-compile-length (either p q) b scope K =
-    ap suc (rw length-append (λ i. compile-length p (suc b) scope K i + compile-length q (suc b + unfolded p) scope K i))
-compile-length (then p q) b scope K =
-    ap suc (rw length-append (λ i. compile-length p (suc b) scope (enter q (suc b + unfolded p) K) i + compile-length q (suc b + unfolded p) scope K i))
-compile-length (repeat p) b scope K = ap suc (compile-length p _ _ _)
-compile-length (keep k s p) b scope K = ap suc (compile-length p _ _ _)
-compile-length (counted low high p) b scope K =
-    ap suc (rounds-length (λ a. heads p a) (nullable p) (unfolded p) (λ a J. compile p a scope J) K (λ a J. compile-length p a scope J) low high (suc b))
-
-pub counted-length : (p : Pattern) (m n b : ℕ) (scope K : List ℕ) → length (compile_counted p m n b scope K) ≡ n * unfolded p
-counted-length p m n b scope K =
-    rounds-length (λ a. heads p a) (nullable p) (unfolded p) (λ a J. compile p a scope J) K (λ a J. compile-length p a scope J) m n b
 
 module _ (ns : List Node) (done : ℕ) where
   -- what stands after one node, and after a pair's first part

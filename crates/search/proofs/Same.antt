@@ -17,7 +17,7 @@ use Rattle.lists.specs.Listed.{◌∈◌, when}
 use Rattle.automaton.specs.Shape.{deeper}
 use Rattle.positions.specs.Program.{Alike}
 use Rattle.graph.specs.Plain.{memb, nub, filt, flat, count, level, next, first, pick, nearest, chosen, found, look, solve}
-use Rattle.graph.specs.Sets.{memb-same, filt-in, count-in}
+use Rattle.graph.proofs.Sets.{memb-same, filt-in, count-in}
 use Rattle.search.specs.Digits.{push_on, pop_off}
 use Rattle.search.specs.Product.{Setting, stacks, state, place_of, pos_of, stack_of, cut, passes, takes, pushed, popped, following, succs, uncut, undoes, positions, lines_into, sources, preds}
 use Rattle.search.specs.Along.{goal, starting}

@@ -8,15 +8,19 @@ use Prim.Native.Nat.{ℕ, ◌+◌, ◌<◌, ◌≤◌}
 use Rattle.std.proofs.Math.ListN.{length}
 use Rattle.lists.specs.Listed.{◌∈◌}
 use Rattle.graph.specs.Plain.{count}
-use Rattle.graph.specs.Sets.{memb-same, memb-in, filt-in, count-in}
-use Rattle.graph.specs.Loops.{loop, turns, turns-within}
+use Rattle.graph.proofs.Sets.{memb-same, memb-in, filt-in, count-in}
+use Rattle.graph.specs.Loops.{loop, turns}
+use Rattle.graph.proofs.Loops.{turns-within}
 use Rattle.graph.specs.Table.{Search, push}
-use Rattle.graph.specs.Trace.{Reached, tag_of, tagged, Tagged, tagged-right, turns-right, tagged-same}
+use Rattle.graph.specs.Trace.{Reached, tag_of, tagged}
+use Rattle.graph.proofs.Trace.{Tagged, tagged-right, turns-right, tagged-same}
 use Rattle.search.specs.Product.{Setting, place_of, pos_of, stack_of, cut, succs, uncut, lines_into, sources}
-use Rattle.search.specs.Moves.{over_stacks, expand, stacks-law, expand-law}
-use Rattle.search.specs.Traced.{over_traced, trace, line_fits, may_follow, stacks-push}
-use Rattle.search.specs.Steps.{Sound, Ok, sources-lead}
-use Rattle.search.specs.Same.{Same, same_place, same-pos, same-stack, pos-low, same-uncut, same-sources, same-succs, same-preds}
+use Rattle.search.specs.Moves.{over_stacks, expand}
+use Rattle.search.proofs.Moves.{stacks-law, expand-law}
+use Rattle.search.specs.Traced.{over_traced, trace}
+use Rattle.search.proofs.Traced.{line_fits, may_follow, stacks-push}
+use Rattle.search.proofs.Steps.{Sound, Ok, sources-lead}
+use Rattle.search.proofs.Same.{Same, same_place, same-pos, same-stack, pos-low, same-uncut, same-sources, same-succs, same-preds}
 
 -- ---- the tags are right
 

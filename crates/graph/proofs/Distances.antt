@@ -12,7 +12,7 @@ use native.Mathlib.Omega.{arith}
 use Rattle.std.proofs.Math.ListN.{length-append}
 use Rattle.lists.specs.Listed.{◌∈◌, none_in}
 use Rattle.graph.specs.Plain.{Entry, look, news, bfs, found, Run, Reaches, Least, Distance}
-use Rattle.graph.specs.Entries.{same-distance, look-some, look_none, news-old, news-new, Once, once-unique, once-snoc, once-length, Sorted, sorted-snoc}
+use Rattle.graph.proofs.Entries.{same-distance, look-some, look_none, news-old, news-new, Once, once-unique, once-snoc, once-length, Sorted, sorted-snoc}
 
 -- each of ps is in f, at distance d or less
 abbrev Covered : List Entry → List ℕ → ℕ → Type 0

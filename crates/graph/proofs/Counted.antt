@@ -7,7 +7,7 @@ use mathlib.Core.List.{List, [], ◌∷◌, ◌++◌}
 use Prim.Native.Nat.{ℕ, zero, suc}
 use Rattle.std.proofs.Math.ListN.{drop}
 use Rattle.graph.specs.Plain.{Entry, news, bfs, step, steps}
-use Rattle.graph.specs.Queue.{waits-more, waits-after}
+use Rattle.graph.proofs.Queue.{waits-more, waits-after}
 
 module _ (preds : ℕ → List ℕ) where
   pub step_end : (f : List Entry) (n : ℕ) → drop n f ≡ [] → step preds (f, n) ≡ (f, n)

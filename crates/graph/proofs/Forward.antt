@@ -13,8 +13,8 @@ use Rattle.std.proofs.Math.Decide.{dec_lt}
 use Rattle.std.proofs.Math.ListN.{length}
 use Rattle.lists.specs.Listed.{◌∈◌, none_in}
 use Rattle.graph.specs.Plain.{Run, Least, Distance, flat, level, nearest, lesser, next, first, pick, chosen, solve, found, look, Lex, Answer}
-use Rattle.graph.specs.Sets.{flat_in, level_in}
-use Rattle.graph.specs.Distances.{distance-spec}
+use Rattle.graph.proofs.Sets.{flat_in, level_in}
+use Rattle.graph.proofs.Distances.{distance-spec}
 
 -- ---- the line chosen, and the states to which it leads
 

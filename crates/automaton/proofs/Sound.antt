@@ -9,10 +9,10 @@ use Rattle.meaning.specs.Pattern.{Pattern, nothing, line, test, either, then, re
 use Rattle.meaning.specs.Language.{Letter, Word, Valuation, bind, Star, stop, more, Times, L}
 use Rattle.lists.specs.Listed.{when}
 use Rattle.automaton.specs.Automaton.{Node, Test, always, taking, before, null_rounds, nullable, heads, enter, heads_counted, enter_counted, by_boat}
-use Rattle.automaton.specs.Rounds.{Round, the-first, a-later}
-use Rattle.automaton.specs.Runs.{From, Taken, from-cases, from-when, from-none, from_cut, step-sound}
-use Rattle.automaton.specs.Scope.{Holds, holds-inside, passes-meets}
-use Rattle.automaton.specs.Placed.{Placed, is-nothing, is-line, is-test, is-either, is-then, is-repeat, is-keep, is-counted, Within, within-heads, within-enter, within-inside, within_low, within-rounds}
+use Rattle.automaton.proofs.Rounds.{Round, the-first, a-later}
+use Rattle.automaton.proofs.Runs.{From, Taken, from-cases, from-when, from-none, from_cut, step-sound}
+use Rattle.automaton.proofs.Scope.{Holds, holds-inside, passes-meets}
+use Rattle.automaton.proofs.Placed.{Placed, is-nothing, is-line, is-test, is-either, is-then, is-repeat, is-keep, is-counted, Within, within-heads, within-enter, within-inside, within_low, within-rounds}
 
 -- ---- a nullable pattern has the empty word
 

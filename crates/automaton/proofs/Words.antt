@@ -9,11 +9,11 @@ use Rattle.meaning.specs.Record.{Boat}
 use Rattle.meaning.specs.Pattern.{Pattern, unfolded}
 use Rattle.meaning.specs.Language.{Word, unbound, L}
 use Rattle.automaton.specs.Automaton.{Node, silent, start, nodes, node_at, by_boat, passes, takes, accepts}
-use Rattle.automaton.specs.Runs.{From, from-sound, from-complete}
-use Rattle.automaton.specs.Scope.{bind_all, holds-all}
-use Rattle.automaton.specs.Placed.{nodes-placed, end-silent, end-within}
-use Rattle.automaton.specs.Sound.{enter-sound, sound}
-use Rattle.automaton.specs.Complete.{complete}
+use Rattle.automaton.proofs.Runs.{From, from-sound, from-complete}
+use Rattle.automaton.proofs.Scope.{bind_all, holds-all}
+use Rattle.automaton.proofs.Placed.{nodes-placed, end-silent, end-within}
+use Rattle.automaton.proofs.Sound.{enter-sound, sound}
+use Rattle.automaton.proofs.Complete.{complete}
 
 -- ---- the end
 

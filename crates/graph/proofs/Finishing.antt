@@ -18,16 +18,20 @@ use Rattle.std.proofs.lemmas.List.{length-map}
 use borrow.Author.Tests.{eqb-true, eqb-false, eq-eqb, ne_eqb, ltb-true, lt-ltb, leb-true}
 use Rattle.lists.specs.Listed.{◌∈◌, none_in}
 use Rattle.graph.specs.Plain.{Entry, state_of, look, news, filt, steps, solve}
-use Rattle.graph.specs.Sets.{filt-in}
+use Rattle.graph.proofs.Sets.{filt-in}
 use Rattle.graph.specs.Loops.{loop}
-use Rattle.graph.specs.Table.{Search, push, Holds}
-use Rattle.graph.specs.PhaseOne.{Progress, begun, advance, advance_by, advance-end, advance-next, advance-add, at_count}
+use Rattle.graph.specs.Table.{Search, push}
+use Rattle.graph.proofs.Table.{Holds}
+use Rattle.graph.specs.PhaseOne.{Progress, begun, advance, advance_by}
+use Rattle.graph.proofs.PhaseOne.{advance-end, advance-next, advance-add, at_count}
 use Rattle.graph.specs.PhaseTwo.{put, forward, forward_by, nearest_word}
-use Rattle.graph.specs.Early.{met_by, Ended, ended_is, news-at, steps-keep}
+use Rattle.graph.specs.Early.{met_by, Ended}
+use Rattle.graph.proofs.Early.{ended_is, news-at, steps-keep}
 use Rattle.graph.specs.Trace.{Reached}
-use Rattle.graph.specs.Sweep.{Noted, Sweep, marked, marked-out, take_up, back, back_by, back-add, chain_in}
-use Rattle.graph.specs.Swept.{lined, lows, entry_at, no-lows, lows-at, lows-few, at-in-list, states-at, word_of, levels}
-use Rattle.graph.specs.SweepAnswer.{zero-at, all_levels, sweep-answer}
+use Rattle.graph.specs.Sweep.{Noted, Sweep, marked, take_up, back, back_by, chain_in}
+use Rattle.graph.proofs.Sweep.{marked-out, back-add}
+use Rattle.graph.proofs.Swept.{lined, lows, entry_at, no-lows, lows-at, lows-few, at-in-list, states-at, word_of, levels}
+use Rattle.graph.proofs.SweepAnswer.{zero-at, all_levels, sweep-answer}
 use Rattle.graph.specs.Underway.{Underway, dist_of, queue_of, waiting_in, last_word, given_up, near_in, goes_on, turned, settled, begun_from, expanded_next, swept_next, taken, taken_by, at_end, outcome}
 
 -- ---- states that are not marked

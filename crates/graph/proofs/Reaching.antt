@@ -12,16 +12,18 @@ use Rattle.std.proofs.Math.ListN.{length, length-replicate, get_or-append}
 use Rattle.std.proofs.lemmas.List.{length-map}
 use Rattle.lists.specs.Listed.{◌∈◌}
 use Rattle.graph.specs.Plain.{Entry, state_of, states, look, news, steps}
-use Rattle.graph.specs.Entries.{once-look}
+use Rattle.graph.proofs.Entries.{once-look}
 use Rattle.graph.specs.Loops.{loop}
-use Rattle.graph.specs.Queue.{waits_in, waits-below, drop-map}
-use Rattle.graph.specs.Counted.{step-next}
+use Rattle.graph.proofs.Queue.{waits_in, waits-below, drop-map}
+use Rattle.graph.proofs.Counted.{step-next}
 use Rattle.graph.specs.Table.{Search, push, mark}
-use Rattle.graph.specs.PhaseOne.{Progress, begun, advance_by, advance-next, At, advances-at, at_count}
-use Rattle.graph.specs.Early.{news-at}
-use Rattle.graph.specs.Trace.{Reached, tag_of, Long, Tagged}
-use Rattle.graph.specs.Swept.{entry_at, at-in-list, states-at}
-use Rattle.graph.specs.SweepAnswer.{zero-at}
+use Rattle.graph.specs.PhaseOne.{Progress, begun, advance_by}
+use Rattle.graph.proofs.PhaseOne.{advance-next, At, advances-at, at_count}
+use Rattle.graph.proofs.Early.{news-at}
+use Rattle.graph.specs.Trace.{Reached, tag_of}
+use Rattle.graph.proofs.Trace.{Long, Tagged}
+use Rattle.graph.proofs.Swept.{entry_at, at-in-list, states-at}
+use Rattle.graph.proofs.SweepAnswer.{zero-at}
 use Rattle.graph.specs.Underway.{Underway, dist_of, queue_of, waiting_in, near_in, given_up, turned, goes_on, settled, begun_from, expanded_next, swept_next, taken, taken_by}
 
 -- ---- what is found changes only where a state is expanded

@@ -14,10 +14,11 @@ use borrow.Author.Tests.{eqb-true, eq-eqb}
 use Rattle.meaning.specs.Writing.{line_at}
 use Rattle.meaning.specs.Language.{compared}
 use Rattle.lists.specs.Listed.{◌∈◌, when-sound, when-complete}
-use Rattle.automaton.specs.Shape.{deeper, leaves, Shape}
+use Rattle.automaton.specs.Shape.{deeper, leaves}
+use Rattle.automaton.proofs.Shape.{Shape}
 use Rattle.graph.specs.Plain.{memb, filt, count}
-use Rattle.graph.specs.Sets.{memb-in, in-memb, filt-in, flat_in, count-in}
-use Rattle.search.specs.Digits.{pow_pos, pow-split, pop-push, push-lt, pop-lt}
+use Rattle.graph.proofs.Sets.{memb-in, in-memb, filt-in, flat_in, count-in}
+use Rattle.search.proofs.Digits.{pow_pos, pow-split, pop-push, push-lt, pop-lt}
 use Rattle.search.specs.Product.{Setting, stacks, state, place_of, pos_of, stack_of, cut, passes, pushed, popped, following, succs, uncut, undoes, positions, lines_into, sources, preds}
 
 -- ---- what is asked of a setting

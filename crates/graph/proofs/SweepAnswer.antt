@@ -7,15 +7,20 @@ use Rattle.std.proofs.Math.Option.{Option, some, none-ne-some, some-injective}
 use Rattle.std.proofs.lemmas.List.{length-replicate}
 use Rattle.lists.specs.Listed.{◌∈◌}
 use Rattle.graph.specs.Plain.{Entry, memb, filt, level, chosen, pick, solve, news, steps}
-use Rattle.graph.specs.Sets.{memb-in, in-memb, filt-in, level_in}
+use Rattle.graph.proofs.Sets.{memb-in, in-memb, filt-in, level_in}
 use Rattle.graph.specs.Loops.{loop}
-use Rattle.graph.specs.Table.{Search, push, unmark, distance_in, Holds}
-use Rattle.graph.specs.PhaseOne.{Progress, begun, advance_by, at_count}
-use Rattle.graph.specs.PhaseTwo.{put, nearest_word, nearest-is, nearest-of, forward-is}
-use Rattle.graph.specs.Early.{Ended, ended_is}
-use Rattle.graph.specs.Sweep as Sweep
-use Rattle.graph.specs.Sweep.{Sweep, marked, marked-in, marked-out, marked-long, back_by, chain_in, Levels, sweep-picks}
-use Rattle.graph.specs.Swept.{Lined, lined, levels, falls}
+use Rattle.graph.specs.Table.{Search, push, unmark, distance_in}
+use Rattle.graph.proofs.Table.{Holds}
+use Rattle.graph.specs.PhaseOne.{Progress, begun, advance_by}
+use Rattle.graph.proofs.PhaseOne.{at_count}
+use Rattle.graph.specs.PhaseTwo.{put, nearest_word}
+use Rattle.graph.proofs.PhaseTwo.{nearest-is, nearest-of, forward-is}
+use Rattle.graph.specs.Early.{Ended}
+use Rattle.graph.proofs.Early.{ended_is}
+use Rattle.graph.proofs.Sweep as Sweep
+use Rattle.graph.specs.Sweep.{Sweep, marked, back_by, chain_in}
+use Rattle.graph.proofs.Sweep.{marked-in, marked-out, marked-long, Levels, sweep-picks}
+use Rattle.graph.proofs.Swept.{Lined, lined, levels, falls}
 
 -- a table all of whose words are 0
 pub zero-at : (n i : ℕ) → get_or (replicate n 0) i 0 ≡ (let z : ℕ = 0 in z)

@@ -12,15 +12,18 @@ use Rattle.std.proofs.Math.Nat.{pow-le-pow_right, lt_of_lt_of_le}
 use Rattle.meaning.specs.Writing.{line_at}
 use Rattle.lists.specs.Listed.{◌∈◌, none_in, get_or-in, when-sound}
 use Rattle.graph.specs.Plain.{memb, filt, count}
-use Rattle.graph.specs.Sets.{filt-in, count-in}
-use Rattle.search.specs.Digits.{pow_pos}
-use Rattle.graph.specs.Loops.{loop, turns, turns-idle}
+use Rattle.graph.proofs.Sets.{filt-in, count-in}
+use Rattle.search.proofs.Digits.{pow_pos}
+use Rattle.graph.specs.Loops.{loop, turns}
+use Rattle.graph.proofs.Loops.{turns-idle}
 use Rattle.graph.specs.Table.{Search, push}
-use Rattle.graph.specs.Grows.{Grows, grows_none, grows_then}
-use Rattle.graph.specs.PhaseTwo.{put, Tried, gather, try, try-next, try-here, from-grows}
+use Rattle.graph.proofs.Grows.{Grows, grows_none, grows_then}
+use Rattle.graph.specs.PhaseTwo.{put, Tried, gather, try}
+use Rattle.graph.proofs.PhaseTwo.{try-next, try-here, from-grows}
 use Rattle.search.specs.Product.{Setting, stacks, state, place_of, pos_of, stack_of, cut, takes, pushed, following, succs}
-use Rattle.search.specs.Steps.{read-state}
-use Rattle.search.specs.Moves.{onward, from_state, from-law}
+use Rattle.search.proofs.Steps.{read-state}
+use Rattle.search.specs.Moves.{onward, from_state}
+use Rattle.search.proofs.Moves.{from-law}
 
 -- ---- the lines of a list, tried one after the other
 

@@ -13,14 +13,17 @@ use Rattle.std.proofs.Math.Dec.{eqb, leb}
 use Rattle.std.proofs.Math.ListN.{get_or, get_or-eq_default}
 use Rattle.lists.specs.Listed.{◌∈◌, none_in, get_or-in}
 use Rattle.graph.specs.Plain.{Entry, state_of, look, filt}
-use Rattle.graph.specs.Entries.{look-some, once-look}
+use Rattle.graph.proofs.Entries.{look-some, once-look}
 use Rattle.graph.specs.Loops.{loop}
-use Rattle.graph.specs.Queue.{Distinct}
-use Rattle.graph.specs.Table.{Search, push, mark, Holds, holds-distinct}
-use Rattle.graph.specs.Trace.{Reached, Long}
-use Rattle.graph.specs.Sweep.{Noted, Sweep, marked, least, ahead, lead, take_up, least-spec, back}
+use Rattle.graph.proofs.Queue.{Distinct}
+use Rattle.graph.specs.Table.{Search, push, mark}
+use Rattle.graph.proofs.Table.{Holds, holds-distinct}
+use Rattle.graph.specs.Trace.{Reached}
+use Rattle.graph.proofs.Trace.{Long}
+use Rattle.graph.specs.Sweep.{Noted, Sweep, marked, least, ahead, lead, take_up, back}
+use Rattle.graph.proofs.Sweep.{least-spec}
 use Rattle.graph.specs.Underway.{Underway, dist_of, queue_of, waiting_in, near_in, given_up, turned, settled, begun_from, expanded_next, swept_next, taken, taken_by}
-use Rattle.graph.specs.Taking.{Took, backward, forward, ended, took, expanded-end, expanded-one, settled-keeps, reached_by, reached-keeps, plain-at-count, standing}
+use Rattle.graph.proofs.Taking.{Took, backward, forward, ended, took, expanded-end, expanded-one, settled-keeps, reached_by, reached-keeps, plain-at-count, standing}
 
 -- ---- marks stay low
 

@@ -1,0 +1,11 @@
+pub mod Rounds
+pub mod Runs
+pub mod Scope
+pub mod Lengths
+pub mod Placed
+pub mod Sound
+pub mod Complete
+pub mod Words
+pub mod Shape
+pub mod Readings
+pub mod Rows

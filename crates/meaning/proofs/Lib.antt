@@ -1,0 +1,2 @@
+pub mod RowsOfChains
+pub mod RowsOfWindows

@@ -1,0 +1,14 @@
+pub mod Order
+pub mod Digits
+pub mod Steps
+pub mod Along
+pub mod Moves
+pub mod Traced
+pub mod Answer
+pub mod Check
+pub mod Asked
+pub mod Same
+pub mod TracedRight
+pub mod Front
+pub mod ReadBack
+pub mod ByPlace
