@@ -2,7 +2,7 @@
 // words of the work area are then 7, as they were lent, and how many are 0.
 ghost use Rattle.std.specs.Prelude.{◌≤◌, length};
 
-use crate::{area, file, print};
+use crate::{file, print, work_area};
 use checker::CheckReply;
 
 fn said(rt: &impl Print, r: CheckReply) {
@@ -42,7 +42,7 @@ fn half_of(bytes: &[u8], list: &[u16]) -> usize
 fn asked(r: &[u8], work: &mut [u32]) -> CheckReply {
     let mut chain = [0u16; 16];
     let n = entries(file::field(r, 5), &mut chain);
-    let words = area::at_most(file::long(r, 6), work);
+    let words = work_area::at_most(file::long(r, 6), work);
     checker::check_chain(
         file::field(r, 1),
         file::field(r, 2),
@@ -54,11 +54,11 @@ fn asked(r: &[u8], work: &mut [u32]) -> CheckReply {
 }
 
 pub fn row(rt: &impl Print, r: &[u8]) {
-    let mut work = area::lent();
+    let mut work = work_area::lent();
     print::text(rt, file::field(r, 0));
     print::text(rt, b": ");
     let reply = asked(r, &mut work);
     said(rt, reply);
-    area::left(rt, &work);
+    work_area::left(rt, &work);
     print::text(rt, b"\n");
 }

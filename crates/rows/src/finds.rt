@@ -2,7 +2,7 @@
 // as they were lent, and how many are 0, and how many entries of the output are 65,535, as they were lent.
 ghost use Rattle.std.specs.Prelude.{◌≤◌, length};
 
-use crate::{area, file, print};
+use crate::{file, print, work_area};
 use finder::FindReply;
 
 // A number of entries, or all that a list has where those are fewer.
@@ -56,7 +56,7 @@ fn said(rt: &impl Print, reply: FindReply, out: &[u16]) {
 
 // A row: its name, the record, the pattern, the two places, how many words and how many entries are lent.
 fn asked(r: &[u8], work: &mut [u32], out: &mut [u16]) -> FindReply {
-    let words = area::at_most(file::long(r, 5), work);
+    let words = work_area::at_most(file::long(r, 5), work);
     let room = at_most(file::long(r, 6), out);
     finder::find(
         file::field(r, 1),
@@ -69,13 +69,13 @@ fn asked(r: &[u8], work: &mut [u32], out: &mut [u16]) -> FindReply {
 }
 
 pub fn row(rt: &impl Print, r: &[u8]) {
-    let mut work = area::lent();
+    let mut work = work_area::lent();
     let mut out = [65535u16; 2048];
     print::text(rt, file::field(r, 0));
     print::text(rt, b": ");
     let reply = asked(r, &mut work, &mut out);
     said(rt, reply, &out);
-    area::left(rt, &work);
+    work_area::left(rt, &work);
     print::text(rt, b", ");
     print::number(rt, untouched(&out));
     print::text(rt, b" free\n");

@@ -2,13 +2,13 @@
 // The requests of random.bin are made at random: the second program (reference/) made them, and answered them for stdout.
 #![tactic(auto)]
 
-mod area;
 mod checks;
 mod file;
 mod finds;
 mod patterns;
 mod print;
 mod records;
+mod work_area;
 
 use std::rt::Files;
 
