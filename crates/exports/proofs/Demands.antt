@@ -16,7 +16,7 @@ use Rattle.checker.specs.Promise.{check_of, Says, Demand2}
 use Rattle.checker.specs.Demand.{check-late}
 use Rattle.finder.specs.Promise.{find_of, Said, found, none_found, refusal, said, Answers, Demand3}
 use Rattle.finder.specs.Demand.{Bounds, find-bounds, LateSaid, find-late}
-use Rattle.starts.specs.Promise as All
+use Rattle.starts.specs.Promise as OfStarts
 use Rattle.starts.specs.Promise.{LengthSays, Shortest}
 use Rattle.starts.specs.Demand.{LateTold, starts-late}
 use Rattle.meaning.specs.Outcome as Told
@@ -91,7 +91,7 @@ module _ (rec pat : List ℕ) (a b : ℕ) (options : Options) (words room : ℕ)
 
 module _ (rec pat starts : List ℕ) (to : ℕ) (options : Options) (words room : ℕ) (after : List ℕ) where
   abbrev all_told : Reply ℕ
-  all_told = All.told (All.starts_of rec pat starts to options words room)
+  all_told = OfStarts.told (OfStarts.starts_of rec pat starts to options words room)
 
   told-each : Shortest rec pat starts to options all_told after → EachShortest rec pat starts to options (starts_number all_told) after
   unfolding EachShortest

@@ -15,7 +15,7 @@ ghost use Rattle.finder.specs.Promise.{find_reply, find_of, said, out_after};
 ghost use Rattle.pattern.specs.Promise.{counts_of};
 ghost use Rattle.record.specs.Promise.{line_shown, timed_shown};
 ghost use Rattle.searching.specs.Promise.{begin_reply, begun_told, begun_after};
-ghost use Rattle.starts.specs.Promise as All;
+ghost use Rattle.starts.specs.Promise as OfStarts;
 ghost use Rattle.windows.specs.Promise.{options_of};
 ghost use Rattle.writing.specs.Promise.{write_reply};
 ghost use Rattle.exports.specs.Promise.{number_of, fields_of, read_number, read_after, count_number, count_after, pattern_number, pattern_after, check_number, Membership, find_number, FirstShortest, counted, starts_number, EachShortest, MovingNumber, FinishingNumber, version_number};
@@ -378,7 +378,7 @@ fn in_32_bits(n: usize) -> usize
 
 // What is said of all starts, as a number.
 fn starts_number(r: StartsReply) -> u64
-    ensures { result ≡ starts_number (All.starts_reply r) }
+    ensures { result ≡ starts_number (OfStarts.starts_reply r) }
 {
     match r {
         StartsReply::Lengths(n) => in_32_bits(n) as u64,
@@ -397,9 +397,9 @@ pub extern "C" fn chains_starts(
     work: &mut [u32],
     lengths: &mut [u32],
 ) -> u64
-    ensures reply { result ≡ starts_number (All.told (All.starts_of rec.now pat.now listed.now to plain (length work.old) (length lengths.old))) }
+    ensures reply { result ≡ starts_number (OfStarts.told (OfStarts.starts_of rec.now pat.now listed.now to plain (length work.old) (length lengths.old))) }
     ensures workspace { work.new ≡ work_after (ask_starts rec.now pat.now listed.now to plain (length work.old)) work.old }
-    ensures words { lengths.new ≡ All.lengths_after (All.starts_of rec.now pat.now listed.now to plain (length work.old) (length lengths.old)) lengths.old }
+    ensures words { lengths.new ≡ OfStarts.lengths_after (OfStarts.starts_of rec.now pat.now listed.now to plain (length work.old) (length lengths.old)) lengths.old }
     ensures shortest { EachShortest rec.now pat.now listed.now to plain result lengths.new }
 {
     starts_number(starts::all_starts(rec, pat, listed, to, work, lengths))
@@ -416,9 +416,9 @@ pub extern "C" fn chains_starts_with(
     work: &mut [u32],
     lengths: &mut [u32],
 ) -> u64
-    ensures reply { result ≡ starts_number (All.told (All.starts_of rec.now pat.now listed.now to (options_of options.now) (length work.old) (length lengths.old))) }
+    ensures reply { result ≡ starts_number (OfStarts.told (OfStarts.starts_of rec.now pat.now listed.now to (options_of options.now) (length work.old) (length lengths.old))) }
     ensures workspace { work.new ≡ work_after (ask_starts rec.now pat.now listed.now to (options_of options.now) (length work.old)) work.old }
-    ensures words { lengths.new ≡ All.lengths_after (All.starts_of rec.now pat.now listed.now to (options_of options.now) (length work.old) (length lengths.old)) lengths.old }
+    ensures words { lengths.new ≡ OfStarts.lengths_after (OfStarts.starts_of rec.now pat.now listed.now to (options_of options.now) (length work.old) (length lengths.old)) lengths.old }
     ensures shortest { EachShortest rec.now pat.now listed.now to (options_of options.now) result lengths.new }
 {
     starts_number(starts::all_starts_with(

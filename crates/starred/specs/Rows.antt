@@ -15,7 +15,7 @@ use Rattle.search.specs.Answer.{setting, starts, solution}
 use Rattle.search.specs.Check.{moved, checked}
 use Rattle.checker.specs.Promise.{check_of}
 use Rattle.finder.specs.Promise.{Finding, stopped, nowhere, chain, too_long, find_of}
-use Rattle.starts.specs.Promise as All
+use Rattle.starts.specs.Promise as OfStarts
 use Rattle.starts.specs.Promise.{Starting, starts_of}
 
 -- ---- the day's records and patterns, in bytes
@@ -225,32 +225,32 @@ some_lines = 0x26 ∷ 0x21 ∷ 1 ∷ []
 lists_of : List ListRow
 lists_of =
     -- a place listed twice is answered twice
-    lists R P (0 ∷ 1 ∷ 2 ∷ 3 ∷ 0 ∷ []) 3 8704 5 (All.lengths (3 ∷ none ∷ none ∷ none ∷ 3 ∷ []))
+    lists R P (0 ∷ 1 ∷ 2 ∷ 3 ∷ 0 ∷ []) 3 8704 5 (OfStarts.lengths (3 ∷ none ∷ none ∷ none ∷ 3 ∷ []))
     -- in the list's order; the nearest start is not the end of the search; the empty chain has length 0
-    ∷ lists away some_lines (5 ∷ 3 ∷ 2 ∷ 1 ∷ 0 ∷ []) 2 16384 9 (All.lengths (none ∷ 4 ∷ 0 ∷ 1 ∷ 2 ∷ []))
-    ∷ lists R P [] 3 8704 0 (All.lengths [])
+    ∷ lists away some_lines (5 ∷ 3 ∷ 2 ∷ 1 ∷ 0 ∷ []) 2 16384 9 (OfStarts.lengths (none ∷ 4 ∷ 0 ∷ 1 ∷ 2 ∷ []))
+    ∷ lists R P [] 3 8704 0 (OfStarts.lengths [])
     -- 15 of every listed place and of the finishing place, also with an empty list, and after the pattern
-    ∷ lists R P (0 ∷ 4 ∷ []) 3 16384 2 (All.stopped 15)
-    ∷ lists R P (4 ∷ 0 ∷ []) 3 16384 2 (All.stopped 15)
-    ∷ lists R P (0 ∷ []) 4 16384 1 (All.stopped 15)
-    ∷ lists R P [] 4 16384 0 (All.stopped 15)
-    ∷ lists R (0x22 ∷ 1 ∷ 0 ∷ []) (4 ∷ []) 4 16384 0 (All.stopped 12)
+    ∷ lists R P (0 ∷ 4 ∷ []) 3 16384 2 (OfStarts.stopped 15)
+    ∷ lists R P (4 ∷ 0 ∷ []) 3 16384 2 (OfStarts.stopped 15)
+    ∷ lists R P (0 ∷ []) 4 16384 1 (OfStarts.stopped 15)
+    ∷ lists R P [] 4 16384 0 (OfStarts.stopped 15)
+    ∷ lists R (0x22 ∷ 1 ∷ 0 ∷ []) (4 ∷ []) 4 16384 0 (OfStarts.stopped 12)
     -- 15 before 17, 17 before 19, and 19 with the list's length
-    ∷ lists R P (4 ∷ []) 3 8703 0 (All.stopped 15)
-    ∷ lists R P (0 ∷ 0 ∷ []) 3 8703 1 (All.stopped 17)
-    ∷ lists R P (0 ∷ 0 ∷ 0 ∷ []) 3 8704 2 (All.too_short 3)
+    ∷ lists R P (4 ∷ []) 3 8703 0 (OfStarts.stopped 15)
+    ∷ lists R P (0 ∷ 0 ∷ []) 3 8703 1 (OfStarts.stopped 17)
+    ∷ lists R P (0 ∷ 0 ∷ 0 ∷ []) 3 8704 2 (OfStarts.too_short 3)
     ∷ []
 
 is_start : Starting → Starting → Bool
-is_start (All.stopped m) (All.stopped n) = eqb m n
-is_start (All.stopped m) (All.too_short n) = false
-is_start (All.stopped m) (All.lengths l) = false
-is_start (All.too_short m) (All.stopped n) = false
-is_start (All.too_short m) (All.too_short n) = eqb m n
-is_start (All.too_short m) (All.lengths l) = false
-is_start (All.lengths k) (All.stopped n) = false
-is_start (All.lengths k) (All.too_short n) = false
-is_start (All.lengths k) (All.lengths l) = same_chain k l
+is_start (OfStarts.stopped m) (OfStarts.stopped n) = eqb m n
+is_start (OfStarts.stopped m) (OfStarts.too_short n) = false
+is_start (OfStarts.stopped m) (OfStarts.lengths l) = false
+is_start (OfStarts.too_short m) (OfStarts.stopped n) = false
+is_start (OfStarts.too_short m) (OfStarts.too_short n) = eqb m n
+is_start (OfStarts.too_short m) (OfStarts.lengths l) = false
+is_start (OfStarts.lengths k) (OfStarts.stopped n) = false
+is_start (OfStarts.lengths k) (OfStarts.too_short n) = false
+is_start (OfStarts.lengths k) (OfStarts.lengths l) = same_chain k l
 
 right_list : ListRow → Bool
 right_list (lists rec pat starts to words room s) = is_start (starts_of rec pat starts to plain words room) s
@@ -313,13 +313,13 @@ window_rows =
     ∷ checks-in three_lines either_kind 0 1 (2 ∷ []) (but 0 0 86399) (passed false)
     ∷ checks-in three_lines either_kind 0 1 (3 ∷ []) (but 0 6 7) (refused 18)
     -- all starts see the windows too
-    ∷ starts-in three_lines (0x21 ∷ 2 ∷ []) (0 ∷ 1 ∷ []) 1 (but 1 7 8) 16384 (All.lengths (1 ∷ none ∷ []))
-    ∷ starts-in three_lines (0x21 ∷ 2 ∷ []) (0 ∷ 1 ∷ []) 1 (but 1 8 9) 16384 (All.lengths (none ∷ none ∷ []))
+    ∷ starts-in three_lines (0x21 ∷ 2 ∷ []) (0 ∷ 1 ∷ []) 1 (but 1 7 8) 16384 (OfStarts.lengths (1 ∷ none ∷ []))
+    ∷ starts-in three_lines (0x21 ∷ 2 ∷ []) (0 ∷ 1 ∷ []) 1 (but 1 8 9) 16384 (OfStarts.lengths (none ∷ none ∷ []))
     -- 27 of a kind that no line has, after 15 and before 17
     ∷ finds-in three_lines either_kind 0 1 (but 14 5 5) 0 (stopped 27)
     ∷ finds-in three_lines either_kind 0 1 (but 14 5 86401) 16384 (stopped 27)
     ∷ finds-in three_lines either_kind 0 2 (but 14 5 5) 0 (stopped 15)
-    ∷ starts-in three_lines either_kind (0 ∷ []) 1 (but 14 6 5) 0 (All.stopped 27)
+    ∷ starts-in three_lines either_kind (0 ∷ []) 1 (but 14 6 5) 0 (OfStarts.stopped 27)
     -- the boats of lines outside count: with two more boats the size is 2 × 3 × 4, and one word less is too few
     ∷ finds-in three_lines (0x27 ∷ 1 ∷ 0 ∷ 0x20 ∷ []) 0 1 (but 0 5 6) 8288 (chain (0 ∷ []))
     ∷ finds-in three_lines (0x27 ∷ 1 ∷ 0 ∷ 0x20 ∷ []) 0 1 (but 0 5 6) 8287 (stopped 17)

@@ -5,7 +5,7 @@ use lib.ListN.{length}
 use Rattle.meaning.specs.Windows.{Options}
 use Rattle.meaning.specs.Request.{ask_starts, work_after}
 use Rattle.windows.specs.Promise.{options_of}
-use Rattle.starts.specs.Promise as All
+use Rattle.starts.specs.Promise as OfStarts
 use Rattle.starts.specs.Promise.{starts_reply, Starting, starts_of, lengths_after, Shortest}
 use Rattle.exports.specs.Promise.{starts_number}
 use Rattle.exports.proofs.Demands.{starts-number}
@@ -22,6 +22,6 @@ returns c =
     let area = c.all_starts_with.ensures.workspace in
     let lengths = c.all_starts_with.ensures.lengths in
     let shortest = c.all_starts_with.ensures.shortest in
-    let replied = reply ∙ ap (λ (o : Options). All.told (starting c.args.rec.now c.args.pat.now c.args.listed.now c.args.to (length c.args.work.now) (length c.args.lengths.now) o)) c.options_of.ensures in
+    let replied = reply ∙ ap (λ (o : Options). OfStarts.told (starting c.args.rec.now c.args.pat.now c.args.listed.now c.args.to (length c.args.work.now) (length c.args.lengths.now) o)) c.options_of.ensures in
     let n = c.starts_number.ensures ∙ ap starts_number replied in
     let met = subst (λ (o : Options). Shortest x.rec.now x.pat.now x.listed.now x.to o (starts_reply c.all_starts_with.result) c.all_starts_with.new.lengths) c.options_of.ensures shortest in record { reply = n; workspace = area ∙ ap (λ (o : Options). work_after (ask_starts x.rec.now x.pat.now x.listed.now x.to o (length x.work.now)) x.work.now) c.options_of.ensures; words = lengths ∙ ap (λ (o : Options). lengths_after (starting c.args.rec.now c.args.pat.now c.args.listed.now c.args.to (length c.args.work.now) (length c.args.lengths.now) o) x.lengths.now) c.options_of.ensures; shortest = starts-number x.rec.now x.pat.now x.listed.now x.to (options_of x.options.now) (length x.work.now) (length x.lengths.now) c.all_starts_with.new.lengths _ replied met _ n }
