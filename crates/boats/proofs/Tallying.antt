@@ -14,10 +14,13 @@ use Rattle.meaning.specs.Record.{Line, boats_after, boats}
 use Rattle.meaning.specs.Writing.{line_at}
 use Rattle.meaning.specs.Count.{first_same, reads_at, reads_before, reads}
 use Rattle.record.specs.Cursor.{start_of, start_first}
-use Rattle.boats.specs.Boats.{BoatIs, boats-more, boats-few}
-use Rattle.boats.specs.Codes.{codes, codes-length, code, code-earlier, code-new}
-use Rattle.boats.specs.Counting.{Noted, Counted, first-early}
-use Rattle.boats.specs.Reads.{reads_none, reads-next, reads-met, reads_all, reads-low}
+use Rattle.boats.specs.Boats.{BoatIs}
+use Rattle.boats.proofs.Boats.{boats-more, boats-few}
+use Rattle.boats.specs.Codes.{codes}
+use Rattle.boats.proofs.Codes.{codes-length, code, code-earlier, code-new}
+use Rattle.boats.specs.Counting.{Noted, Counted}
+use Rattle.boats.proofs.Counting.{first-early}
+use Rattle.boats.proofs.Scans.{reads_none, reads-next, reads-met, reads_all, reads-low}
 use Rattle.boats.specs.declared.Tally.{Tally}
 
 module _ (lines : List Line) where

@@ -1,14 +1,12 @@
 -- The lines gone over so far: the place of the next one, each line's boat noted and numbered, the boats counted and the earlier lines read.
 -- Claimed: `first-noted` (the first equal word among those noted is that of the first line with the boat).
-use Rattle.std.specs.Prelude.{◌≡◌, true, List, ℕ, ◌+◌, ◌<◌, ◌≤◌, length, get_or, take}
-use Rattle.std.proofs.Common.{sym, ap, ◌∙◌, arith, length-take-le, get_or-take}
-use Rattle.std.proofs.Math.Decide.{dec_lt, ℕ_discrete}
-use Rattle.meaning.specs.Record.{Boat, Line, agree, boats}
+use Rattle.std.specs.Prelude.{◌≡◌, List, ℕ, ◌<◌, ◌≤◌, length, get_or, take}
+use Rattle.meaning.specs.Record.{Line, boats}
 use Rattle.meaning.specs.Writing.{line_at}
-use Rattle.meaning.specs.Count.{first_same, reads_before}
+use Rattle.meaning.specs.Count.{reads_before}
 use Rattle.record.specs.Cursor.{start_of}
-use Rattle.boats.specs.Boats.{BoatIs, as_number, agree-self, first-le, number-agree}
-use Rattle.boats.specs.Codes.{codes, first-has}
+use Rattle.boats.specs.Boats.{BoatIs}
+use Rattle.boats.specs.Codes.{codes}
 use Rattle.boats.specs.declared.Tally.{Tally}
 
 -- r words have been read, and none of them is w
@@ -21,25 +19,6 @@ pub record FirstAt (words : List ℕ) (w r : ℕ) : Type 0 where
   pub before : NoneBefore words w r
   pub here : r < length words → get_or words r 0 ≡ w
 
-module _ {words : List ℕ} {w j : ℕ} (b : NoneBefore words w j) where
-  -- the next is w
-  pub first-here : get_or words j 0 ≡ w → FirstAt words w j
-  first-here is = record { before = b; here = λ less. is }
-
-  -- there is no next
-  pub first-none : (j < length words → ⊥) → FirstAt words w j
-  first-none end = record { before = b; here = λ less. absurd (end less) }
-
-  -- it is not w either
-  pub none-next : j < length words → (get_or words j 0 ≡ w → ⊥) → NoneBefore words w (j + 1)
-  none-next h other = record {
-    early = omega (arith, h);
-    none = λ k less e. elim (ℕ_discrete k j) [
-      | yes q ↦ other (ap (λ n. get_or words n 0) (sym q) ∙ e)
-      | no n ↦ b.none k (omega (arith, less, n)) e
-    ];
-  }
-
 -- each of the first i lines has its boat noted
 abbrev pub Noted : List Line → ℕ → List ℕ → Type 0
 Noted lines i words = (k : ℕ) → k < i → BoatIs (line_at lines k).boat (get_or words k 0)
@@ -51,37 +30,3 @@ pub record Counted (lines : List Line) (t : Tally) (noted numbers : List ℕ) : 
   pub read : t.reads ≡ reads_before lines t.line
   pub words : Noted lines t.line noted
   pub so_far : take t.line numbers ≡ take t.line (codes lines)
-
-module _ (lines : List Line) (i : ℕ) (h : i < length lines) where
-  abbrev its : Boat
-  its = (line_at lines i).boat
-
-  pub first-early : first_same lines i ≤ i
-  first-early = first-le its lines i h (agree-self its)
-
-  -- of the words noted for the earlier lines
-  module _ (noted : List ℕ) (room : i ≤ length noted) (words : Noted lines i noted) (w r : ℕ) (is : BoatIs its w) (f : FirstAt (take i noted) w r) where
-    early : r ≤ i
-    early = omega (arith, f.before.early, length-take-le i noted room)
-
-    word-at : (k : ℕ) → k < i → get_or (take i noted) k 0 ≡ as_number (line_at lines k).boat
-    word-at k less = get_or-take i noted k 0 less ∙ (words k less).is
-
-    -- it has the boat, where it is an earlier line
-    has-it : r < i → agree its (line_at lines r).boat ≡ true
-    has-it less =
-        number-agree its (line_at lines r).boat is.small (words r less).small
-        (sym is.is ∙ (sym (f.here (omega (arith, less, length-take-le i noted room))) ∙ word-at r less))
-
-    -- and no line before it has
-    not-before : first_same lines i < r → ⊥
-    not-before less =
-        f.before.none (first_same lines i) less
-        (word-at (first_same lines i) (omega (arith, less, early))
-        ∙ (ap as_number (sym (first-has its lines (omega (arith, first-early, h)))) ∙ sym is.is))
-
-    pub first-noted : r ≡ first_same lines i
-    first-noted = elim (dec_lt r i) [
-      | yes less ↦ omega (arith, not-before, first-le its lines r (omega (arith, less, h)) (has-it less))
-      | no n ↦ omega (arith, n, early, not-before, first-early)
-    ]

@@ -1,7 +1,5 @@
 pub mod Boats
 pub mod Codes
 pub mod Table
-pub mod Reads
 pub mod Counting
 pub mod Promise
-pub mod Alike

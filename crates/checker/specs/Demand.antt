@@ -15,7 +15,7 @@ use Rattle.record.specs.Outcomes.{passed-inj}
 use Rattle.record.specs.Whole.{line-passes}
 use Rattle.record.specs.Fit.{record-fits}
 use Rattle.pattern.specs.Kinds.{read-kinds}
-use Rattle.pattern.specs.Masked.{whole-day-accepts}
+use Rattle.pattern.proofs.Masked.{whole-day-accepts}
 use Rattle.request.specs.Told.{Parts, asked-parts, Late, asked-late}
 use Rattle.search.specs.Asked.{check}
 use Rattle.search.proofs.Asked.{check-says}

@@ -18,7 +18,7 @@ use Rattle.meaning.specs.Pattern.{Shape, Pattern, nothing, line, test, either, t
 use Rattle.pattern.specs.Reading.{pattern_at}
 use Rattle.automaton.specs.Automaton.{before}
 use Rattle.pattern.specs.Passed.{passed-same, ask-passed, and-then-passed, Passed, command-passed, OneOf, one-pattern, kind-below, slot-below, counts-below, code_is, next-later, next-inside}
-use Rattle.pattern.specs.Bound.{Within, read-within, pattern-step, joined-counts}
+use Rattle.pattern.proofs.Bound.{Within, read-within, pattern-step, joined-counts}
 use Rattle.compiler.specs.declared.Step.{Step}
 use Rattle.compiler.specs.declared.Begin.{Begin}
 use Rattle.compiler.specs.declared.Task.{Task}

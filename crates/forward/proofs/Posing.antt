@@ -13,14 +13,16 @@ use Rattle.meaning.specs.Pattern.{Pattern, unfolded, keeps}
 use Rattle.meaning.specs.Windows.{Options}
 use Rattle.meaning.specs.Request.{Asked, ask_request}
 use Rattle.meaning.specs.Chain.{usable, lines_met}
-use Rattle.pattern.specs.Masked.{masked-length, masked-within}
+use Rattle.pattern.proofs.Masked.{masked-within}
+use Rattle.pattern.proofs.Struck.{masked-length}
 use Rattle.record.specs.Fit as Record
 use Rattle.record.specs.Fit.{Small, record-fits}
 use Rattle.record.specs.Whole.{lines_in, lines_of}
 use Rattle.positions.specs.Program.{row_at, Compiled}
 use Rattle.compiler.specs.Compiling.{Small as Narrow}
 use Rattle.positions.specs.Limits.{compiled-depth}
-use Rattle.boats.specs.Codes.{codes, code-low, codes-length}
+use Rattle.boats.specs.Codes.{codes}
+use Rattle.boats.proofs.Codes.{code-low, codes-length}
 use Rattle.request.specs.Layout.{Laid, Planned, boat_words, line_word, met_by, from_in, to_in, line-from, line-to, boats_loaded, table-long, loaded_of}
 use Rattle.request.specs.Told.{Parts, Told}
 use Rattle.request.specs.declared.Plan.{Plan}

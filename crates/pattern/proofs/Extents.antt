@@ -18,7 +18,7 @@ use Rattle.pattern.specs.Capped.{capped, capped-below, capped_same, capped-many,
 use Rattle.pattern.specs.Reading.{reading_shown, extent_of, extent, pattern_at, extent_at, unfolded_around, keeps_around, around_extent, joined_extent, Few}
 use Rattle.pattern.specs.Promise.{Counts, counts_of}
 use Rattle.pattern.specs.Passed.{passed-same, not-passed, Passed, OneOf, one-pattern}
-use Rattle.pattern.specs.Bound.{leaf-counts, around-counts, joined-counts, read-within, pattern-step}
+use Rattle.pattern.proofs.Bound.{leaf-counts, around-counts, joined-counts, read-within, pattern-step}
 
 abbrev pub counts : ℕ → ℕ → ℕ → ℕ → Extent
 counts n c u k = record { next = n; commands = c; unfolded = u; keeps = k }

@@ -1,3 +1,7 @@
+pub mod Bound
+pub mod Struck
+pub mod Masked
+pub mod Short
 pub mod Table
 pub mod Commands
 pub mod Extents

@@ -5,7 +5,6 @@ pub mod Passed
 pub mod Bound
 pub mod Kinds
 pub mod Masked
-pub mod Short
 pub mod Membership
 pub mod Wordings
 pub mod Rounds

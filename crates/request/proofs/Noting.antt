@@ -13,8 +13,9 @@ use borrow.Author.Tests.{eqb-true, eqb-false}
 use Rattle.meaning.specs.Record.{Boat, Line, boats}
 use Rattle.meaning.specs.Writing.{line_at}
 use Rattle.boats.specs.Boats.{BoatIs, as_number}
-use Rattle.boats.specs.Codes.{codes, code-low}
-use Rattle.boats.specs.Table.{next-new, next_known}
+use Rattle.boats.specs.Codes.{codes}
+use Rattle.boats.proofs.Codes.{code-low}
+use Rattle.boats.proofs.Table.{next-new, next_known}
 use Rattle.request.specs.Loading.{BoatsNoted, next_after, part_after}
 
 module _ (lines : List Line) (i next : ℕ) (part : List ℕ) (here : i < length lines) (p : BoatsNoted lines i next part) (number : ℕ) (own : number ≡ get_or (codes lines) i 0) where

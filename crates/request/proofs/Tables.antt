@@ -7,7 +7,8 @@ use lib.ListN.{length, take, drop, take-append-drop, length-drop, length-append}
 use lib.Seq.{length-take-le, drop-drop, take_at, drop_at}
 use borrow.Rule.Slice.PartMut.{put_mid}
 use Rattle.meaning.specs.Record.{Line, boats}
-use Rattle.boats.specs.Codes.{codes, codes-length}
+use Rattle.boats.specs.Codes.{codes}
+use Rattle.boats.proofs.Codes.{codes-length}
 use Rattle.boats.specs.Table.{boat_table}
 use Rattle.request.specs.Layout.{Laid, boat_words, boats_loaded, table-long, some_words}
 use Rattle.request.specs.declared.Plan.{Plan}

@@ -6,9 +6,11 @@ use Rattle.meaning.specs.Record.{Line, boats}
 use Rattle.meaning.specs.Writing.{line_at}
 use Rattle.meaning.specs.Windows.{Windows, inside}
 use Rattle.meaning.specs.Chain.{struck}
-use Rattle.pattern.specs.Masked.{masked-length, masked-at, masked-boats}
-use Rattle.boats.specs.Codes.{codes, map_at}
-use Rattle.boats.specs.Alike.{boats-alike, codes-alike, table-alike}
+use Rattle.pattern.proofs.Masked.{masked-boats}
+use Rattle.pattern.proofs.Struck.{masked-length, masked-at}
+use Rattle.boats.specs.Codes.{codes}
+use Rattle.boats.proofs.Codes.{map_at}
+use Rattle.boats.proofs.Alike.{boats-alike, codes-alike, table-alike}
 use Rattle.request.specs.Layout.{line_word, word_met, met_by, boats_loaded, loaded_of}
 
 module _ (w : Windows) (lines : List Line) where

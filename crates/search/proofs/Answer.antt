@@ -20,7 +20,7 @@ use Rattle.graph.specs.Plain.{solve, Lex, Answer}
 use Rattle.graph.proofs.Forward.{solve-spec}
 use Rattle.graph.proofs.Order.{answer-unique, answer-members}
 use Rattle.search.proofs.Order.{lex-read}
-use Rattle.boats.specs.Codes.{code-low, code-compared}
+use Rattle.boats.proofs.Codes.{code-low, code-compared}
 use Rattle.search.proofs.Digits.{pow_pos}
 use Rattle.search.specs.Product.{stacks, state, succs, preds}
 use Rattle.search.proofs.Steps.{Sound, Ok, ok-low, next-ok, preds-ok, edges}

@@ -13,7 +13,8 @@ use Rattle.meaning.specs.Pattern.{unfolded, keeps}
 use Rattle.meaning.specs.Request.{Asked, search_size, size_of}
 use Rattle.meaning.specs.Chain.{Matches, Accepted, First, struck, lines_met, usable}
 use Rattle.pattern.specs.Kinds.{Kinds}
-use Rattle.pattern.specs.Masked.{masked-length, masked-within, accepted-met, first_by}
+use Rattle.pattern.proofs.Masked.{masked-within, accepted-met, first_by}
+use Rattle.pattern.proofs.Struck.{masked-length}
 use Rattle.request.specs.Layout.{Planned}
 use Rattle.request.specs.Met.{met-long, met_at, met-boats}
 use Rattle.request.specs.declared.Plan.{Plan}

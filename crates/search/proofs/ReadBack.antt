@@ -21,8 +21,10 @@ use Rattle.automaton.specs.Automaton.{Test, never, always, against, nodes, node_
 use Rattle.automaton.specs.Shape.{deeper}
 use Rattle.automaton.proofs.Shape.{Reads, shape}
 use Rattle.positions.specs.Program.{Compiled, members}
-use Rattle.boats.specs.Codes.{codes, codes-length, code-low, telling}
-use Rattle.boats.specs.Table.{boat_table, class_in, told_by, table-told}
+use Rattle.boats.specs.Codes.{codes, telling}
+use Rattle.boats.proofs.Codes.{codes-length, code-low}
+use Rattle.boats.specs.Table.{boat_table, class_in, told_by}
+use Rattle.boats.proofs.Table.{table-told}
 use Rattle.request.specs.Layout.{Laid, Planned, line_word, line-from, line-to, line-kind, boat_words, boats_loaded, table-long, some_words, loaded_of}
 use Rattle.request.specs.declared.Plan.{Plan}
 use Rattle.graph.specs.Plain.{memb, solve}

@@ -17,10 +17,11 @@ use Rattle.meaning.specs.Request.{Asked, search_size, size_of, search_need}
 use Rattle.record.specs.Outcomes.{passed-inj}
 use Rattle.record.specs.Whole.{places-few, lines-few}
 use Rattle.record.specs.Fit.{Fit as RecordFit, record-fits}
-use Rattle.boats.specs.Boats.{boats-few}
-use Rattle.boats.specs.Codes.{codes, codes-length}
-use Rattle.pattern.specs.Bound.{pattern-small}
-use Rattle.pattern.specs.Short.{read-few}
+use Rattle.boats.proofs.Boats.{boats-few}
+use Rattle.boats.specs.Codes.{codes}
+use Rattle.boats.proofs.Codes.{codes-length}
+use Rattle.pattern.proofs.Bound.{pattern-small}
+use Rattle.pattern.proofs.Short.{read-few}
 use Rattle.automaton.specs.Automaton.{start}
 use Rattle.positions.specs.Program.{bit_of, members, Compiled}
 use Rattle.positions.specs.Masks.{members-bit}

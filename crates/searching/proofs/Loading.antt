@@ -10,7 +10,7 @@ use Rattle.meaning.specs.Outcome.{Outcome}
 use Rattle.meaning.specs.Windows.{Options}
 use Rattle.meaning.specs.Request.{Asked}
 use Rattle.record.specs.Whole.{lines_in, lines_of}
-use Rattle.pattern.specs.Short.{read-few}
+use Rattle.pattern.proofs.Short.{read-few}
 use Rattle.request.specs.Layout.{table_words, Laid, met_by, loaded_of}
 use Rattle.request.specs.Told.{Parts, ToldSearch}
 use Rattle.request.specs.declared.Plan.{Plan}

@@ -5,7 +5,7 @@ use Rattle.meaning.specs.Count.{Count, tallied}
 use Rattle.meaning.specs.Record.{read_record}
 use Rattle.record.specs.Reading.{reading_number}
 use Rattle.record.specs.Whole.{lines_in, lines_of, reading-refused, reading-passed}
-use Rattle.boats.specs.Reads.{count-refused, count-passed}
+use Rattle.boats.proofs.Scans.{count-refused, count-passed}
 use Rattle.boats.proofs.count_boats.Goals as goal
 
 pub returns-in_default : goal.returns-in_default

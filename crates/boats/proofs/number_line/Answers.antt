@@ -6,7 +6,7 @@ use Rattle.meaning.specs.Writing.{line_at}
 use Rattle.meaning.specs.Count.{first_same}
 use Rattle.record.specs.Whole.{lines_of, lines-short}
 use Rattle.boats.specs.Boats.{BoatIs}
-use Rattle.boats.specs.Counting.{first-noted}
+use Rattle.boats.proofs.Counting.{first-noted}
 use Rattle.boats.proofs.Tallying.{tally-few, tally-low, tally-met, tally-new, tally-next}
 use Rattle.boats.proofs.number_line.Goals as goal
 

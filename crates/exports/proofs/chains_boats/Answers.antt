@@ -5,7 +5,7 @@ use native.Mathlib.Omega.{arith}
 use borrow.Author.Tests.{le-leb, lt-leb}
 use Rattle.meaning.specs.Count.{count_of}
 use Rattle.boats.specs.Promise.{count_shown, count_reply}
-use Rattle.boats.specs.Reads.{Low, count_low}
+use Rattle.boats.proofs.Scans.{Low, count_low}
 use Rattle.exports.proofs.Numbers.{refused-is, told-refused, told-passed}
 use Rattle.exports.proofs.chains_boats.Goals as goal
 

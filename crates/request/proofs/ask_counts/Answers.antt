@@ -13,7 +13,7 @@ use Rattle.meaning.specs.Windows.{Options, windows_allowed}
 use Rattle.meaning.specs.Request.{ask_both, size_of}
 use Rattle.record.specs.Whole.{lines_of, lines-short}
 use Rattle.windows.specs.Promise.{options_shown}
-use Rattle.boats.specs.Boats.{boats-few}
+use Rattle.boats.proofs.Boats.{boats-few}
 use lib.Seq.{take-length}
 use Rattle.request.specs.Layout.{largest}
 use Rattle.request.specs.Asking.{both_number, Small}

@@ -4,7 +4,8 @@ use lib.Seq.{take-length}
 use borrow.Table.Elements.{take-le}
 use Rattle.meaning.specs.Record.{Line, boats, boats_after}
 use Rattle.boats.specs.Boats.{BoatIs, as_number}
-use Rattle.boats.specs.Codes.{codes, codes-length}
+use Rattle.boats.specs.Codes.{codes}
+use Rattle.boats.proofs.Codes.{codes-length}
 use Rattle.boats.specs.Table.{boat_table}
 use Rattle.record.specs.Cursor.{start_of, start_first}
 use Rattle.record.specs.Whole.{lines_of, lines-short}

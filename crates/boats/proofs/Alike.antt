@@ -4,7 +4,8 @@ use Rattle.std.specs.Prelude.{◌≡◌, refl, suc}
 use Rattle.std.proofs.Common.{sym, ap, ◌∙◌}
 use mathlib.Core.List.{List, [], ◌∷◌, map, nil≢cons, head-eq_of_cons-eq, tail-eq_of_cons-eq}
 use Rattle.meaning.specs.Record.{Boat, Line, boats_after, boats}
-use Rattle.boats.specs.Boats.{as_number, noted}
+use Rattle.boats.specs.Boats.{as_number}
+use Rattle.boats.proofs.Boats.{noted}
 use Rattle.boats.specs.Codes.{index_in, codes}
 use Rattle.boats.specs.Table.{boat_table}
 

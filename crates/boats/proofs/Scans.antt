@@ -13,8 +13,8 @@ use Rattle.meaning.specs.Record.{Boat, Line, Day, agree, boats, read_record}
 use Rattle.meaning.specs.Writing.{line_at, no_line}
 use Rattle.meaning.specs.Count.{first_with, first_same, reads_at, reads_before, reads, Count, tallied, count_of}
 use Rattle.record.specs.Whole.{lines-few}
-use Rattle.boats.specs.Boats.{agree-self, first-le, boats-few}
-use Rattle.boats.specs.Codes.{same-agree, first-has}
+use Rattle.boats.proofs.Boats.{agree-self, first-le, boats-few}
+use Rattle.boats.proofs.Codes.{same-agree, first-has}
 
 -- ---- for one line
 

@@ -7,7 +7,8 @@ use Rattle.meaning.specs.Outcome.{passed}
 use Rattle.meaning.specs.Record.{byte}
 use Rattle.meaning.specs.Pattern.{Pattern, commands, unfolded, Shape, table, shape_of, Command, Outside, command_at, inside, Part, whole, read_at, outermost, read_pattern}
 use Rattle.pattern.specs.Passed.{passed-same, not-passed, ask-passed, and-then-passed, Passed, command-passed, next-is, one-pattern}
-use Rattle.pattern.specs.Bound.{leaf-counts, around-counts, joined-counts, Reader, pattern-small}
+use Rattle.pattern.specs.Bound.{Reader}
+use Rattle.pattern.proofs.Bound.{leaf-counts, around-counts, joined-counts, pattern-small}
 
 -- ---- a command has at most two operands
 
