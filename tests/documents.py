@@ -24,7 +24,8 @@ def there(path):
 
 
 failed = []
-specs = "\n".join(text(path) for path in glob.glob("crates/*/specs/**/*.antt", recursive=True))
+# Definitions, and theorems, which stand in specs/ or, where others rest on them, in proofs/.
+specs = "\n".join(text(path) for path in glob.glob("crates/*/specs/**/*.antt", recursive=True) + glob.glob("crates/*/proofs/*.antt"))
 # A name of several words may also be a function's.
 code = "\n".join([specs, *(text(path) for path in glob.glob("crates/*/src/*.rt") + glob.glob("rust/src/*.rs"))])
 for path in NAMING:
