@@ -15,10 +15,11 @@ use Rattle.request.specs.Told.{Late}
 use Rattle.checker.specs.Promise.{check_of, Says, Demand2}
 use Rattle.checker.specs.Demand.{check-late}
 use Rattle.finder.specs.Promise.{find_of, Said, found, none_found, refusal, said, Answers, Demand3}
-use Rattle.finder.specs.Demand.{Bounds, find-bounds, LateSaid, find-late}
+use Rattle.finder.specs.Demand.{Bounds}
+use Rattle.finder.proofs.Demand.{find-bounds, LateSaid, find-late}
 use Rattle.starts.specs.Promise as OfStarts
 use Rattle.starts.specs.Promise.{LengthSays, Shortest}
-use Rattle.starts.specs.Demand.{LateTold, starts-late}
+use Rattle.starts.proofs.Demand.{LateTold, starts-late}
 use Rattle.meaning.specs.Outcome as Told
 use Rattle.exports.specs.Fits.{SaidFits}
 use Rattle.exports.specs.Promise.{check_number, YesNo, Membership, find_number, LengthOrNone, FirstShortest, counted, starts_number, EachShortest}

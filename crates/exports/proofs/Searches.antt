@@ -9,7 +9,7 @@ use Rattle.meaning.specs.Outcome.{Outcome, refused, passed}
 use Rattle.meaning.specs.Request.{Asked}
 use Rattle.search.specs.Asked.{answer}
 use Rattle.finder.specs.Promise as Find
-use Rattle.finder.specs.Demand.{LateSaid, settled-late}
+use Rattle.finder.proofs.Demand.{LateSaid, settled-late}
 use Rattle.searching.specs.Promise.{begun_told, move_reply, Moving, FinishHarmless, Finishing}
 use Rattle.searching.specs.declared.MoveReply.{MoveReply}
 use Rattle.exports.specs.Fits.{SecondFits, SaidFits}

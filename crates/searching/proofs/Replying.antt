@@ -16,7 +16,7 @@ use Rattle.pattern.specs.Kinds.{read-kinds}
 use Rattle.record.specs.Outcomes.{passed-inj}
 use Rattle.search.specs.Asked.{answer, met_asked}
 use Rattle.finder.specs.Promise.{settled, Said, found, refusal as refusing, said, out_after, Answers, Demand3}
-use Rattle.finder.specs.Demand.{settled-right}
+use Rattle.finder.proofs.Demand.{settled-right}
 use Rattle.finder.specs.Searching.{told_by, told-by}
 use Rattle.holding.specs.Holding.{Sound, bytes_in}
 use Rattle.holding.specs.declared.SearchState.{SearchState}

@@ -1,7 +1,8 @@
 -- `chains::asked`: what the finder promises of its reply is what the line is made of.
 use Rattle.std.proofs.Common.{ℕ, ◌<◌, arith, get_or, subst, sym}
 use Rattle.meaning.specs.Windows.{plain}
-use Rattle.finder.specs.Demand.{Bounds, find-bounds}
+use Rattle.finder.specs.Demand.{Bounds}
+use Rattle.finder.proofs.Demand.{find-bounds}
 use Rattle.chains.proofs.asked.Goals as goal
 
 pub render-requires-clause-bounds : goal.render-requires-clause-bounds

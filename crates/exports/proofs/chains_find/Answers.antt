@@ -4,7 +4,7 @@ use native.Mathlib.Omega.{arith}
 use lib.ListN.{length}
 use Rattle.meaning.specs.Windows.{plain}
 use Rattle.finder.specs.Promise.{find_of, said}
-use Rattle.finder.specs.Demand.{find-bounds}
+use Rattle.finder.proofs.Demand.{find-bounds}
 use Rattle.exports.specs.Promise.{find_number}
 use Rattle.exports.specs.Fits.{SaidFits}
 use Rattle.exports.proofs.Demands.{bounds-fit, find-number}

@@ -7,7 +7,7 @@ use Rattle.meaning.specs.Windows.{Options}
 use Rattle.meaning.specs.Request.{ask_request, work_after}
 use Rattle.windows.specs.Promise.{options_of}
 use Rattle.finder.specs.Promise.{find_reply, Finding, find_of, said, out_after, Demand3}
-use Rattle.finder.specs.Demand.{find-bounds}
+use Rattle.finder.proofs.Demand.{find-bounds}
 use Rattle.exports.specs.Promise.{find_number}
 use Rattle.exports.specs.Fits.{SaidFits}
 use Rattle.exports.proofs.Demands.{bounds-fit, find-number}

@@ -14,7 +14,7 @@ use Rattle.search.specs.Asked.{answer, met_asked}
 use Rattle.forward.proofs.Posing.{posed-from}
 use Rattle.finder.specs.Promise.{Finding, find_of, Said, refusal, said, out_after}
 use Rattle.finder.specs.Promise.{Demand3}
-use Rattle.finder.specs.Demand.{finds}
+use Rattle.finder.proofs.Demand.{finds}
 use Rattle.finder.specs.Searching.{told-by, told_by}
 use Rattle.finder.proofs.Answering.{find-refused, find-searched}
 use Rattle.finder.proofs.find_with.Goals as goal

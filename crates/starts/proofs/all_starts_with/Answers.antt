@@ -18,7 +18,7 @@ use Rattle.forward.specs.Posed.{Posed}
 use Rattle.forward.proofs.Posing.{posed-from}
 use Rattle.starts.specs.Promise.{length_from, Starting, starts_of, told, lengths_after, Shortest}
 use Rattle.starts.specs.Highest.{starts-asked, asked-below}
-use Rattle.starts.specs.Demand.{starts-refused, starts-short, starts-lengths, starts-shortest}
+use Rattle.starts.proofs.Demand.{starts-refused, starts-short, starts-lengths, starts-shortest}
 use Rattle.starts.proofs.all_starts_with.Goals as goal
 
 -- the area after loading is posed from every place below the count, and so from the finishing place

@@ -9,7 +9,7 @@ use Rattle.area.specs.Area.{stretch}
 use Rattle.lists.specs.Filled.{filled, fill-next}
 use Rattle.starts.specs.Highest.{all-below}
 use Rattle.starts.specs.Lengths.{length_at, written}
-use Rattle.starts.specs.Theorems.{entry_in, entry-map}
+use Rattle.starts.proofs.Theorems.{entry_in, entry-map}
 use Rattle.starts.proofs.write_lengths.Goals as goal
 
 -- all are written

@@ -14,7 +14,7 @@ use Rattle.record.specs.Outcomes.{passed-inj}
 use Rattle.request.specs.Told.{Parts, asked-parts, Late, asked-late}
 use Rattle.starts.specs.Highest.{highest_of, starts-asked, asked-from}
 use Rattle.starts.specs.Promise.{length_from, lengths_of, stopped, too_short, lengths, searched, starts_of, told, lengths_after, LengthSays, Shortest}
-use Rattle.starts.specs.Theorems.{entry_in, length-says}
+use Rattle.starts.proofs.Theorems.{entry_in, length-says}
 
 -- ---- the definition, by the questions' outcome
 
