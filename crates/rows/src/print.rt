@@ -1,4 +1,6 @@
-// Printing: what every table needs. What cannot be printed is left out.
+// Printing: what every table needs.
+
+// What cannot be printed is left out.
 pub fn text(rt: &impl Print, s: &[u8]) {
     let _ = rt.write_all(s);
 }
