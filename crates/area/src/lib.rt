@@ -17,7 +17,8 @@ fn put(part: &mut [u32], i: usize, v: u32)
     part[i] = v;
 }
 
-// Word `i` of the stretch of `size` words from word `base` on becomes `v`.
+// Word `i` of the stretch of `size` words from word `base` on becomes `v`. The stretch is passed on as a part of the area, so that nothing
+// outside it can be written.
 pub fn write(work: &mut [u32], base: usize, size: usize, i: usize, v: u32)
     requires { (base + size ≤ length work.old) × (i < size) }
     ensures { work.new ≡ set work.old (base + i) v }
@@ -25,23 +26,13 @@ pub fn write(work: &mut [u32], base: usize, size: usize, i: usize, v: u32)
     put(&mut work[base..base + size], i, v);
 }
 
-// All words of `part` become 0.
-fn zero(part: &mut [u32])
-    ensures { part.new ≡ replicate (length part.old) 0 }
-{
-    let mut i = 0;
-    while i < part.len() {
-        part[i] = 0;
-        i += 1;
-    }
-}
-
 // All words of the stretch of `size` words from word `base` on become 0.
+#[tactic(auto, unfolding(crate::specs::Area::patch))]
 pub fn clear_stretch(work: &mut [u32], base: usize, size: usize)
     requires { base + size ≤ length work.old }
     ensures { work.new ≡ patch base size (replicate size 0) work.old }
 {
-    zero(&mut work[base..base + size]);
+    work[base..base + size].fill(0);
 }
 
 // Word `i` of the area.

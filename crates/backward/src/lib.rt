@@ -50,6 +50,7 @@ pub fn search_back(
     let mut t = tail;
     let mut head = 0;
     let mut last = 0;
+    // a `while`: the queue grows in the loop, so that its end is in no range's bound
     while head < t {
         let s = area::waiting(work, plan.base, plan.size, t, head);
         let d = area::dist_at(work, plan.base, plan.size, t, s);

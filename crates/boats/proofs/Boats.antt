@@ -1,6 +1,6 @@
 -- Counting the different boats: a line's boat is new exactly where no earlier line has it.
 -- Claimed: `boats-more` (one line more, by the first line with its boat) and `number-agree` (a boat as one number).
-use Rattle.std.specs.Prelude.{◌≡◌, refl, Bool, true, false, cond, ◌||◌, List, [], ◌∷◌, ◌++◌, ℕ, zero, suc, ◌+◌, ◌<◌, ◌≤◌, ltb, eqb, length, take}
+use Rattle.std.specs.Prelude.{◌≡◌, refl, Bool, true, false, cond, ◌||◌, List, [], ◌∷◌, ◌++◌, ℕ, zero, suc, ◌<◌, ◌≤◌, ltb, eqb, length, take}
 use Rattle.std.proofs.Common.{sym, ap, ◌∙◌, length-append, take-suc, eqb-true, eq-eqb, ne_eqb, lt-ltb, le-ltb, ltb-true, ltb-false}
 use native.Mathlib.Omega.{arith}
 use Rattle.std.proofs.Math.Dec.{leb-suc-suc}

@@ -1,6 +1,6 @@
 -- One line more gone over: `tally-none`, `tally-met` (an earlier line has its boat), `tally-new` (none has it), `tally-next` (the tally after it)
 -- and `tally-all` (after the last). Assumes nothing.
-use mathlib.Core.Path.{◌≡◌, sym, ap, ◌∙◌, subst}
+use mathlib.Core.Path.{◌≡◌, refl, sym, ap, ◌∙◌, subst}
 use mathlib.Core.Bool.{Bool, true, false, cond}
 use mathlib.Core.List.{List, [], ◌∷◌, ◌++◌}
 use Prim.Native.Nat.{ℕ, suc, ◌+◌, ◌<◌, ◌≤◌}
@@ -24,35 +24,32 @@ use Rattle.boats.proofs.Scans.{reads_none, reads-next, reads-met, reads_all, rea
 use Rattle.boats.specs.declared.Tally.{Tally}
 
 module _ (lines : List Line) where
-  pub tally-none : (t : Tally) (noted numbers : List ℕ) → t.line ≡ 0 → t.at ≡ 3 → t.boats ≡ 0 → t.reads ≡ 0 → Counted lines t noted numbers
+  pub tally-none : (t : Tally) (noted numbers : List ℕ) → t.at ≡ 3 → t.boats ≡ 0 → t.reads ≡ 0 → Counted lines 0 t noted numbers
   unfolding boats_after
-  tally-none t noted numbers line at none unread = record {
-    place = at ∙ (sym (start_first lines) ∙ ap (start_of lines) (sym line));
-    count = none ∙ ap (λ i. length (boats (take i lines))) (sym line);
-    read = unread ∙ (sym (reads_none lines) ∙ ap (reads_before lines) (sym line));
-    words = λ k less. absurd (omega (arith, less, line));
-    so_far = ap (λ i. take i numbers) line ∙ ap (λ i. take i (codes lines)) (sym line);
+  tally-none t noted numbers at none unread = record {
+    place = at ∙ sym (start_first lines);
+    count = none;
+    read = unread ∙ sym (reads_none lines);
+    words = λ k less. absurd (omega (arith, less));
+    so_far = refl;
   }
 
-  module _ {t : Tally} {noted numbers : List ℕ} (c : Counted lines t noted numbers) where
+  module _ {i : ℕ} {t : Tally} {noted numbers : List ℕ} (c : Counted lines i t noted numbers) where
     -- no more boats than lines, and few reads
-    pub tally-few : t.line ≤ length lines → t.boats ≤ t.line
-    tally-few h = omega (arith, c.count, boats-few lines t.line h)
+    pub tally-few : i ≤ length lines → t.boats ≤ i
+    tally-few h = omega (arith, c.count, boats-few lines i h)
 
-    pub tally-low : t.line ≤ 4096 → t.reads ≤ 16777216
-    tally-low h = omega (arith, c.read, reads-low lines t.line h, h)
+    pub tally-low : i ≤ 4096 → t.reads ≤ 16777216
+    tally-low h = omega (arith, c.read, reads-low lines i h, h)
 
-    pub tally-all : t.line ≡ length lines → (t.boats ≡ length (boats lines)) × (t.reads ≡ reads lines) × (take t.line numbers ≡ codes lines)
+    pub tally-all : i ≡ length lines → (t.boats ≡ length (boats lines)) × (t.reads ≡ reads lines) × (take i numbers ≡ codes lines)
     tally-all e = (
-      c.count ∙ (ap (λ i. length (boats (take i lines))) e ∙ ap (λ ls. length (boats ls)) (take-length lines)),
+      c.count ∙ (ap (λ n. length (boats (take n lines))) e ∙ ap (λ ls. length (boats ls)) (take-length lines)),
       c.read ∙ ap (reads_before lines) e,
-      c.so_far ∙ (ap (λ i. take i (codes lines)) (e ∙ sym (codes-length lines)) ∙ take-length (codes lines)),
+      c.so_far ∙ (ap (λ n. take n (codes lines)) (e ∙ sym (codes-length lines)) ∙ take-length (codes lines)),
     )
 
-    module _ (h : t.line < length lines) where
-      abbrev i : ℕ
-      i = t.line
-
+    module _ (h : i < length lines) where
       abbrev first : ℕ
       first = first_same lines i
 
@@ -76,14 +73,14 @@ module _ (lines : List Line) where
 
       -- the tally after line i, its boat noted as w and numbered v
       pub tally-next : (r : Tally) (w v : ℕ) → BoatIs (line_at lines i).boat w → v ≡ code lines i → i < length noted → i < length numbers
-          → r.line ≡ suc i → r.at ≡ start_of lines (suc i) → r.boats ≡ length (boats (take (suc i) lines)) → r.reads ≡ t.reads + reads_at lines i
-          → Counted lines r (set noted i w) (set numbers i v)
-      tally-next r w v is number room_noted room line at count read = record {
-        place = at ∙ ap (start_of lines) (sym line);
-        count = count ∙ ap (λ n. length (boats (take n lines))) (sym line);
-        read = omega (arith, read, c.read, reads-next lines i, ap (reads_before lines) line);
-        words = λ k less. noted-at k (omega (arith, less, line));
-        so_far = ap (λ n. take n (set numbers i v)) line ∙ (more ∙ ap (λ n. take n (codes lines)) (sym line));
+          → r.at ≡ start_of lines (suc i) → r.boats ≡ length (boats (take (suc i) lines)) → r.reads ≡ t.reads + reads_at lines i
+          → Counted lines (suc i) r (set noted i w) (set numbers i v)
+      tally-next r w v is number room_noted room at count read = record {
+        place = at;
+        count = count;
+        read = omega (arith, read, c.read, reads-next lines i);
+        words = noted-at;
+        so_far = take-suc-set numbers i v room ∙ ((λ s. c.so_far s ++ (number s ∷ [])) ∙ sym (take-suc (codes lines) i 0 (omega (arith, codes-length lines, h))));
       }
         where
           noted-at : Noted lines (suc i) (set noted i w)
@@ -91,6 +88,3 @@ module _ (lines : List Line) where
             | yes e ↦ subst (λ n. BoatIs (line_at lines n).boat (get_or (set noted i w) n 0)) (sym e) (subst (BoatIs (line_at lines i).boat) (sym (get_or-set_same noted i w 0 room_noted)) is)
             | no n ↦ subst (BoatIs (line_at lines k).boat) (sym (get_or-set_other noted i k w 0 n)) (c.words k (omega (arith, less, n)))
           ]
-
-          more : take (suc i) (set numbers i v) ≡ take (suc i) (codes lines)
-          more = take-suc-set numbers i v room ∙ ((λ s. c.so_far s ++ (number s ∷ [])) ∙ sym (take-suc (codes lines) i 0 (omega (arith, codes-length lines, h))))

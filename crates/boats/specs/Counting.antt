@@ -23,10 +23,10 @@ pub record FirstAt (words : List ℕ) (w r : ℕ) : Type 0 where
 abbrev pub Noted : List Line → ℕ → List ℕ → Type 0
 Noted lines i words = (k : ℕ) → k < i → BoatIs (line_at lines k).boat (get_or words k 0)
 
--- all lines before the tally's are gone over
-pub record Counted (lines : List Line) (t : Tally) (noted numbers : List ℕ) : Type 0 where
-  pub place : t.at ≡ start_of lines t.line
-  pub count : t.boats ≡ length (boats (take t.line lines))
-  pub read : t.reads ≡ reads_before lines t.line
-  pub words : Noted lines t.line noted
-  pub so_far : take t.line numbers ≡ take t.line (codes lines)
+-- the first i lines are gone over
+pub record Counted (lines : List Line) (i : ℕ) (t : Tally) (noted numbers : List ℕ) : Type 0 where
+  pub place : t.at ≡ start_of lines i
+  pub count : t.boats ≡ length (boats (take i lines))
+  pub read : t.reads ≡ reads_before lines i
+  pub words : Noted lines i noted
+  pub so_far : take i numbers ≡ take i (codes lines)

@@ -12,26 +12,19 @@ ghost use Rattle.boats.specs.Promise.{count_reply};
 ghost use Rattle.record.specs.Promise.{line_shown};
 ghost use Rattle.record.specs.Whole.{lines_of};
 
-use record::{Line, Reading};
+use record::Line;
+use refusals::Refusal;
 
 // How many different boats there are, and how many earlier lines were read to tell.
-#[derive(Clone, Copy)]
+#[derive(Clone, Copy, Debug, PartialEq, Eq)]
 pub struct BoatCount {
     pub boats: usize,
     pub reads: usize,
 }
 
-// What counting a record's boats says.
-#[derive(Clone, Copy)]
-pub enum CountReply {
-    Count(BoatCount),
-    Refused(u8, usize),
-}
-
-// The lines gone over so far: the next line and the byte at which it begins, the different boats, and the earlier lines read.
-#[derive(Clone, Copy)]
+// The lines gone over so far: the byte at which the next one begins, the different boats, and the earlier lines read.
+#[derive(Clone, Copy, Debug, PartialEq, Eq)]
 pub struct Tally {
-    pub line: usize,
     pub at: usize,
     pub boats: usize,
     pub reads: usize,
@@ -45,7 +38,7 @@ pub fn boat_of(l: Line) -> u32
     requires { l.sail < 16777216 }
     ensures { BoatIs (line_shown l).boat result }
 {
-    l.class as u32 * SAILS + l.sail
+    u32::from(l.class) * SAILS + l.sail
 }
 
 // The first line with a boat, by the boats of the lines as they were noted, where none before line `start` has it; how many lines there are
@@ -54,14 +47,12 @@ fn first_from(noted: &[u32], start: usize, boat: u32) -> usize
     requires { NoneBefore noted.now boat start }
     ensures { FirstAt noted.now boat result }
 {
-    let mut j = start;
-    while j < noted.len() {
+    for j in start..noted.len() {
         if noted[j] == boat {
             return j;
         }
-        j += 1;
     }
-    j
+    noted.len()
 }
 
 // The same from line 0 on. The lines are read one by one and none after the first with the boat; a turn of the loop has four of them, which
@@ -91,18 +82,16 @@ fn first_same(noted: &[u32], boat: u32) -> usize
     first_from(noted, j, boat)
 }
 
-// The next line is gone over: its boat is noted, and numbered as the first line with it, else by the next number.
-fn number_line(day: &[u8], t: Tally, noted: &mut [u32], numbers: &mut [u16]) -> Tally
-    requires line_in_bounds { (t.line < length (lines_of day.now)) × (t.line < length noted.old) × (t.line < length numbers.old) }
-    requires counted { Counted (lines_of day.now) t noted.old numbers.old }
-    ensures { (result.line ≡ suc t.line) × Counted (lines_of day.now) result noted.new numbers.new }
+// Line i is gone over: its boat is noted, and numbered as the first line with it, else by the next number.
+fn number_line(day: &[u8], i: usize, t: Tally, noted: &mut [u32], numbers: &mut [u16]) -> Tally
+    requires line_in_bounds { (i < length (lines_of day.now)) × (i < length noted.old) × (i < length numbers.old) }
+    requires counted { Counted (lines_of day.now) i t noted.old numbers.old }
+    ensures { Counted (lines_of day.now) (suc i) result noted.new numbers.new }
 {
-    let i = t.line;
     let met = record::pass_line(day, i, t.at);
     let boat = boat_of(met.written.line);
     let first = first_same(&noted[..i], boat);
     noted[i] = boat;
-    let line = i + 1;
     let at = met.next;
     if first < i {
         let number = numbers[first];
@@ -110,22 +99,12 @@ fn number_line(day: &[u8], t: Tally, noted: &mut [u32], numbers: &mut [u16]) -> 
         let boats = t.boats;
         let read = first + 1;
         let reads = t.reads + read;
-        return Tally {
-            line,
-            at,
-            boats,
-            reads,
-        };
+        return Tally { at, boats, reads };
     }
     let boats = t.boats + 1;
     numbers[i] = boats as u16;
     let reads = t.reads + i;
-    Tally {
-        line,
-        at,
-        boats,
-        reads,
-    }
+    Tally { at, boats, reads }
 }
 
 // Each line's boat number, and the count: for each line the earlier lines are read from line 0 on, up to the first with its boat.
@@ -136,13 +115,12 @@ pub fn number_boats(day: &[u8], lines: usize, numbers: &mut [u16; 4096]) -> Boat
 {
     let mut noted: [u32; 4096] = [0; 4096];
     let mut t = Tally {
-        line: 0,
         at: record::FIRST_LINE,
         boats: 0,
         reads: 0,
     };
-    while t.line < lines {
-        t = number_line(day, t, &mut noted, numbers);
+    for i in 0..lines {
+        t = number_line(day, i, t, &mut noted, numbers);
     }
     BoatCount {
         boats: t.boats,
@@ -151,13 +129,10 @@ pub fn number_boats(day: &[u8], lines: usize, numbers: &mut [u16; 4096]) -> Boat
 }
 
 // Counts the different boats of a record: questions 1 to 7.
-pub fn count_boats(day: &[u8]) -> CountReply
+pub fn count_boats(day: &[u8]) -> Result<BoatCount, Refusal>
     ensures { count_reply result ≡ told (count_of day.now) }
 {
-    let whole = record::read_record(day);
-    let Reading::Record { places: _, lines } = whole else {
-        return CountReply::Refused(whole.number(), 0);
-    };
+    let counts = record::read_record(day)?;
     let mut numbers: [u16; 4096] = [0; 4096];
-    CountReply::Count(number_boats(day, lines, &mut numbers))
+    Ok(number_boats(day, counts.lines, &mut numbers))
 }

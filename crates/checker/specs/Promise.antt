@@ -1,21 +1,19 @@
 -- What the checker promises: `check_reply r ≡ told (check_of …)`, the area as `work_after` of `meaning`, and `Demand2`, demand 2 in the words
 -- of document 01.
-use Rattle.std.specs.Prelude.{◌≡◌, Bool, true, false, List, ℕ, length}
+use Rattle.std.specs.Prelude.{◌≡◌, Bool, true, false, List, ℕ, length, Result}
 use Rattle.meaning.specs.Outcome.{Outcome, passed, ask, and_then, Reply, value, refusal}
 use Rattle.meaning.specs.Record.{Day, read_record}
 use Rattle.meaning.specs.Pattern.{Pattern, read_pattern, none_given}
 use Rattle.meaning.specs.Windows.{Options}
 use Rattle.meaning.specs.Chain.{exist, Accepted}
 use Rattle.meaning.specs.Request.{Asked, ask_request}
+use Rattle.refusals.specs.Refusal.{reply}
+use Rattle.refusals.specs.declared.Refusal.{Refusal}
 use Rattle.search.specs.Asked.{check}
-use Rattle.checker.specs.declared.CheckReply.{CheckReply}
-use Rattle.checker.specs.declared.CheckReply.TheVariants as Check
 
 -- a reply's value, or its number and second number
-abbrev pub check_reply : CheckReply → Reply Bool
-check_reply Check.Yes = value true
-check_reply Check.No = value false
-check_reply (Check.Refused number second) = refusal number second
+abbrev pub check_reply : Result Bool Refusal → Reply Bool
+check_reply r = reply r
 
 -- question 18: is each number that of a line of the record?
 abbrev pub lines_exist : Asked → List ℕ → Bool

@@ -18,29 +18,15 @@ ghost use Rattle.forward.specs.Posed.{SomePosed};
 ghost use Rattle.checker.specs.Walk.{stepped, walked, Alive, Advanced, frontier_at, aside_of, Aside, Listed, list_turn, Within, ends, RightFor};
 ghost use Rattle.checker.specs.Promise.{check_reply, check_of, Demand2};
 
-use request::{Plan, Request};
+use refusals::Refusal;
+use request::Plan;
 use windows::Options;
-
-// Document 01's reply: yes, no, or a refused question's number and second number.
-#[derive(Clone, Copy)]
-pub enum CheckReply {
-    Yes,
-    No,
-    Refused(u8, usize),
-}
 
 // Question 18: is each number of the chain that of a line?
 fn lines_exist(chain: &[u16], lines: usize) -> bool
     ensures { result ≡ exist lines chain.now }
 {
-    let mut i: usize = 0;
-    while i < chain.len() {
-        if lines <= chain[i] as usize {
-            return false;
-        }
-        i += 1;
-    }
-    true
+    chain.iter().all(|&line| usize::from(line) < lines)
 }
 
 // ---- one line of the chain
@@ -110,11 +96,8 @@ fn run_chain(
     ensures { Advanced plan (walked (succs (setting_at program.now plan work.old)) plan.size chain.now) tail work.old result work.new }
 {
     let mut t = tail;
-    let mut k: usize = 0;
-    while k < chain.len() {
-        let line = chain[k] as usize;
-        t = next_line(work, plan, program, line, t);
-        k += 1;
+    for &line in chain {
+        t = next_line(work, plan, program, usize::from(line), t);
     }
     t
 }
@@ -138,10 +121,7 @@ fn leads(
     let starts = forward::over_next(work, plan, program, begin, 0, from, 0, 0);
     let tail = run_chain(work, plan, program, chain, starts);
     let end = states::state_at(plan, to, plan.done, 0);
-    if area::dist_at(work, plan.marks, plan.size, tail, end) == 0 {
-        return false;
-    }
-    true
+    area::dist_at(work, plan.marks, plan.size, tail, end) != 0
 }
 
 // ---- a request
@@ -164,7 +144,7 @@ fn accepted(
     leads(work, plan, &program, begin, from, to, chain)
 }
 
-// All questions, then yes or no: does the chain lead from the first place to the second, is its word in the pattern's language, and are its
+// All questions, then yes or no, true or false: does the chain lead from the first place to the second, is its word in the pattern's language, and are its
 // lines inside the windows? The area stays untouched where a question up to 17 is answered no, and is all zeros after every other reply.
 pub fn check_chain_with(
     day: &[u8],
@@ -174,27 +154,28 @@ pub fn check_chain_with(
     chain: &[u16],
     options: Options,
     work: &mut [u32],
-) -> CheckReply
+) -> Result<bool, Refusal>
     ensures reply { check_reply result ≡ told (check_of day.now pattern.now from to chain.now (options_shown options) (length work.old)) }
     ensures workspace { work.new ≡ work_after (ask_request day.now pattern.now from to (options_shown options) (length work.old)) work.old }
     ensures membership { Demand2 day.now pattern.now from to chain.now (options_shown options) (check_reply result) }
 {
     let mut numbers: [u16; 4096] = [0; 4096];
-    let asked = request::ask_request(day, pattern, from, to, options, work.len(), &mut numbers);
-    let Request::Asked(plan) = asked else {
-        return CheckReply::Refused(asked.number(), 0);
-    };
+    let plan = request::ask_request(day, pattern, from, to, options, work.len(), &mut numbers)?;
     if !lines_exist(chain, plan.lines) {
         request::clear(work);
-        return CheckReply::Refused(18, 0);
+        return Err(Refusal::LineNotThere);
     }
     request::load(day, plan, &numbers, options, work);
-    let yes = accepted(pattern, plan, from as usize, to as usize, chain, work);
+    let yes = accepted(
+        pattern,
+        plan,
+        usize::from(from),
+        usize::from(to),
+        chain,
+        work,
+    );
     request::clear(work);
-    if yes {
-        return CheckReply::Yes;
-    }
-    CheckReply::No
+    Ok(yes)
 }
 
 // The same for the whole day.
@@ -205,7 +186,7 @@ pub fn check_chain(
     to: u16,
     chain: &[u16],
     work: &mut [u32],
-) -> CheckReply
+) -> Result<bool, Refusal>
     ensures reply { check_reply result ≡ told (check_of day.now pattern.now from to chain.now plain (length work.old)) }
     ensures workspace { work.new ≡ work_after (ask_request day.now pattern.now from to plain (length work.old)) work.old }
     ensures membership { Demand2 day.now pattern.now from to chain.now plain (check_reply result) }

@@ -14,7 +14,8 @@ use Rattle.automaton.specs.Automaton.{Node, silent, compile, nodes, node_at, bef
 use Rattle.automaton.proofs.Lengths.{compile-length}
 use Rattle.positions.specs.Program.{node_in, Compiled}
 use Rattle.positions.specs.Masks.{Marks}
-use Rattle.compiler.specs.declared.Step.{Step}
+use Rattle.pattern.specs.declared.Command.{Command as Step}
+use Rattle.pattern.specs.Reading.{byte_of}
 use Rattle.compiler.specs.declared.Begin.{Begin}
 use Rattle.compiler.specs.declared.Task.{Task}
 use Rattle.compiler.specs.declared.Rounds.{Rounds}
@@ -45,18 +46,18 @@ module _ {s : List ℕ} {task : Task} {r : Step} {o : Outside} {x : Part} {scope
   pub leaf-written : {row : Entry} {before now : List ℕ} → r.patterns ≡ 0 → Says row (first_node (leaf_of r) task.base scope K)
       → Put task.base row before now → Written task.base (compile x.tree task.base scope K) before now
   leaf-written none says put =
-      written_as (ap (λ y. compile y.tree task.base scope K) (sym (none_after (led e.stands f) none)) ∙ compile-leaf r.code r.first r.second task.base scope K)
+      written_as (ap (λ y. compile y.tree task.base scope K) (sym (none_after (led e.stands f) none)) ∙ compile-leaf (byte_of r.op) r.first r.second task.base scope K)
       (written_then put says written_none)
 
   -- ---- a counted pattern
 
-  pub counted-written : {row : Entry} {rounds : Rounds} {before mid now : List ℕ} → r.code ≡ 0x2A → Says row silent → Put task.base row before mid
+  pub counted-written : {row : Entry} {rounds : Rounds} {before mid now : List ℕ} → byte_of r.op ≡ 0x2A → Says row silent → Put task.base row before mid
       → Counts r task rounds → RoundsCompiled s rounds mid now → Written task.base (compile x.tree task.base scope K) before now
   counted-written {rounds = rounds} {mid = mid} {now = now} code says put i w =
       let q = one-after (led e.stands f) (counted-one (led e.stands f) code) in
       let y = q.inner.tree in
       let tree : x.tree ≡ counted r.first r.second y = ap (λ z. z.tree) (sym q.is) ∙ around-counted r.first r.second y code in
-      let all = w.writes (inside r.code r.second o) q.inner scope K (rounds-part f e i code q) (omega (arith, i.lowest-is, i.left_is, (q.counts (eq-eqb _ _ code)).0)) (i.fits scope K fits) in
+      let all = w.writes (inside (byte_of r.op) r.second o) q.inner scope K (rounds-part f e i code q) (omega (arith, i.lowest-is, i.left_is, (q.counts (eq-eqb _ _ code)).0)) (i.fits scope K fits) in
       written_as (ap (λ z. compile z task.base scope K) tree)
       (written_then put says
       (subst (λ n. Written n (compile_counted y r.first r.second n scope K) mid now) (i.base-is ∙ add-one task.base)
@@ -65,14 +66,14 @@ module _ {s : List ℕ} {task : Task} {r : Step} {o : Outside} {x : Part} {scope
   -- ---- one pattern after it
 
   module _ {p : Begin} (g : BeginsAt s r.next (task.base + 1) p) {row : Entry} {before mid : List ℕ} (put : Small row.row → Put task.base row before mid) where
-    pub around-written : {inner : Task} {now : List ℕ} → r.patterns ≡ 1 → rounded r.code r.second ≡ false
+    pub around-written : {inner : Task} {now : List ℕ} → r.patterns ≡ 1 → rounded (byte_of r.op) r.second ≡ false
         → ((y : Pattern) (next : ℕ) → OnePattern r → Begins y (task.base + 1) next p → Says row (first_node (around_of r y) task.base scope K))
         → Inner r task p inner → CompiledAt s inner mid now → Written task.base (compile x.tree task.base scope K) before now
     around-written one plain says i w =
         let q = one-after (led e.stands f) one in
-        let two = one-pattern-of (led e.stands f).ok plain q.code in
-        let reads = inner-part f e q (no-skip r.code r.second plain) in
-        let b = g.begins (inside r.code r.second o) q.inner reads in
+        let two = one-pattern-of (led e.stands f) plain q.code in
+        let reads = inner-part f e q (no-skip (byte_of r.op) r.second plain) in
+        let b = g.begins (inside (byte_of r.op) r.second o) q.inner reads in
         written_as (ap (λ y. compile y.tree task.base scope K) (sym q.is) ∙ compile-around r task.base q.inner.tree scope K two)
         (written_then (put (says q.inner.tree q.inner.next two b).small) (says q.inner.tree q.inner.next two b)
         (written_from w (part-as i.at-is i.base-is reads) (i.fits scope K q.inner.tree (suc task.base) q.inner.next fits (begins-suc b)) (i.base-is ∙ add-one task.base)))
@@ -89,8 +90,8 @@ module _ {s : List ℕ} {task : Task} {r : Step} {o : Outside} {x : Part} {scope
         let c : ℕ = suc task.base + unfolded y in
         let after : p.after ≡ c = (g.begins o t.first (first_part f e t)).after_is ∙ ap (◌+ unfolded y) (add-one task.base) in
         let b : Begins z c t.second.next q = subst (λ j. Begins z j t.second.next q) after (g₂.begins o t.second (second-part f e t g)) in
-        let K₁ = after_first r.code z c K in
-        written_as (ap (λ d. compile d.tree task.base scope K) (sym t.is) ∙ compile-joined r.code task.base y z scope K)
+        let K₁ = after_first (byte_of r.op) z c K in
+        written_as (ap (λ d. compile d.tree task.base scope K) (sym t.is) ∙ compile-joined (byte_of r.op) task.base y z scope K)
         (written_then (put says.small) says
         (written_both (compile y (suc task.base) scope K₁) (compile z c scope K) (compile-length y (suc task.base) scope K₁)
         (written_from w (part-as i.at-is i.base-is (first_part f e t)) (i.fits scope K z c t.second.next fits b) (i.base-is ∙ add-one task.base))
@@ -128,26 +129,26 @@ rounds-written {s} {rounds} {later} {task} {p} {before} {mid} {now} some g i w i
 -- ---- what the calls ask
 
 module _ {s : List ℕ} {task : Task} {r : Step} (d : Ready s task) (f : StepAt s task.at r) where
-  pub rounds-ready : {rounds : Rounds} → r.code ≡ 0x2A → Counts r task rounds → ReadyRounds s rounds
+  pub rounds-ready : {rounds : Rounds} → byte_of r.op ≡ 0x2A → Counts r task rounds → ReadyRounds s rounds
   rounds-ready code i =
       let l = led d.reads.is.stands f in
       let q = one-after l (counted-one l code) in
       record {
-        outside = inside r.code r.second d.reads.outside;
+        outside = inside (byte_of r.op) r.second d.reads.outside;
         part = q.inner;
         reads = rounds-part f d.reads.is i code q;
-        depth_is = inside-depth r.code r.second d.reads.outside ∙ (rw code (d.depth_is ∙ sym i.depth_is));
+        depth_is = inside-depth (byte_of r.op) r.second d.reads.outside ∙ (rw code (d.depth_is ∙ sym i.depth_is));
         shallow = subst (λ (n : ℕ). n ≤ 3) (sym i.depth_is) d.shallow;
         few = omega (arith, i.left_is, (q.counts (eq-eqb _ _ code)).1);
       }
 
-  pub inner-ready : {p : Begin} {inner : Task} → r.patterns ≡ 1 → rounded r.code r.second ≡ false → Inner r task p inner → Ready s inner
+  pub inner-ready : {p : Begin} {inner : Task} → r.patterns ≡ 1 → rounded (byte_of r.op) r.second ≡ false → Inner r task p inner → Ready s inner
   inner-ready one plain i =
       let l = led d.reads.is.stands f in
       let q = one-after l one in
-      let deep : (inside r.code r.second d.reads.outside).depth ≡ depth_in r.code task.depth = inside-depth r.code r.second d.reads.outside ∙ ap (depth_in r.code) d.depth_is in
+      let deep : (inside (byte_of r.op) r.second d.reads.outside).depth ≡ depth_in (byte_of r.op) task.depth = inside-depth (byte_of r.op) r.second d.reads.outside ∙ ap (depth_in (byte_of r.op)) d.depth_is in
       record {
-        reads = record { outside = inside r.code r.second d.reads.outside; part = q.inner; is = part-as i.at-is i.base-is (inner-part f d.reads.is q (no-skip r.code r.second plain)) };
+        reads = record { outside = inside (byte_of r.op) r.second d.reads.outside; part = q.inner; is = part-as i.at-is i.base-is (inner-part f d.reads.is q (no-skip (byte_of r.op) r.second plain)) };
         depth_is = deep ∙ sym i.depth_is;
         shallow = subst (λ (n : ℕ). n ≤ 3) (deep ∙ sym i.depth_is) (inside-small l.ok (subst (λ (n : ℕ). n ≤ 3) (sym d.depth_is) d.shallow));
       }

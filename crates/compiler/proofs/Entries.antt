@@ -1,22 +1,24 @@
 -- A pattern's nodes are its first command's and those of the patterns after it, and an entry says a node. Assumes nothing.
-use mathlib.Core.Path.{◌≡◌, refl, sym, ◌∙◌, ap, subst}
+use mathlib.Core.Path.{◌≡◌, refl, sym, ap, subst}
 use mathlib.Core.Bool.{Bool, true, false, cond}
 use mathlib.Core.List.{List, [], ◌∷◌, ◌++◌, append-nil}
 use mathlib.Core.Logic.{inl, inr}
 use mathlib.Core.Option.{Option, none, some}
-use Prim.Native.Nat.{ℕ, zero, suc, ◌+◌, ◌-◌, ◌≤◌}
+use Prim.Native.Nat.{ℕ, zero, suc, ◌+◌, ◌≤◌}
 use native.Mathlib.Omega.{arith}
 use lib.Dec.{eqb}
 use lib.ListN.{length}
 use borrow.Author.Tests.{ne_eqb}
+use Rattle.std.specs.Prelude.{Some}
 use Rattle.meaning.specs.Pattern.{Rule, Pattern, nothing, line, test, same, other, sister, foreign, either, then, unfolded, test_rule, leaf, joined}
-use Rattle.automaton.specs.Automaton.{Node, Test, always, against, silent, taking, heads, enter, level_of, test_of, compile, compile_counted}
+use Rattle.automaton.specs.Automaton.{Node, Test, against, silent, taking, heads, enter, level_of, test_of, compile, compile_counted}
 use Rattle.positions.specs.Program.{test_in}
 use Rattle.positions.specs.declared.Rule.TheVariants as Asked
 use Rattle.positions.specs.Masks.{Marks, marks-none}
 use Rattle.automaton.proofs.Scope.{Below, level-below}
-use Rattle.compiler.specs.Compiling.{OnePattern, around_of, mark, scope_in, after_in, after_first, Says, first_node, asked_rule}
-use Rattle.compiler.specs.declared.Step.{Step}
+use Rattle.compiler.specs.Compiling.{OnePattern, around_of, level_shown, scope_in, after_in, after_first, Says, first_node, asked_rule}
+use Rattle.pattern.specs.declared.Command.{Command as Step}
+use Rattle.pattern.specs.Reading.{byte_of}
 use Rattle.compiler.specs.declared.Entry.{Entry}
 
 -- ---- a pattern's nodes, by its command
@@ -36,16 +38,10 @@ one-round x (suc zero) b scope K h = append-nil (compile x b scope K)
 one-round x (suc (suc n)) b scope K h = absurd (omega (arith, h))
 
 pub compile-around : (c : Step) (b : ℕ) (x : Pattern) (scope K : List ℕ) → OnePattern c
-    → compile (around_of c x) b scope K ≡ first_node (around_of c x) b scope K ∷ compile x (suc b) (scope_in c.code c.second scope) (after_in c.code (heads x (suc b)) K)
+    → compile (around_of c x) b scope K ≡ first_node (around_of c x) b scope K ∷ compile x (suc b) (scope_in (byte_of c.op) c.second scope) (after_in (byte_of c.op) (heads x (suc b)) K)
 compile-around c b x scope K (inl e) = rw e
 compile-around c b x scope K (inr (inl e)) = rw e
 compile-around c b x scope K (inr (inr (e, low, one))) = rw (e, one) (ap (silent ∷◌) (one-round x c.first (suc b) scope K low))
-
--- without a keep the first node is silent
-pub node-around : (c : Step) (b : ℕ) (x : Pattern) (scope K : List ℕ) → OnePattern c → (c.code ≡ 0x27 → ⊥) → first_node (around_of c x) b scope K ≡ silent
-node-around c b x scope K (inl e) h = rw e
-node-around c b x scope K (inr (inl e)) h = absurd (h e)
-node-around c b x scope K (inr (inr (e, low, one))) h = rw e
 
 pub compile-joined : (code b : ℕ) (x y : Pattern) (scope K : List ℕ)
     → compile (joined code x y) b scope K ≡ silent ∷ (compile x (suc b) scope (after_first code y (suc b + unfolded x) K) ++ compile y (suc b + unfolded x) scope K)
@@ -57,19 +53,11 @@ compile-joined code b x y scope K = go (eqb code 0x24)
 
 -- ---- the first command's node
 
-pub node-line : {code : ℕ} (kind slot b : ℕ) (scope K : List ℕ) → code ≡ 0x21 → first_node (leaf code kind slot) b scope K ≡ taking kind always false scope K
-node-line kind slot b scope K e = rw e
-
 pub node-test : {code : ℕ} (kind slot b : ℕ) (scope K : List ℕ) → (code ≡ 0x20 → ⊥) → (code ≡ 0x21 → ⊥)
     → first_node (leaf code kind slot) b scope K ≡ taking kind (test_of (test_rule code) (level_of slot scope)) false scope K
 node-test {code} kind slot b scope K h k = rw (ne_eqb code 0x20 h, ne_eqb code 0x21 k)
 
 -- ---- tests
-
--- a slot that no keep has
-pub level-none : (r : Rule) (o : Option ℕ) → mark o ≡ 0 → test_in Asked.Never 0 ≡ test_of r o
-level-none r none e = refl
-level-none r (some j) e = absurd (omega (arith, e))
 
 against-rule : (t u v : Bool) (j : ℕ)
     → test_in (cond t Asked.Same (cond u Asked.Other (cond v Asked.Sister Asked.Foreign))) j ≡ against (cond t same (cond u other (cond v sister foreign))) j
@@ -78,17 +66,18 @@ against-rule false true v j = refl
 against-rule false false true j = refl
 against-rule false false false j = refl
 
-pub level-some : (code : ℕ) (o : Option ℕ) → (mark o ≡ 0 → ⊥) → test_in (asked_rule code) (mark o - 1) ≡ test_of (test_rule code) o
-level-some code none h = absurd (h refl)
-level-some code (some j) h = let down : suc j - 1 ≡ j = omega arith in ap (test_in (asked_rule code)) down ∙ against-rule (eqb code 0x22) (eqb code 0x23) (eqb code 0x28) j
+-- a slot that a keep has
+pub level-some : (code : ℕ) (o : Option ℕ) (level : ℕ) → level_shown o ≡ Some level → test_in (asked_rule code) level ≡ test_of (test_rule code) o
+level-some code none level e = cc
+level-some code (some j) level e = let same : level ≡ j = cc in rw same (against-rule (eqb code 0x22) (eqb code 0x23) (eqb code 0x28) j)
 
 -- the level is below the depth
-pub level-fits : (slot : ℕ) (scope : List ℕ) → mark (level_of slot scope) ≤ length scope
-level-fits slot scope = go (level_of slot scope) (level-below slot scope)
+pub level-fits : (slot : ℕ) (scope : List ℕ) (level : ℕ) → level_shown (level_of slot scope) ≡ Some level → level ≤ length scope
+level-fits slot scope level e = go (level_of slot scope) (level-below slot scope) e
   where
-    go : (o : Option ℕ) → Below o (length scope) → mark o ≤ length scope
-    go none h = omega arith
-    go (some j) h = omega (arith, h)
+    go : (o : Option ℕ) → Below o (length scope) → level_shown o ≡ Some level → level ≤ length scope
+    go none h e = absurd (cc)
+    go (some j) h e = let same : level ≡ j = cc in omega (arith, h, same)
 
 -- ---- an entry says a node
 

@@ -15,15 +15,15 @@ use borrow.Author.Tests.{leb-true, eq-eqb, eqb-true, eqb-false, ne_eqb}
 use Rattle.meaning.specs.Outcome.{passed, and_then, ask}
 use Rattle.meaning.specs.Record.{byte}
 use Rattle.meaning.specs.Pattern.{Shape, Pattern, nothing, line, test, either, then, repeat, keep, counted, commands, unfolded, Command, command_with, shape_of, is_keep, is_counted, Outside, outermost, inside, command_at, around, Part, part, whole, read_pattern, none_given}
-use Rattle.pattern.specs.Reading.{pattern_at}
+use Rattle.pattern.specs.Reading.{byte_of, command_of, pattern_at}
 use Rattle.automaton.specs.Automaton.{before}
 use Rattle.pattern.specs.Passed.{passed-same, ask-passed, and-then-passed, Passed, command-passed, OneOf, one-pattern, kind-below, slot-below, counts-below, code_is, next-later, next-inside}
 use Rattle.pattern.proofs.Bound.{Within, read-within, pattern-step, joined-counts}
-use Rattle.compiler.specs.declared.Step.{Step}
+use Rattle.pattern.specs.declared.Command.{Command as Step}
 use Rattle.compiler.specs.declared.Begin.{Begin}
 use Rattle.compiler.specs.declared.Task.{Task}
 use Rattle.compiler.specs.declared.Rounds.{Rounds}
-use Rattle.compiler.specs.Compiling.{ReadAs, PartAt, Stands, Reads, EndsAt, Commands, command_of, StepAt, skips, rounded, OnePattern, leaf_of, around_of, joined_of, Begins, BeginsAt, Surrounds, Ready, Allowed, depth_in, RoundsAt, Counts, Rest}
+use Rattle.compiler.specs.Compiling.{ReadAs, PartAt, Stands, Reads, EndsAt, Commands, StepAt, skips, rounded, OnePattern, leaf_of, around_of, joined_of, Begins, BeginsAt, Surrounds, Ready, Allowed, depth_in, RoundsAt, Counts, Rest}
 
 abbrev pub part_of : Pattern → ℕ → Part
 part_of p n = record { tree = p; next = n }
@@ -53,9 +53,9 @@ module _ {s : List ℕ} {at : ℕ} (row : Shape) (e : some row ≡ shape_of (byt
 
 -- ---- the command of a pattern
 
-pub record Led (s : List ℕ) (at before : ℕ) (o : Outside) (x : Part) (c : Command) : Type 0 where
-  pub ok : Passed s at before o c
-  pub rest : whole c.patterns (pattern_at s) c before o ≡ passed x
+pub record Led (s : List ℕ) (at before : ℕ) (o : Outside) (x : Part) (r : Step) : Type 0 where
+  pub ok : Passed s at before o (command_of r)
+  pub rest : whole r.patterns (pattern_at s) (command_of r) before o ≡ passed x
 
 module _ {s : List ℕ} {at : ℕ} {o : Outside} {x : Part} (e : ReadAs s at o x) where
   parts : (c : Command) × (command_at s at e.before o ≡ passed c) × (whole c.patterns (pattern_at s) c e.before o ≡ passed x)
@@ -65,10 +65,13 @@ module _ {s : List ℕ} {at : ℕ} {o : Outside} {x : Part} (e : ReadAs s at o x
   commands-there = record { before = e.before; outside = o; command = parts.0; is = parts.1 }
 
   -- the command that was found is the one that was read
-  pub led : {r : Step} → StepAt s at r → Led s at e.before o x (command_of r)
-  led {r} f =
-      subst (Led s at e.before o x) (sym (f.is e.before o parts.0 parts.1))
-      (record { ok = command-passed s at e.before o parts.0 parts.1; rest = parts.2 })
+  pub led : {r : Step} → StepAt s at r → Led s at e.before o x r
+  led f =
+      let same = sym (f.is e.before o parts.0 parts.1) in
+      record {
+        ok = subst (Passed s at e.before o) same (command-passed s at e.before o parts.0 parts.1);
+        rest = subst (λ c. whole c.patterns (pattern_at s) c e.before o ≡ passed x) same parts.2;
+      }
 
   pub within : Within s at e.before o x
   within = read-within (suc (length s)) s at e.before o x e.is
@@ -77,9 +80,9 @@ module _ {s : List ℕ} {at : ℕ} {o : Outside} {x : Part} (e : ReadAs s at o x
 
 pub record OneAfter (s : List ℕ) (o : Outside) (x : Part) (r : Step) : Type 0 where
   pub inner : Part
-  pub reads : ReadAs s r.next (inside r.code r.second o) inner
-  pub code : OneOf r.code
-  pub counts : is_counted r.code ≡ true → (r.first ≤ r.second) × (r.second ≤ 20)
+  pub reads : ReadAs s r.next (inside (byte_of r.op) r.second o) inner
+  pub code : OneOf (byte_of r.op)
+  pub counts : is_counted (byte_of r.op) ≡ true → (r.first ≤ r.second) × (r.second ≤ 20)
   pub is : part_of (around_of r inner.tree) inner.next ≡ x
 
 pub record TwoAfter (s : List ℕ) (o : Outside) (x : Part) (r : Step) : Type 0 where
@@ -89,7 +92,7 @@ pub record TwoAfter (s : List ℕ) (o : Outside) (x : Part) (r : Step) : Type 0 
   pub reads_then : ReadAs s first.next o second
   pub is : part_of (joined_of r first.tree second.tree) second.next ≡ x
 
-module _ {s : List ℕ} {at before : ℕ} {o : Outside} {x : Part} {r : Step} (l : Led s at before o x (command_of r)) where
+module _ {s : List ℕ} {at before : ℕ} {o : Outside} {x : Part} {r : Step} (l : Led s at before o x r) where
   at_count : (n : ℕ) → r.patterns ≡ n → whole n (pattern_at s) (command_of r) before o ≡ passed x
   at_count n e = ap (λ i. whole i (pattern_at s) (command_of r) before o) (sym e) ∙ l.rest
 
@@ -98,7 +101,7 @@ module _ {s : List ℕ} {at before : ℕ} {o : Outside} {x : Part} {r : Step} (l
 
   pub one-after : r.patterns ≡ 1 → OneAfter s o x r
   one-after e =
-      let q = and-then-passed (pattern_at s r.next (before + 1) (inside r.code r.second o)) (λ p. part (around_of r p.tree) p.next) x (at_count 1 e) in
+      let q = and-then-passed (pattern_at s r.next (before + 1) (inside (byte_of r.op) r.second o)) (λ p. part (around_of r p.tree) p.next) x (at_count 1 e) in
       record {
         inner = q.0;
         reads = record { before = before + 1; is = q.1 };
@@ -159,12 +162,12 @@ module _ {s : List ℕ} {at b : ℕ} {o : Outside} {x : Part} {r : Step} (f : St
   pub fits-as : {y : Part} → y ≡ x → b + unfolded y.tree ≤ 63
   fits-as h = omega (arith, e.fits, ap (λ z. unfolded z.tree) h)
 
-  pub inner-part : (q : OneAfter s o x r) → skips r.code r.second ≡ false → PartAt s r.next (b + 1) (inside r.code r.second o) q.inner
-  inner-part q k = record { stands = q.reads; fits = inner-fits r.code r.first r.second b q.inner.tree q.code k (fits-as q.is) }
+  pub inner-part : (q : OneAfter s o x r) → skips (byte_of r.op) r.second ≡ false → PartAt s r.next (b + 1) (inside (byte_of r.op) r.second o) q.inner
+  inner-part q k = record { stands = q.reads; fits = inner-fits (byte_of r.op) r.first r.second b q.inner.tree q.code k (fits-as q.is) }
 
   -- the two patterns of an either or then
   both-fit : (q : TwoAfter s o x r) → b + 1 + unfolded q.first.tree + unfolded q.second.tree ≤ 63
-  both-fit q = omega (arith, fits-as q.is, (joined-counts r.code q.first.tree q.second.tree).unfolded_is)
+  both-fit q = omega (arith, fits-as q.is, (joined-counts (byte_of r.op) q.first.tree q.second.tree).unfolded_is)
 
   pub first_part : (q : TwoAfter s o x r) → PartAt s r.next (b + 1) o q.first
   first_part q = record { stands = q.reads; fits = omega (arith, both-fit q) }
@@ -176,14 +179,14 @@ module _ {s : List ℕ} {at b : ℕ} {o : Outside} {x : Part} {r : Step} (f : St
       record { stands = subst (λ i. ReadAs s i o q.second) (sym h.next-is) q.reads_then; fits = omega (arith, both-fit q, h.after_is) }
 
   -- what stands after the command, wherever it has a pattern
-  after-at : (n : ℕ) → r.patterns ≡ n → (n ≡ 0 → ⊥) → skips r.code r.second ≡ false → Reads s r.next (b + 1)
+  after-at : (n : ℕ) → r.patterns ≡ n → (n ≡ 0 → ⊥) → skips (byte_of r.op) r.second ≡ false → Reads s r.next (b + 1)
   after-at zero c h k = absurd (h refl)
-  after-at (suc zero) c h k = let q = one-after (led e.stands f) c in record { outside = inside r.code r.second o; part = q.inner; is = inner-part q k }
+  after-at (suc zero) c h k = let q = one-after (led e.stands f) c in record { outside = inside (byte_of r.op) r.second o; part = q.inner; is = inner-part q k }
   after-at (suc (suc n)) c h k =
       let q = two-after (led e.stands f) (λ z. omega (arith, c, z)) (λ z. omega (arith, c, z)) in
       record { outside = o; part = q.first; is = first_part q }
 
-  pub after-reads : (r.patterns ≡ 0 → ⊥) → skips r.code r.second ≡ false → Reads s r.next (b + 1)
+  pub after-reads : (r.patterns ≡ 0 → ⊥) → skips (byte_of r.op) r.second ≡ false → Reads s r.next (b + 1)
   after-reads h k = after-at r.patterns refl h k
 
   module _ (h : r.patterns ≡ 0 → ⊥) (k : r.patterns ≡ 1 → ⊥) {p : Begin} (g : BeginsAt s r.next (b + 1) p) where
@@ -205,7 +208,7 @@ module _ {s : List ℕ} {at : ℕ} {o : Outside} {x : Part} {r : Step} (f : Step
 
   over-at : (n : ℕ) → r.patterns ≡ n → (n ≡ 0 → ⊥) → Stands s r.next
   over-at zero c h = absurd (h refl)
-  over-at (suc zero) c h = let q = one-after (led e f) c in record { outside = inside r.code r.second o; part = q.inner; is = q.reads }
+  over-at (suc zero) c h = let q = one-after (led e f) c in record { outside = inside (byte_of r.op) r.second o; part = q.inner; is = q.reads }
   over-at (suc (suc n)) c h =
       let q = two-after (led e f) (λ z. omega (arith, c, z)) (λ z. omega (arith, c, z)) in
       record { outside = o; part = q.first; is = q.reads }
@@ -245,7 +248,7 @@ counted-shape : (b : ℕ) → b ≡ 0x2A → patterns_of (shape_of b) ≡ 1
 unfolding shape_of
 counted-shape b e = rw e
 
-pub counted-one : {s : List ℕ} {at before : ℕ} {o : Outside} {x : Part} {r : Step} → Led s at before o x (command_of r) → r.code ≡ 0x2A → r.patterns ≡ 1
+pub counted-one : {s : List ℕ} {at before : ℕ} {o : Outside} {x : Part} {r : Step} → Led s at before o x r → byte_of r.op ≡ 0x2A → r.patterns ≡ 1
 counted-one {s} {at} l e =
     sym (ap patterns_of l.ok.shaped ∙ ap (λ d. d.patterns) l.ok.is) ∙ counted-shape (byte s at) (code_is l.ok ∙ e)
 
@@ -274,10 +277,10 @@ once-most {c = c} p e code = go (eqb c.second 1) refl (subst (λ (n : ℕ). roun
     go true f h = let one = eqb-true c.second 1 f in (omega (arith, one, (counts-below p (eq-eqb _ _ code)).0), one)
     go false f h = absurd (false≢true (sym h))
 
-pub one-pattern-of : {s : List ℕ} {at before : ℕ} {o : Outside} {r : Step} → Passed s at before o (command_of r) → rounded r.code r.second ≡ false → OneOf r.code → OnePattern r
-one-pattern-of p e (inl c) = inl c
-one-pattern-of p e (inr (inl c)) = inr (inl c)
-one-pattern-of p e (inr (inr c)) = let (low, one) = once-most p e c in inr (inr (c, low, one))
+pub one-pattern-of : {s : List ℕ} {at before : ℕ} {o : Outside} {x : Part} {r : Step} → Led s at before o x r → rounded (byte_of r.op) r.second ≡ false → OneOf (byte_of r.op) → OnePattern r
+one-pattern-of l e (inl c) = inl c
+one-pattern-of l e (inr (inl c)) = inr (inl c)
+one-pattern-of l e (inr (inr c)) = let (low, one) = once-most l.ok e c in inr (inr (c, low, one))
 
 pub inside-depth : (code slot : ℕ) (o : Outside) → (inside code slot o).depth ≡ depth_in code o.depth
 inside-depth code slot o = go (is_keep code)
@@ -296,21 +299,21 @@ skip_is code high e = go (is_counted code) refl e
 
 -- what is asked of a pattern that begins inside a command
 pub surrounds : {s : List ℕ} {at b : ℕ} {o : Outside} {x : Part} {r : Step} {p : Begin} (f : StepAt s at r) (e : PartAt s at b o x) → r.patterns ≡ 1
-    → skips r.code r.second ≡ false → BeginsAt s r.next (b + 1) p → Surrounds r b p
+    → skips (byte_of r.op) r.second ≡ false → BeginsAt s r.next (b + 1) p → Surrounds r b p
 surrounds {o = o} {r = r} f e one k g =
     let q = one-after (led e.stands f) one in
     let in-it = inner-part f e q k in
-    let h = g.begins (inside r.code r.second o) q.inner in-it in
+    let h = g.begins (inside (byte_of r.op) r.second o) q.inner in-it in
     record { later = omega (arith, h.after_is); low = omega (arith, h.after_is, in-it.fits); count = second-low (led e.stands f).ok }
 
 -- all its rounds fit after its own position
 pub rounds-part : {s : List ℕ} {task : Task} {o : Outside} {x : Part} {r : Step} {rounds : Rounds} → StepAt s task.at r → PartAt s task.at task.base o x
-    → Counts r task rounds → r.code ≡ 0x2A → (q : OneAfter s o x r) → RoundsAt s rounds (inside r.code r.second o) q.inner
+    → Counts r task rounds → byte_of r.op ≡ 0x2A → (q : OneAfter s o x r) → RoundsAt s rounds (inside (byte_of r.op) r.second o) q.inner
 rounds-part {s} {task} {o} {r = r} {rounds = rounds} f e i code q =
-    let tree : around r.code r.first r.second q.inner.tree ≡ counted r.first r.second q.inner.tree = rw code in
+    let tree : around (byte_of r.op) r.first r.second q.inner.tree ≡ counted r.first r.second q.inner.tree = rw code in
     let many : rounds.left * unfolded q.inner.tree ≡ r.second * unfolded q.inner.tree = ap (◌* unfolded q.inner.tree) i.left_is in
     record {
-      stands = subst (λ n. ReadAs s n (inside r.code r.second o) q.inner) (sym i.at-is) q.reads;
+      stands = subst (λ n. ReadAs s n (inside (byte_of r.op) r.second o) q.inner) (sym i.at-is) q.reads;
       fits = omega (arith, i.base-is, many, ap unfolded tree, fits-as f e q.is);
     }
 
@@ -350,7 +353,7 @@ operands-low {c = c} p e = go (is_counted c.code) refl
     go true k = let once = once-most p e (eqb-true c.code 0x2A k) in (omega (arith, once.0), omega (arith, once.1))
     go false k = (kind-below p k, slot-below p k)
 
-pub allowed : {s : List ℕ} {t : Task} {r : Step} → Ready s t → StepAt s t.at r → rounded r.code r.second ≡ false → Allowed r t
+pub allowed : {s : List ℕ} {t : Task} {r : Step} → Ready s t → StepAt s t.at r → rounded (byte_of r.op) r.second ≡ false → Allowed r t
 allowed d f k =
     let low = operands-low (led d.reads.is.stands f).ok k in
     record { kind = low.0; slot = low.1; depth = d.shallow; base = base-low d.reads.is }

@@ -49,19 +49,13 @@ module _ {x : Pattern} {b : ℕ} {r : Round} (o : RoundOf x b r) where
       subst (λ u. Marks (cond u (bit_or (shifted heads r.width) after) (shifted heads r.width)) (enter_counted x (before m) n (b + unfolded x) K)) ends
       (marks-when (later-marked n fits h) k (null_rounds (nullable x) (before m) n))
 
--- so many rounds, and none, are told by their count
-pub heads-more : {r : Round} (n : ℕ) {heads now : ℕ} → ((x : Pattern) (b : ℕ) → RoundOf x b r → b + suc n * unfolded x ≤ 63 → Marks heads (heads_counted x n b) → Marks now (heads_counted x (suc n) b))
-    → HeadsOf r n heads → HeadsOf r (n + 1) now
-heads-more {r} n {heads} {now} f h =
-    subst (λ (k : ℕ). HeadsOf r k now) (sym (add-one n)) (λ x b o fits. f x b o fits (h x b o (omega (arith, fits, suc-mul n (unfolded x)))))
-
 -- what a counted pattern begins with
 module _ {x : Pattern} {b next low high : ℕ} {p r : Begin} {round : Round} (h : Begins x (b + 1) next p) (o : RoundOf x (b + 1) round) where
-  pub counted-begins : low ≤ high → b + unfolded (counted low high x) ≤ 63 → r.next ≡ p.next → r.after ≡ b + 1 + high * round.width → HeadsOf round high r.heads
-      → r.nullable ≡ (eqb low 0 || p.nullable) → Begins (counted low high x) b next r
-  counted-begins l fits n a hs e = record {
-    next-is = n ∙ h.next-is;
-    after_is = omega (arith, a, ap (high *◌) o.width_is);
-    heads-are = subst (λ i. Marks r.heads (heads_counted x high i)) (add-one b) (hs x (b + 1) o (omega (arith, fits)));
-    nullable-is = e ∙ (ap (eqb low 0 ||◌) h.nullable-is ∙ sym (null-rounds (nullable x) low high l));
+  pub counted-begins : {n m : ℕ} → n ≡ high → m ≡ low → low ≤ high → b + unfolded (counted low high x) ≤ 63 → r.next ≡ p.next → r.after ≡ b + 1 + n * round.width
+      → HeadsOf round n r.heads → r.nullable ≡ (eqb m 0 || p.nullable) → Begins (counted low high x) b next r
+  counted-begins {n} count least l fits place a hs e = record {
+    next-is = place ∙ h.next-is;
+    after_is = omega (arith, a, ap (n *◌) o.width_is, ap (◌* unfolded x) count);
+    heads-are = subst (λ i. Marks r.heads (heads_counted x high i)) (add-one b) ((rw count at hs) x (b + 1) o (omega (arith, fits)));
+    nullable-is = (rw least at e) ∙ (ap (eqb low 0 ||◌) h.nullable-is ∙ sym (null-rounds (nullable x) low high l));
   }

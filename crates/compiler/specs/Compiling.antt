@@ -1,17 +1,19 @@
 -- What the functions of the compiler ask and promise, in the terms of the pattern that stands in the bytes and of its automaton.
 -- `Passes` and `Compiled` of `Program` are what callers see; every other definition is the compiler's own.
-use Rattle.std.specs.Prelude.{◌≡◌, Bool, true, false, cond, not, ◌&&◌, List, [], ◌∷◌, ◌++◌, ◌⊎◌, ℕ, suc, ◌+◌, ◌*◌, ◌-◌, ◌≤◌, ◌<◌, eqb, length, get_or}
+use Rattle.std.specs.Prelude.{◌≡◌, Bool, true, false, cond, not, ◌&&◌, List, [], ◌∷◌, ◌++◌, ◌⊎◌, ℕ, suc, ◌+◌, ◌*◌, ◌-◌, ◌≤◌, ◌<◌, eqb, length, get_or, Some, None}
+use Rattle.std.specs.Prelude.{Option as Maybe}
 use Rattle.std.proofs.Math.Option.{Option, none, some}
 use Rattle.meaning.specs.Outcome.{passed}
 use Rattle.meaning.specs.Pattern.{Pattern, counted, unfolded, Command, is_keep, is_counted, Outside, command_at, leaf, around, joined, Part, read_pattern, none_given}
-use Rattle.pattern.specs.Reading.{pattern_at}
+-- the code's command
+use Rattle.pattern.specs.declared.Command.{Command as Step}
+use Rattle.pattern.specs.Reading.{byte_of, command_of, pattern_at}
 use Rattle.pattern.specs.Passed.{OneOf}
 use Rattle.automaton.specs.Automaton.{Node, Test, taking, nullable, heads, enter, level_of, compile, node_at, before, heads_counted, enter_counted, compile_counted}
 use Rattle.positions.specs.Program.{row_at, follow_at, test_in, said, Alike, Compiled}
 use Rattle.positions.specs.Masks.{Marks}
 use Rattle.positions.specs.declared.Row.{Row}
 use Rattle.positions.specs.declared.Rule.{Rule}
-use Rattle.compiler.specs.declared.Step.{Step}
 use Rattle.compiler.specs.declared.Begin.{Begin}
 use Rattle.compiler.specs.declared.Round.{Round}
 use Rattle.compiler.specs.declared.Task.{Task}
@@ -57,9 +59,6 @@ pub record Commands (s : List ℕ) (at : ℕ) : Type 0 where
   pub command : Command
   pub is : command_at s at before outside ≡ passed command
 
-abbrev pub command_of : Step → Command
-command_of c = record { code = c.code; first = c.first; second = c.second; patterns = c.patterns; next = c.next }
-
 -- it is the command that stands at the place
 pub record StepAt (s : List ℕ) (at : ℕ) (r : Step) : Type 0 where
   pub is : (before : ℕ) (o : Outside) (c : Command) → command_at s at before o ≡ passed c → command_of r ≡ c
@@ -74,17 +73,17 @@ rounded code high = is_counted code && not (eqb high 1)
 
 -- a repeat, a keep, or a counted pattern that comes once at most
 abbrev pub OnePattern : Step → Type 0
-OnePattern c = (c.code ≡ 0x26) ⊎ ((c.code ≡ 0x27) ⊎ ((c.code ≡ 0x2A) × (c.first ≤ 1) × (c.second ≡ 1)))
+OnePattern c = (byte_of c.op ≡ 0x26) ⊎ ((byte_of c.op ≡ 0x27) ⊎ ((byte_of c.op ≡ 0x2A) × (c.first ≤ 1) × (c.second ≡ 1)))
 
 -- the trees of a command
 abbrev pub leaf_of : Step → Pattern
-leaf_of c = leaf c.code c.first c.second
+leaf_of c = leaf (byte_of c.op) c.first c.second
 
 abbrev pub around_of : Step → Pattern → Pattern
-around_of c p = around c.code c.first c.second p
+around_of c p = around (byte_of c.op) c.first c.second p
 
 abbrev pub joined_of : Step → Pattern → Pattern → Pattern
-joined_of c p q = joined c.code p q
+joined_of c p q = joined (byte_of c.op) p q
 
 -- ---- what a pattern begins with
 
@@ -108,7 +107,7 @@ pub record Surrounds (c : Step) (b : ℕ) (p : Begin) : Type 0 where
 -- r of a repeat or keep around the pattern of p, of that pattern counted, and of an either or then of the patterns of p and q
 abbrev pub BeginsAround : Step → ℕ → Begin → Begin → Type 0
 BeginsAround c b p r =
-    (x : Pattern) (next : ℕ) → OneOf c.code → (is_counted c.code ≡ true → c.first ≤ c.second) → b + unfolded (around_of c x) ≤ 63
+    (x : Pattern) (next : ℕ) → OneOf (byte_of c.op) → (is_counted (byte_of c.op) ≡ true → c.first ≤ c.second) → b + unfolded (around_of c x) ≤ 63
     → Begins x (b + 1) next p → Begins (around_of c x) b next r
 
 abbrev pub BeginsCounted : Step → ℕ → Begin → Begin → Type 0
@@ -147,15 +146,15 @@ Entered p after r = (x : Pattern) (b next : ℕ) (K : List ℕ) → Begins x b n
 
 -- ---- what stands around a pattern
 
--- a slot's level and one, or 0 where no keep has it
-abbrev pub mark : Option ℕ → ℕ
-mark none = 0
-mark (some j) = suc j
+-- a slot's level, where a keep has it
+abbrev pub level_shown : Option ℕ → Maybe ℕ
+level_shown none = None
+level_shown (some j) = Some j
 
 -- the task says that the slots of `scope` are kept around its pattern, and that K may come after it
 pub record Fits (t : Task) (scope K : List ℕ) : Type 0 where
   pub depth_is : t.depth ≡ length scope
-  pub levels-are : (s : ℕ) → s < 4 → get_or t.levels s 0 ≡ mark (level_of s scope)
+  pub levels-are : (s : ℕ) → s < 4 → get_or t.levels s None ≡ level_shown (level_of s scope)
   pub after-marks : Marks t.after K
 
 -- its pattern was read, in no more than three keeps
@@ -186,25 +185,25 @@ abbrev pub after_first : ℕ → Pattern → ℕ → List ℕ → List ℕ
 after_first code q b K = cond (eqb code 0x24) K (enter q b K)
 
 abbrev pub AfterFirst : Step → Task → Begin → ℕ → Type 0
-AfterFirst c t q r = (K : List ℕ) (x : Pattern) (b next : ℕ) → Marks t.after K → Begins x b next q → Marks r (after_first c.code x b K)
+AfterFirst c t q r = (K : List ℕ) (x : Pattern) (b next : ℕ) → Marks t.after K → Begins x b next q → Marks r (after_first (byte_of c.op) x b K)
 
 abbrev pub AfterInner : Step → Task → Begin → ℕ → Type 0
-AfterInner c t p r = (K : List ℕ) (x : Pattern) (b next : ℕ) → Marks t.after K → Begins x b next p → Marks r (after_in c.code (heads x b) K)
+AfterInner c t p r = (K : List ℕ) (x : Pattern) (b next : ℕ) → Marks t.after K → Begins x b next p → Marks r (after_in (byte_of c.op) (heads x b) K)
 
 -- r is the task of the pattern in a command, p what that pattern begins with
 pub record Inner (c : Step) (t : Task) (p : Begin) (r : Task) : Type 0 where
   pub at-is : r.at ≡ c.next
   pub base-is : r.base ≡ t.base + 1
-  pub depth_is : r.depth ≡ depth_in c.code t.depth
+  pub depth_is : r.depth ≡ depth_in (byte_of c.op) t.depth
   pub fits : (scope K : List ℕ) (x : Pattern) (b next : ℕ) → Fits t scope K → Begins x b next p
-      → Fits r (scope_in c.code c.second scope) (after_in c.code (heads x b) K)
+      → Fits r (scope_in (byte_of c.op) c.second scope) (after_in (byte_of c.op) (heads x b) K)
 
 -- r is the task of the first pattern of an either or then, q what the second one begins with
 pub record First (c : Step) (t : Task) (q : Begin) (r : Task) : Type 0 where
   pub at-is : r.at ≡ c.next
   pub base-is : r.base ≡ t.base + 1
   pub depth_is : r.depth ≡ t.depth
-  pub fits : (scope K : List ℕ) (x : Pattern) (b next : ℕ) → Fits t scope K → Begins x b next q → Fits r scope (after_first c.code x b K)
+  pub fits : (scope K : List ℕ) (x : Pattern) (b next : ℕ) → Fits t scope K → Begins x b next q → Fits r scope (after_first (byte_of c.op) x b K)
 
 -- r is the task of the second, p what the first one begins with
 pub record Second (t : Task) (p : Begin) (r : Task) : Type 0 where

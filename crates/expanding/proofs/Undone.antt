@@ -19,10 +19,10 @@ use Rattle.graph.proofs.Loops.{turns_same}
 use Rattle.graph.specs.Table.{Search}
 use Rattle.area.specs.Area.{UnderAny}
 use Rattle.states.specs.Pairs.{RoomBack}
-use Rattle.states.specs.Spots.{off_by, off, stack_turn, line_turn, Stacks}
+use Rattle.states.specs.Spots.{front, off_by, off, stack_turn, line_turn, Stacks, Starts}
 use Rattle.states.specs.declared.Spot.{Spot}
 use Rattle.states.specs.declared.Target.{Target}
-use Rattle.states.proofs.Bounds.{power_small, stacks-fit, state-low}
+use Rattle.states.proofs.Bounds.{power_small, stacks-fit, state-low, word-front}
 use Rattle.ways.specs.Stacked.{stacked_turn}
 use Rattle.ways.specs.Ways.{Before}
 use Rattle.expanding.specs.Undoing.{lines_back, undo_of, undone, line_undone, word_undone, Undoing, InStates, LeadsTo}
@@ -57,6 +57,14 @@ module _ (plan : Plan) (u : Undo) (g : List ℕ) (place c i : ℕ) (st : Search)
     pub line_taken : x ≡ u.spot.kind → (q : ℕ) → q ≡ from_in (word_at plan g i) → (b home : ℕ) → b ≡ code_at plan g i → home ≡ state_in plan q c 0 → line_undone plan u g place c i st ≡ undone plan u (boat_at plan g) home b st
     unfolding line_undone
     line_taken k q eq b home eb eh = rw (← eb, ← er, ← ex, ← eq, ← eh, eq-eqb _ _ h, eq-eqb _ _ k)
+
+-- line i by its word r: the place q that it comes from
+module _ {plan : Plan} (w : List ℕ) (l : Laid plan (length w)) (starts : Starts plan (front plan w)) (i : ℕ) (h : i < plan.lines) (r : ℕ) (is : r ≡ get_or w (plan.words + i) 0) (q : ℕ) (from : q ≡ from_in r) where
+  pub from-line : q ≡ from_in (word_at plan (front plan w) i)
+  from-line = from ∙ ap from_in (word-front l w i h r is)
+
+  pub from-low : q < plan.places
+  from-low = subst (◌< plan.places) (sym from-line) (starts i h)
 
 -- where nothing is undone from its start, a line does nothing
 pub line-idle : (plan : Plan) (u : Undo) (g : List ℕ) (place c i : ℕ) (st : Search) (home : ℕ) → home ≡ state_in plan (from_in (word_at plan g i)) c 0

@@ -49,10 +49,8 @@ fn one_stack(
     if area::dist_at(work, plan.base, plan.size, tail, home + u) != 0 {
         return tail;
     }
-    if states::put_on(spot, u, code) == v {
-        if states::passes(work, plan, spot, code, u) {
-            return area::push_if_new(work, plan.base, plan.size, d, home + u, tail);
-        }
+    if states::put_on(spot, u, code) == v && states::passes(work, plan, spot, code, u) {
+        return area::push_if_new(work, plan.base, plan.size, d, home + u, tail);
     }
     tail
 }
@@ -73,14 +71,12 @@ fn over_each(work: &mut [u32], plan: Plan, undo: Undo, home: usize, code: u32, t
     requires in_states { InStates plan undo home }
     ensures { StepBackAny plan (undone plan undo (boats_in plan work.old) home code) tail work.old result work.new }
 {
-    let spot = undo.spot;
-    let count = undo.count;
     let mut t = tail;
-    for x in 0..count {
+    for x in 0..undo.count {
         t = one_stack(
             work,
             plan,
-            spot,
+            undo.spot,
             undo.d,
             home,
             code,
@@ -140,10 +136,7 @@ fn entry_below(radix: usize, level: usize, weight: usize) -> bool
     requires { (0 < radix) × (0 < level) }
     ensures { result ≡ true → EntryBelow radix level weight }
 {
-    if weight % level != 0 {
-        return false;
-    }
-    weight / level % radix == 0
+    weight % level == 0 && weight / level % radix == 0
 }
 
 // Is the entry at the level one of those of `count` stacks over the weight, and is the boat one that it can be?
@@ -151,20 +144,12 @@ fn entry_among(radix: usize, level: usize, weight: usize, count: usize, code: u3
     requires { (0 < radix) × (0 < level) × (0 < weight) }
     ensures { result ≡ true → EntryAmong radix level weight count code }
 {
-    if level % weight != 0 {
-        return false;
-    }
     let below = level / weight;
-    if below == 0 {
-        return false;
-    }
-    if count % below != 0 {
-        return false;
-    }
-    if count / below % radix != 0 {
-        return false;
-    }
-    (code as usize) < radix
+    level % weight == 0
+        && below != 0
+        && count % below == 0
+        && count / below % radix == 0
+        && (code as usize) < radix
 }
 
 // Each stack, of a position that takes only the boat at its level and does not push. The entry at that level is one of the state's, the
@@ -197,14 +182,7 @@ fn over_same(work: &mut [u32], plan: Plan, undo: Undo, home: usize, code: u32, t
 fn wants_same(undo: Undo) -> bool
     ensures { result ≡ true → WantsSame undo }
 {
-    let spot = undo.spot;
-    if spot.push {
-        return false;
-    }
-    if states::wants_kept(spot) {
-        return undo.stack < undo.weight;
-    }
-    false
+    !undo.spot.push && states::wants_kept(undo.spot) && undo.stack < undo.weight
 }
 
 // Each stack, for a line with the boat number `code`; `home` is the state with the empty stack at the line's start.
@@ -232,17 +210,9 @@ fn met_alone(work: &[u32], plan: Plan, undo: Undo, home: usize, tail: usize) -> 
     requires in_states { InStates plan undo home }
     ensures { result ≡ true → NothingBack plan undo home tail work.now }
 {
-    let spot = undo.spot;
-    if undo.count != 1 {
-        return false;
-    }
-    if spot.push {
-        return false;
-    }
-    if area::dist_at(work, plan.base, plan.size, tail, home + undo.stack) == 0 {
-        return false;
-    }
-    true
+    undo.count == 1
+        && !undo.spot.push
+        && area::dist_at(work, plan.base, plan.size, tail, home + undo.stack) != 0
 }
 
 // The same, unless it would do nothing: of the lines into a place most come from states that have been met.
@@ -282,13 +252,10 @@ pub fn one_line(
     ensures { StepBackAny plan (line_undone plan undo (front plan work.old) place c i) tail work.old result work.new }
 {
     let line = area::word(work, plan.words + i);
-    let spot = undo.spot;
-    if request::to_of(line) == place {
-        if request::kind_of(line) == spot.kind {
-            let code = area::word(work, plan.codes + i);
-            let home = states::state_at(plan, request::from_of(line), c, 0);
-            return over_stacks(work, plan, undo, home, code, tail);
-        }
+    if request::to_of(line) == place && request::kind_of(line) == undo.spot.kind {
+        let code = area::word(work, plan.codes + i);
+        let home = states::state_at(plan, request::from_of(line), c, 0);
+        return over_stacks(work, plan, undo, home, code, tail);
     }
     tail
 }
@@ -320,24 +287,11 @@ fn over_lines(
     requires leads_to { LeadsTo plan undo c }
     ensures { StepBackAny plan (turns (line_undone plan undo (front plan work.old) place c) 0 plan.lines) tail work.old result work.new }
 {
-    let lines = plan.lines;
     let mut t = tail;
-    for i in 0..lines {
+    for i in 0..plan.lines {
         t = one_line(work, plan, undo, place, c, i, t);
     }
     t
-}
-
-// How many stacks of depth `deep` there are over one of depth `e`: radix^(deep - e), and 1 where `e` is not below.
-fn stacks_over(radix: usize, deep: usize, e: usize) -> usize
-    requires { (0 < radix) × (deep ≤ 3) × (radix ^ (deep - e) ≤ largest) }
-    ensures { result ≡ radix ^ (deep - e) }
-{
-    if e < deep {
-        states::power(radix, deep - e)
-    } else {
-        1
-    }
 }
 
 // The stacks of the depth `leaves` after a position that are the state's when they are cut to its depth.
@@ -345,12 +299,11 @@ pub fn undo_of(plan: Plan, spot: Spot, target: Target, d: u32, leaves: usize) ->
     requires { (0 < plan.radix) × (leaves ≤ 3) × (plan.radix ^ (leaves - target.depth) ≤ largest) }
     ensures { result ≡ undo_of plan spot target d leaves }
 {
-    let count = stacks_over(plan.radix, leaves, target.depth);
     Undo {
         spot,
         weight: target.weight,
         stack: target.stack,
-        count,
+        count: states::power(plan.radix, leaves.saturating_sub(target.depth)),
         d,
     }
 }
@@ -432,7 +385,7 @@ fn by_sorted(
 {
     let undo = undo_of(plan, spot, target, d, leaves);
     let run = ways::lines_for(work, plan, spot, target);
-    over_stacked(work, plan, undo, c, run.lo, run.hi, tail)
+    over_stacked(work, plan, undo, c, run.start, run.end, tail)
 }
 
 // The lines of the kind that the key `k` says, for a lane that asks for classes: by the thin ones of its sieve where they are there. It is
@@ -453,9 +406,9 @@ fn over_class(
     ensures { StepBack plan (run_lines Orders.Kind plan work.old k d lane) tail work.old result work.new }
 {
     if ways::has_thin(work, plan, sieve) {
-        return ways::over_thin(work, plan, sieve, true, k, lane, d, tail);
+        return ways::over_thin::<true>(work, plan, sieve, k, lane, d, tail);
     }
-    ways::over_run(work, plan, Order::Kind, true, k, lane, d, tail)
+    ways::over_run::<true>(work, plan, Order::Kind, k, lane, d, tail)
 }
 
 // The lines of the kind that the key `k` says, by the thin ones where they are enough for the lane.
@@ -467,9 +420,9 @@ fn over_kind(work: &mut [u32], plan: Plan, k: usize, lane: Lane, d: u32, tail: u
     ensures { StepBack plan (run_lines Orders.Kind plan work.old k d lane) tail work.old result work.new }
 {
     if ways::thin_lane(lane) {
-        return ways::over_thin(work, plan, Sieve::Boats, false, k, lane, d, tail);
+        return ways::over_thin::<false>(work, plan, Sieve::Boats, k, lane, d, tail);
     }
-    ways::over_run(work, plan, Order::Kind, false, k, lane, d, tail)
+    ways::over_run::<false>(work, plan, Order::Kind, k, lane, d, tail)
 }
 
 // Where the stack after the position is the state's: by classes, where the rule compares these, and else with the one stack.
@@ -490,9 +443,17 @@ fn by_exact(
     ensures { StepBack plan (lines_back plan (front plan work.old) spot target d c target.depth) tail work.old result work.new }
 {
     match ways::class_way(work, plan, spot, target, c) {
-        ClassWay::Sister(k, lane) => over_class(work, plan, Sieve::Sisters, k, lane, d, tail),
-        ClassWay::Foreign(k, lane) => over_class(work, plan, Sieve::Classes, k, lane, d, tail),
-        ClassWay::Neither => by_sorted(work, plan, spot, target, d, c, target.depth, tail),
+        Some(ClassWay::Sister(k, lane)) => over_class(work, plan, Sieve::Sisters, k, lane, d, tail),
+        Some(ClassWay::Foreign(k, lane)) => over_class(
+            work,
+            plan,
+            Sieve::Classes,
+            k,
+            lane,
+            d,
+            tail,
+        ),
+        None => by_sorted(work, plan, spot, target, d, c, target.depth, tail),
     }
 }
 
@@ -539,7 +500,7 @@ fn over_way(
     ensures { StepBack plan (lines_back plan (front plan work.old) spot target d c leaves) tail work.old result work.new }
 {
     match ways::way_of(work, plan, spot, target, leaves, c) {
-        Way::ByBoat(k, lane) => ways::over_run(work, plan, Order::Boat, false, k, lane, d, tail),
+        Way::ByBoat(k, lane) => ways::over_run::<false>(work, plan, Order::Boat, k, lane, d, tail),
         Way::ByKind(k, lane) => over_kind(work, plan, k, lane, d, tail),
         Way::ByStack => by_rest(work, plan, spot, target, d, c, leaves, tail),
         Way::Nowhere => tail,
@@ -551,7 +512,7 @@ pub fn leaves_of(depth: usize, push: bool) -> usize
     requires { depth ≤ 3 }
     ensures { result ≡ deeper push depth }
 {
-    if push { depth + 1 } else { depth }
+    depth + usize::from(push)
 }
 
 // The position `c`, which the target's may come after: the lines that lead back to it, by the sorted ones where the plan has them.
@@ -593,9 +554,8 @@ pub fn expand_state(
     ensures { StepBack plan (expand (setting_at program.now plan work.old) d t) tail work.old result work.new }
 {
     let target = states::target_of(program, plan, t);
-    let done = plan.done;
     let mut u = tail;
-    for c in 0..done {
+    for c in 0..plan.done {
         if (positions::follow_at(program, c) >> target.position) % 2 == 1 {
             u = one_spot(work, plan, program, target, d, c, u);
         }

@@ -10,8 +10,7 @@ use Rattle.meaning.specs.Request.{Asked}
 use Rattle.search.specs.Asked.{answer}
 use Rattle.finder.specs.Promise as Find
 use Rattle.finder.proofs.Demand.{LateSaid, settled-late}
-use Rattle.searching.specs.Promise.{begun_told, move_reply, Moving, FinishHarmless, Finishing}
-use Rattle.searching.specs.declared.MoveReply.{MoveReply}
+use Rattle.searching.specs.Promise.{begun_told, FinishHarmless, Finishing}
 use Rattle.exports.specs.Fits.{SecondFits, SaidFits}
 use Rattle.exports.specs.Promise.{find_number, FirstShortest, FinishingNumber}
 use Rattle.exports.proofs.Demands.{Low, first-shortest}
@@ -19,11 +18,6 @@ use Rattle.exports.proofs.Demands.{Low, first-shortest}
 pub begun-second : (o : Outcome Asked) → SecondFits (begun_told o)
 begun-second (refused number) = omega arith
 begun-second (passed q) = tt
-
--- ---- a reply that is told apart
-
-pub move-as : {amount : ℕ} {w v : List ℕ} {r r' : MoveReply} → Moving amount w (move_reply r) v → r ≡ r' → Moving amount w (move_reply r') v
-move-as {amount} {w} {v} m e = subst (λ (x : MoveReply). Moving amount w (move_reply x) v) e m
 
 -- ---- finish
 

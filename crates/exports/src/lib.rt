@@ -19,17 +19,11 @@ ghost use Rattle.starts.specs.Promise as OfStarts;
 ghost use Rattle.windows.specs.Promise.{options_of};
 ghost use Rattle.writing.specs.Promise.{write_reply};
 ghost use Rattle.exports.specs.Promise.{number_of, fields_of, read_number, read_after, count_number, count_after, pattern_number, pattern_after, check_number, Membership, find_number, FirstShortest, counted, starts_number, EachShortest, MovingNumber, FinishingNumber, version_number};
-ghost use Rattle.exports.specs.Fits.{Fits32, SecondFits, SaidFits};
+ghost use Rattle.exports.specs.Fits.{SaidFits};
 
-use boats::CountReply;
-use checker::CheckReply;
-use finder::FindReply;
-use pattern::PatternReply;
-use record::{Line, LineReply};
-use request::WordsReply;
-use searching::{BeginReply, MoveReply};
-use starts::StartsReply;
-use writing::WriteReply;
+use pattern::Counts;
+use record::{Line, Written};
+use refusals::{OutputError, Refusal};
 
 // ---- the version
 
@@ -62,13 +56,13 @@ fn put_two(counts: &mut [u32], first: usize, second: usize)
 
 // ---- records
 
-fn write_number(r: WriteReply) -> u64
-    requires { Fits32 (write_reply r) }
+// A length or a count of words, or why there is none, as a number.
+fn write_number(r: Result<usize, Refusal>) -> u64
     ensures { result ≡ number_of (write_reply r) }
 {
     match r {
-        WriteReply::Length(n) => n as u64,
-        WriteReply::Refused(q, second) => refusal(q, second),
+        Ok(n) => n as u64,
+        Err(e) => refusal(e.number(), 0),
     }
 }
 
@@ -109,7 +103,7 @@ pub extern "C" fn chains_add(
     ensures buffer { buf.new ≡ add_after buf.old len (record { from = from; kind = kind; boat = record { class = class; sail = sail }; to = to; time = none }) }
 {
     let line = line_with(from, kind, class, sail, to);
-    write_number(writing::add_line(buf, len, line))
+    write_number(writing::add_line(buf, len, Written { line, time: None }))
 }
 
 // Adds a line with its time; value: the record's new length.
@@ -128,7 +122,8 @@ pub extern "C" fn chains_add_timed(
     ensures buffer { buf.new ≡ add_after buf.old len (record { from = from; kind = kind; boat = record { class = class; sail = sail }; to = to; time = some time }) }
 {
     let line = line_with(from, kind, class, sail, to);
-    write_number(writing::add_timed(buf, len, line, time))
+    let time = Some(time);
+    write_number(writing::add_line(buf, len, Written { line, time }))
 }
 
 // Puts the five fields of a line at the front of a list that has room for them.
@@ -143,11 +138,7 @@ fn put_fields(fields: &mut [u32], l: Line)
         l.sail,
         l.to as u32,
     ];
-    let mut i: usize = 0;
-    while i < 5 {
-        fields[i] = new[i];
-        i += 1;
-    }
+    fields[..5].copy_from_slice(&new);
 }
 
 // Puts the time of a line after its five fields.
@@ -175,19 +166,24 @@ pub extern "C" fn chains_read(rec: &[u8], line: u16, fields: &mut [u32]) -> u64
     ensures words { fields.new ≡ read_after (read_of rec.now line) fields.old }
 {
     match record::read_line(rec, line) {
-        LineReply::Refused(q, _) => refusal(q, 0),
-        LineReply::Line(l) => {
+        Err(e) => refusal(e.number(), 0),
+        Ok(Written { line, time: None }) => {
             if fields.len() < 5 {
                 return 0;
             }
-            put_fields(fields, l);
+            put_fields(fields, line);
             5
         }
-        LineReply::Timed(l, time) => {
+        Ok(
+            Written {
+                line,
+                time: Some(time),
+            },
+        ) => {
             if fields.len() < 6 {
                 return 0;
             }
-            put_timed(fields, l, time);
+            put_timed(fields, line, time);
             6
         }
     }
@@ -201,8 +197,8 @@ pub extern "C" fn chains_boats(rec: &[u8], counts: &mut [u32]) -> u64
     ensures words { counts.new ≡ count_after (count_of rec.now) counts.old }
 {
     match boats::count_boats(rec) {
-        CountReply::Refused(q, _) => refusal(q, 0),
-        CountReply::Count(n) => {
+        Err(e) => refusal(e.number(), 0),
+        Ok(n) => {
             let room = counts.len();
             if room < 2 {
                 return 0;
@@ -231,12 +227,14 @@ pub extern "C" fn chains_pattern(pat: &[u8], counts: &mut [u32]) -> u64
     ensures words { counts.new ≡ pattern_after (counts_of (read_pattern none_given pat.now)) counts.old }
 {
     match pattern::read_pattern(pat) {
-        PatternReply::Refused(q, _) => refusal(q, 0),
-        PatternReply::Pattern {
-            commands,
-            unfolded,
-            keeps,
-        } => {
+        Err(e) => refusal(e.number(), 0),
+        Ok(
+            Counts {
+                commands,
+                unfolded,
+                keeps,
+            },
+        ) => {
             if counts.len() < 2 {
                 return 0;
             }
@@ -257,21 +255,17 @@ pub extern "C" fn chains_pattern(pat: &[u8], counts: &mut [u32]) -> u64
 pub extern "C" fn chains_words(rec: &[u8], pat: &[u8]) -> u64
     ensures { result ≡ number_of (told (words_of rec.now pat.now)) }
 {
-    match request::words_needed(rec, pat) {
-        WordsReply::Words(n) => n as u64,
-        WordsReply::Refused(q, _) => refusal(q, 0),
-    }
+    write_number(request::words_needed(rec, pat))
 }
 
 // What the checker says, as a number.
-fn check_number(r: CheckReply) -> u64
-    requires { SecondFits (check_reply r) }
+fn check_number(r: Result<bool, Refusal>) -> u64
     ensures { result ≡ check_number (check_reply r) }
 {
     match r {
-        CheckReply::Yes => 1,
-        CheckReply::No => 0,
-        CheckReply::Refused(q, second) => refusal(q, second),
+        Ok(true) => 1,
+        Ok(false) => 0,
+        Err(e) => refusal(e.number(), 0),
     }
 }
 
@@ -319,14 +313,14 @@ pub extern "C" fn chains_check_with(
 }
 
 // What the finder says, as a number.
-fn find_number(r: FindReply) -> u64
+fn find_number(r: Result<Option<usize>, OutputError>) -> u64
     requires { SaidFits (find_reply r) }
     ensures { result ≡ find_number (find_reply r) }
 {
     match r {
-        FindReply::Found(n) => n as u64,
-        FindReply::NoChain => 4294967295,
-        FindReply::Refused(q, second) => refusal(q, second),
+        Ok(Some(n)) => n as u64,
+        Ok(None) => 4294967295,
+        Err(e) => refusal(e.number(), e.second()),
     }
 }
 
@@ -373,16 +367,16 @@ pub extern "C" fn chains_find_with(
 fn in_32_bits(n: usize) -> usize
     ensures { (result ≡ counted n) × (result < 4294967296) }
 {
-    if n < 4294967295 { n } else { 4294967295 }
+    n.min(4294967295)
 }
 
 // What is said of all starts, as a number.
-fn starts_number(r: StartsReply) -> u64
+fn starts_number(r: Result<usize, OutputError>) -> u64
     ensures { result ≡ starts_number (OfStarts.starts_reply r) }
 {
     match r {
-        StartsReply::Lengths(n) => in_32_bits(n) as u64,
-        StartsReply::Refused(q, second) => refusal(q, in_32_bits(second)),
+        Ok(n) => in_32_bits(n) as u64,
+        Err(e) => refusal(e.number(), in_32_bits(e.second())),
     }
 }
 
@@ -439,20 +433,16 @@ pub extern "C" fn chains_starts_with(
 pub extern "C" fn chains_search_words(rec: &[u8], pat: &[u8]) -> u64
     ensures { result ≡ number_of (told (search_words_of rec.now pat.now)) }
 {
-    match request::search_words(rec, pat) {
-        WordsReply::Words(n) => n as u64,
-        WordsReply::Refused(q, _) => refusal(q, 0),
-    }
+    write_number(request::search_words(rec, pat))
 }
 
 // What begin says, as a number.
-fn begin_number(r: BeginReply) -> u64
-    requires { SecondFits (begin_reply r) }
+fn begin_number(r: Result<(), Refusal>) -> u64
     ensures { result ≡ number_of (begin_reply r) }
 {
     match r {
-        BeginReply::Begun => 0,
-        BeginReply::Refused(q, second) => refusal(q, second),
+        Ok(()) => 0,
+        Err(e) => refusal(e.number(), 0),
     }
 }
 
@@ -499,10 +489,7 @@ pub extern "C" fn chains_search_begin_with(
 pub extern "C" fn chains_search_move(work: &mut [u32], amount: usize) -> u64
     ensures { MovingNumber amount work.old result work.new }
 {
-    match searching::move_search(work, amount) {
-        MoveReply::Moved(n) => n as u64,
-        MoveReply::Refused(q, second) => refusal(q, second),
-    }
+    write_number(searching::move_search(work, amount))
 }
 
 // Finishes the search that the work area holds; value: as chains_find.

@@ -23,19 +23,20 @@ use Rattle.states.specs.Spots.{front}
 use Rattle.forward.proofs.Firsts.{first-states}
 use Rattle.forward.proofs.Posing.{posed-tables}
 use Rattle.finder.specs.Promise.{stopped, settled, find_of}
+use Rattle.std.specs.Prelude.{Option as Maybe}
 use Rattle.finder.specs.Searching.{Searched, SearchedIn}
 
 pub posed-searched : {q : Asked} {pat : List ℕ} {plan : Plan} {from to : ℕ} {w : List ℕ} (posed : Posed q pat plan from to w)
-    → {program : List ℕ} {begin : ℕ} (compiled : Compiled q.pattern program begin) {word : ℕ} {out after : List ℕ}
-    → SearchedIn (setting_in program plan (front plan w)) plan (first_states plan begin from) to word out after
-    → Searched (solution q.day.lines q.day.places q.pattern from to) word out after
-posed-searched {q} {plan = plan} {from} {to} {w} posed {program} {begin} compiled {word} {out} {after} s =
+    → {program : List ℕ} {begin : ℕ} (compiled : Compiled q.pattern program begin) {long : Maybe ℕ} {out after : List ℕ}
+    → SearchedIn (setting_in program plan (front plan w)) plan (first_states plan begin from) to long out after
+    → Searched (solution q.day.lines q.day.places q.pattern from to) long out after
+posed-searched {q} {plan = plan} {from} {to} {w} posed {program} {begin} compiled {long} {out} {after} s =
     let S = setting_in program plan (front plan w) in
     let first = first-states program plan (length w) posed.laid (front plan w) begin from (λ k m. omega (arith, posed.planned.done-is, (compiled-start compiled k m).0)) in
-    let x = subst (λ firsts. SearchedIn S plan firsts to word out after) first s in
+    let x = subst (λ firsts. SearchedIn S plan firsts to long out after) first s in
     let found = loaded-ended q plan (length w) posed.planned posed.laid (front plan w) (posed-tables posed) posed.fit program begin compiled from to
     (expand S) (expand-law S) (from_state S) (from-law S) posed.from_low posed.to_low x.count x.ended in
-    subst (λ o. Searched o word out after) found x.searched
+    subst (λ o. Searched o long out after) found x.searched
 
 -- ---- the definition, by the questions' outcome
 

@@ -3,6 +3,8 @@
 use mathlib.Core.Path.{◌≡◌, refl, sym, ap, ◌∙◌, subst}
 use mathlib.Core.List.{List, [], ◌∷◌, ◌++◌}
 use mathlib.Core.Option.{Option, none, some}
+use Rattle.std.specs.Prelude.{Some, None}
+use Rattle.std.specs.Prelude.{Option as Maybe}
 use Prim.Native.Nat.{ℕ, zero, suc, ◌-◌, ◌<◌, ◌≤◌}
 use native.Mathlib.Omega.{arith}
 use lib.ListN.{length, drop}
@@ -39,8 +41,8 @@ module _ (S : Setting) (plan : Plan) (firsts : List ℕ) (to : ℕ) {r : ℕ} {w
   unfolding found table_after
   o_is = ap (λ (st : Search). forward (from_state S) plan.size plan.lines firsts st.dist) one.step.now-found
 
-  told : (x : Option (List ℕ)) → o ≡ x → (after : List ℕ) → Searched x word out after → SearchedIn S plan firsts to word out after
-  told x e after s = record { count = one.count; ended = one.ended; searched = subst (λ y. Searched y word out after) (sym e ∙ o_is) s }
+  told : (x : Option (List ℕ)) → o ≡ x → (long : Maybe ℕ) (after : List ℕ) → Searched x long out after → SearchedIn S plan firsts to long out after
+  told x e long after s = record { count = one.count; ended = one.ended; searched = subst (λ y. Searched y long out after) (sym e ∙ o_is) s }
 
   abbrev lines : List ℕ
   lines = walk (from_state S D) plan.lines (word - 1) 0 (loop (put D word) firsts (blank plan.size))
@@ -57,19 +59,19 @@ module _ (S : Setting) (plan : Plan) (firsts : List ℕ) (to : ℕ) {r : ℕ} {w
   lines_long : length lines ≡ word - 1
   lines_long = walk-long (from_state S D) plan.lines (word - 1) 0 (loop (put D word) firsts (blank plan.size))
 
-  pub told_none : word ≡ 0 → SearchedIn S plan firsts to word out out
-  told_none z = told none (none_found z) out record { word-is = z; after_is = refl }
+  pub told_none : word ≡ 0 → SearchedIn S plan firsts to None out out
+  told_none z = told none (none_found z) None out record { length-is = refl; after_is = refl }
 
-  pub told-long : 0 < word → length out < word - 1 → SearchedIn S plan firsts to word out out
+  pub told-long : 0 < word → length out < word - 1 → SearchedIn S plan firsts to (Some (word - 1)) out out
   told-long h less =
-      told (some lines) (found-by word is h) out record {
-        word-is = omega (arith, lines_long);
+      told (some lines) (found-by word is h) _ out record {
+        length-is = ap Some (sym lines_long);
         after_is = rw (lt-leb (length lines) (length out) (omega (arith, lines_long))) refl;
       }
 
-  pub told-written : 0 < word → word - 1 ≤ length out → (after : List ℕ) → after ≡ lines ++ drop (word - 1) out → SearchedIn S plan firsts to word out after
+  pub told-written : 0 < word → word - 1 ≤ length out → (after : List ℕ) → after ≡ lines ++ drop (word - 1) out → SearchedIn S plan firsts to (Some (word - 1)) out after
   told-written h fits after e =
-      told (some lines) (found-by word is h) after record {
-        word-is = omega (arith, lines_long);
+      told (some lines) (found-by word is h) _ after record {
+        length-is = ap Some (sym lines_long);
         after_is = rw (le-leb (length lines) (length out) (omega (arith, lines_long))) (e ∙ ap (λ n. lines ++ drop n out) (sym lines_long));
       }

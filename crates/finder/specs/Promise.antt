@@ -1,7 +1,8 @@
 -- What the finder promises (document 01, "Asking" and "After each reply"): `find_reply r ≡ said (find_of …)`, the output as `out_after`, the
 -- area as `work_after` of `meaning`, and `Demand3`, what the reply and the output say of accepted chains.
 -- `find_of` goes by the plain search; it takes only the lengths of work area and output, never their contents.
-use Rattle.std.specs.Prelude.{◌≡◌, cond, List, ◌++◌, ℕ, ◌<◌, ◌≤◌, leb, length, take, drop}
+use Rattle.std.specs.Prelude.{◌≡◌, cond, List, ◌++◌, ℕ, ◌<◌, ◌≤◌, leb, length, take, drop, Some, None, Result, Ok, Err}
+use Rattle.std.specs.Prelude.{Option as Maybe}
 use Rattle.std.proofs.Math.Option.{Option, none, some}
 use Rattle.meaning.specs.Outcome.{Outcome, refused, passed}
 use Rattle.meaning.specs.Record.{Day, read_record}
@@ -10,8 +11,8 @@ use Rattle.meaning.specs.Windows.{Options}
 use Rattle.meaning.specs.Chain.{Accepted, First}
 use Rattle.meaning.specs.Request.{Asked, ask_request}
 use Rattle.search.specs.Asked.{answer}
-use Rattle.finder.specs.declared.FindReply.{FindReply}
-use Rattle.finder.specs.declared.FindReply.TheVariants as Find
+use Rattle.refusals.specs.declared.OutputError.{OutputError}
+use Rattle.refusals.specs.OutputError.{number, second}
 
 -- a refusal at question 17 or before; none; a chain that fits the output; the length of one that doesn't (question 19)
 pub data Finding : Type 0 where
@@ -46,10 +47,10 @@ said nowhere = none_found
 said (chain c) = found (length c)
 said (too_long n) = refusal 19 n
 
-abbrev pub find_reply : FindReply → Said
-find_reply (Find.Found n) = found n
-find_reply Find.NoChain = none_found
-find_reply (Find.Refused number second) = refusal number second
+abbrev pub find_reply : Result (Maybe ℕ) OutputError → Said
+find_reply (Ok (Some n)) = found n
+find_reply (Ok None) = none_found
+find_reply (Err e) = refusal (number e) (second e)
 
 -- ---- the output (the work area is `work_after` of the questions up to 17, in `meaning`)
 

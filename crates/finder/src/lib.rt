@@ -15,19 +15,12 @@ ghost use Rattle.finder.specs.Promise.{find_reply, find_of, said, out_after};
 ghost use Rattle.finder.specs.Promise.{Demand3};
 ghost use Rattle.finder.specs.Searching.{told_by, SearchedIn, RightFor};
 
-use request::{Plan, Request};
+use refusals::OutputError;
+use request::Plan;
 use windows::Options;
 
-// What the finder says: the length of the chain that it wrote to the output, that there is none, or a refusal.
-#[derive(Clone, Copy)]
-pub enum FindReply {
-    Found(usize),
-    NoChain,
-    Refused(u8, usize),
-}
-
-// Both phases, in an area into which the record is loaded. Returns one more than the length of the first shortest chain, and 0
-// where there is none; the chain is written where the output holds it.
+// Both phases, in an area into which the record is loaded. Returns the length of the first shortest chain, where there is one; the chain is
+// written where the output holds it.
 fn both_phases(
     work: &mut [u32],
     plan: Plan,
@@ -36,7 +29,7 @@ fn both_phases(
     from: usize,
     to: usize,
     out: &mut [u16],
-) -> u32
+) -> Option<usize>
     requires fit { Fit plan program.now work.old }
     requires from_lt_places { (from < plan.places) × (to < plan.places) }
     ensures { SearchedIn (setting_at program.now plan work.old) plan (first_states plan begin from) to result out.old out.new }
@@ -44,14 +37,12 @@ fn both_phases(
     ways::file_lines(work, plan, program);
     backward::distances(work, plan, program, begin, from, to);
     let nearest = forward::nearest(work, plan, begin, from);
-    if nearest == 0 {
-        return nearest;
-    }
-    if out.len() < nearest as usize - 1 {
-        return nearest;
+    let length = nearest.checked_sub(1)? as usize;
+    if out.len() < length {
+        return Some(length);
     }
     walk::chain_into(work, plan, program, begin, from, nearest, out);
-    nearest
+    Some(length)
 }
 
 // The search of a request whose record is loaded. The pattern's automaton stands in this function's frame.
@@ -62,7 +53,7 @@ fn search_loaded(
     to: usize,
     work: &mut [u32],
     out: &mut [u16],
-) -> u32
+) -> Option<usize>
     requires { SomePosed pattern.now plan from to work.old }
     ensures { RightFor pattern.now plan from to work.old result out.old out.new }
 {
@@ -71,22 +62,19 @@ fn search_loaded(
     both_phases(work, plan, &program, begin, from, to, out)
 }
 
-// Question 19, one more than the chain's length being known, or 0 where there is none.
-pub fn answered(nearest: u32, room: usize) -> FindReply
-    ensures { find_reply result ≡ told_by nearest room }
+// Question 19, the chain's length being known, where there is a chain: is there room for it?
+pub fn answered(length: Option<usize>, room: usize) -> Result<Option<usize>, OutputError>
+    ensures { find_reply result ≡ told_by length room }
 {
-    if nearest == 0 {
-        return FindReply::NoChain;
+    match length {
+        Some(enough) if room < enough => Err(OutputError::TooSmall(enough)),
+        _ => Ok(length),
     }
-    let long = nearest as usize - 1;
-    if room < long {
-        return FindReply::Refused(19, long);
-    }
-    FindReply::Found(long)
 }
 
 // All questions, the search, and question 19: the first shortest chain that the pattern accepts from the first place to the second, of lines
-// inside the windows. The area stays untouched where a question up to 17 is answered no, and is all zeros after every other reply; the
+// inside the windows. Returns the length of the chain that was written to the output, or nothing where there is none. The area stays untouched
+// where a question up to 17 is answered no, and is all zeros after every other reply; the
 // output has the chain in front where one is found, and is untouched otherwise.
 pub fn find_with(
     day: &[u8],
@@ -96,21 +84,18 @@ pub fn find_with(
     options: Options,
     work: &mut [u32],
     out: &mut [u16],
-) -> FindReply
+) -> Result<Option<usize>, OutputError>
     ensures reply { find_reply result ≡ said (find_of day.now pattern.now from to (options_shown options) (length work.old) (length out.old)) }
     ensures workspace { work.new ≡ work_after (ask_request day.now pattern.now from to (options_shown options) (length work.old)) work.old }
     ensures output { out.new ≡ out_after (find_of day.now pattern.now from to (options_shown options) (length work.old) (length out.old)) out.old }
     ensures first_shortest { Demand3 day.now pattern.now from to (options_shown options) (length out.old) (find_reply result) out.new }
 {
     let mut numbers: [u16; 4096] = [0; 4096];
-    let asked = request::ask_request(day, pattern, from, to, options, work.len(), &mut numbers);
-    let Request::Asked(plan) = asked else {
-        return FindReply::Refused(asked.number(), 0);
-    };
+    let plan = request::ask_request(day, pattern, from, to, options, work.len(), &mut numbers)?;
     request::load(day, plan, &numbers, options, work);
-    let nearest = search_loaded(pattern, plan, from as usize, to as usize, work, out);
+    let length = search_loaded(pattern, plan, from as usize, to as usize, work, out);
     request::clear(work);
-    answered(nearest, out.len())
+    answered(length, out.len())
 }
 
 // The same for the whole day.
@@ -121,7 +106,7 @@ pub fn find(
     to: u16,
     work: &mut [u32],
     out: &mut [u16],
-) -> FindReply
+) -> Result<Option<usize>, OutputError>
     ensures reply { find_reply result ≡ said (find_of day.now pattern.now from to plain (length work.old) (length out.old)) }
     ensures workspace { work.new ≡ work_after (ask_request day.now pattern.now from to plain (length work.old)) work.old }
     ensures output { out.new ≡ out_after (find_of day.now pattern.now from to plain (length work.old) (length out.old)) out.old }

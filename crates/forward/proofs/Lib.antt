@@ -3,3 +3,4 @@ pub mod Bridge
 pub mod Posing
 pub mod Firsts
 pub mod Near
+pub mod Leading

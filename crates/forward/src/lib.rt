@@ -11,9 +11,10 @@ ghost use Rattle.graph.specs.PhaseTwo.{lesser_word, nearest_word};
 ghost use Rattle.states.specs.Pairs.{distances, ReadyForth, StepForth, seen};
 ghost use Rattle.states.specs.Spots.{front, Fit, next_turn};
 ghost use Rattle.forward.specs.Leads.{lead_in, SomeLead, Led};
-ghost use Rattle.forward.specs.Firsts.{first_states, near_turn};
+ghost use Rattle.forward.specs.Firsts.{first_states};
 
 use request::Plan;
+use states::Positions;
 
 // The state `t` is visited: it comes into the frontier if its distance's word is `want`; 0 wants every state.
 pub fn visit_state(work: &mut [u32], plan: Plan, want: u32, t: usize, tail: usize) -> usize
@@ -21,10 +22,7 @@ pub fn visit_state(work: &mut [u32], plan: Plan, want: u32, t: usize, tail: usiz
     requires laid { Laid plan (length work.old) × (t < plan.size) }
     ensures { StepForth plan (seen plan work.old want t) tail work.old result work.new }
 {
-    if want == 0 {
-        return area::push_if_new(work, plan.marks, plan.size, 1, t, tail);
-    }
-    if area::word(work, plan.base + t) == want {
+    if want == 0 || area::word(work, plan.base + t) == want {
         return area::push_if_new(work, plan.marks, plan.size, 1, t, tail);
     }
     tail
@@ -68,14 +66,11 @@ pub fn over_next(
     ensures { StepForth plan (turns (next_turn plan program.now mask (seen plan work.old want) to v) 0 (plan.done + 1)) tail work.old result work.new }
 {
     let mut t = tail;
-    let mut rest = mask;
-    while rest != 0 {
-        let k = states::lowest(rest);
+    for k in Positions(mask) {
         if plan.done < k {
             return t;
         }
         t = one_next(work, plan, program, want, to, v, k, t);
-        rest = states::rest_of(rest);
     }
     t
 }
@@ -136,41 +131,30 @@ pub fn from_state(
 // ---- the first states: those at the place `from`, at the positions of the mask `begin`
 
 // The lesser of two words, where 0 stands for no distance.
+#[tactic(auto, unfolding(graph::specs::PhaseTwo::lesser_word))]
 fn lesser(v: u32, w: u32) -> u32
     ensures { result ≡ lesser_word v w }
 {
-    if v == 0 {
-        return w;
+    match (v, w) {
+        (0, _) => w,
+        (_, 0) => v,
+        _ => v.min(w),
     }
-    if w == 0 {
-        return v;
-    }
-    if v < w { v } else { w }
 }
 
-// The word of the nearest first state, after position `k`.
-fn one_first(work: &[u32], plan: Plan, begin: u64, from: usize, k: usize, v: u32) -> u32
-    requires laid { Laid plan (length work.now) }
-    requires from_lt_places { (from < plan.places) × (k ≤ plan.done) }
-    ensures { result ≡ near_turn plan (distances plan work.now) begin from k v }
-{
-    if (begin >> k) % 2 == 1 {
-        let s = states::state_at(plan, from, k, 0);
-        return lesser(v, area::word(work, plan.base + s));
-    }
-    v
-}
-
-// The word of the nearest first state: those at the place `from`, at the positions of the mask `begin`. 0 where none has a distance.
+// The word of the nearest first state: those at the place `from`, at the positions of the mask `begin`. 0 where none has a distance. By a
+// `for`: in a chain of `filter`, `map` and `fold` it stays open that each position is in range.
 pub fn nearest(work: &[u32], plan: Plan, begin: u64, from: usize) -> u32
     requires laid { Laid plan (length work.now) }
     requires from_lt_places { from < plan.places }
     ensures { result ≡ nearest_word (distances plan work.now) (first_states plan begin from) }
 {
-    let positions = plan.done + 1;
     let mut v = 0;
-    for k in 0..positions {
-        v = one_first(work, plan, begin, from, k, v);
+    for k in 0..plan.done + 1 {
+        if (begin >> k) % 2 == 1 {
+            let s = states::state_at(plan, from, k, 0);
+            v = lesser(v, area::word(work, plan.base + s));
+        }
     }
     v
 }

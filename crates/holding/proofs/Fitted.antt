@@ -1,33 +1,18 @@
--- The plan by the numbers in front: its size and its base are said by them, so where the size is above the limit, or the area has too few words,
--- no plan fits. Assumes nothing.
+-- The plan by the numbers in front: where these are in range, the size is not above the limit and the area has the words, a plan can be made
+-- (`fitting-read`), and one with these numbers is the plan (`plan-is`). Assumes nothing.
 use mathlib.Core.Path.{◌≡◌, sym, ◌∙◌, subst, subst₂}
-use mathlib.Core.Bool.{false, false≢true}
 use mathlib.Core.List.{List}
-use Prim.Native.Nat.{ℕ, suc, ◌+◌, ◌*◌, ◌^◌, ◌<◌, ◌≤◌}
+use Prim.Native.Nat.{ℕ, ◌+◌, ◌*◌, ◌≤◌}
 use native.Mathlib.Numerals.{add-one}
 use native.Mathlib.Omega.{arith}
-use lib.Dec.{leb}
 use lib.ListN.{length}
-use borrow.Author.Tests.{le-leb}
 use Rattle.request.specs.Layout.{largest, boat_words, Laid, Fitting}
 use Rattle.request.specs.declared.Plan.{Plan}
 use Rattle.request.proofs.Sizes.{boats-in-radix}
 use Rattle.holding.specs.Holding.{tables_at, radix_in, places_in, lines_in, InRange, PlanIs}
-use Rattle.holding.specs.Plans.{size_for, base_for, size-for, base-for}
+use Rattle.holding.specs.Plans.{size_for, base_for}
 
 module _ (w : List ℕ) (done keeps : ℕ) where
-  -- the size by the numbers as they were read
-  pub size-read : (places radix : ℕ) → places ≡ places_in w → radix ≡ radix_in w → places * suc done * radix ^ keeps ≡ size_for w done keeps
-  size-read places radix e f = cc (e, f)
-
-  -- above the limit, or in too few words, none fits
-  pub none_above : leb (size_for w done keeps) largest ≡ false → (plan : Plan) → PlanIs w done keeps plan → ⊥
-  none_above h plan p = false≢true (sym h ∙ le-leb (size_for w done keeps) largest (omega (arith, size-for w done keeps plan p, p.laid.small)))
-
-  pub none-room : length w < base_for w done keeps + 4 * size_for w done keeps + (places_in w + 1 + lines_in w) → (plan : Plan) → PlanIs w done keeps plan → ⊥
-  none-room h plan p = omega (arith, h, size-for w done keeps plan p, base-for w done keeps plan p, p.room, p.places-are, p.lines_are)
-
-  -- otherwise a plan can be made
   module _ (range : InRange w) (few : done ≤ 63) (deep : keeps ≤ 3) (size : ℕ) (is : size ≡ size_for w done keeps) (small : size ≤ largest) (room : base_for w done keeps + 4 * size + (places_in w + 1 + lines_in w) ≤ length w) where
     fitting : Fitting (places_in w) (lines_in w) done keeps (radix_in w) size tables_at (length w)
     fitting =

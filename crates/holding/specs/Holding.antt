@@ -1,6 +1,6 @@
 -- What an area holds of a search between its calls: the numbers and the pattern in front, and what must hold of these and of the lines so that the
 -- search can be moved on (`Sound`). A check says yes exactly where that holds.
-use Rattle.std.specs.Prelude.{◌≡◌, List, [], ◌∷◌, map, ℕ, ◌+◌, ◌*◌, ◌%◌, ◌≤◌, ◌<◌, min, length, get_or}
+use Rattle.std.specs.Prelude.{◌≡◌, List, [], ◌∷◌, map, ℕ, ◌+◌, ◌*◌, ◌%◌, ◌≤◌, ◌<◌, min, length, get_or, Option, None, Some}
 use Rattle.meaning.specs.Outcome.{passed}
 use Rattle.meaning.specs.Pattern.{Pattern, unfolded, keeps, read_pattern, none_given}
 use Rattle.request.specs.Layout.{table_words, Laid, from_in, to_in}
@@ -9,9 +9,7 @@ use Rattle.search.specs.Loaded.{code_at, word_at}
 use Rattle.area.specs.Area.{stretch}
 use Rattle.states.specs.Spots.{front}
 use Rattle.holding.specs.declared.Counters.{Counters}
-use Rattle.holding.specs.declared.Planning.{Planning}
 use Rattle.holding.specs.declared.SearchState.{SearchState}
-use Rattle.holding.specs.declared.Taken.{Taken}
 
 -- ---- the words in front
 
@@ -103,9 +101,9 @@ pub record PlanIs (w : List ℕ) (done keeps : ℕ) (plan : Plan) : Type 0 where
   pub laid : Laid plan (length w)
   pub room : plan.base + 4 * plan.size + table_words plan.places plan.lines ≤ length w
 
-abbrev pub PlanRight : List ℕ → ℕ → ℕ → Planning → Type 0
-PlanRight w done keeps (Planning.Laid plan) = PlanIs w done keeps plan
-PlanRight w done keeps Planning.Altered = (plan : Plan) → PlanIs w done keeps plan → ⊥
+abbrev pub PlanRight : List ℕ → ℕ → ℕ → Option Plan → Type 0
+PlanRight w done keeps (Some plan) = PlanIs w done keeps plan
+PlanRight w done keeps None = (plan : Plan) → PlanIs w done keeps plan → ⊥
 
 -- and the pattern reads as one with so many
 pub record PlanOf (w pat : List ℕ) (plan : Plan) : Type 0 where
@@ -113,9 +111,9 @@ pub record PlanOf (w pat : List ℕ) (plan : Plan) : Type 0 where
   pub reads : read_pattern none_given pat ≡ passed tree
   pub is : PlanIs w (unfolded tree) (keeps tree) plan
 
-abbrev pub PlanRead : List ℕ → List ℕ → Planning → Type 0
-PlanRead w pat (Planning.Laid plan) = PlanOf w pat plan
-PlanRead w pat Planning.Altered = (plan : Plan) → PlanOf w pat plan → ⊥
+abbrev pub PlanRead : List ℕ → List ℕ → Option Plan → Type 0
+PlanRead w pat (Some plan) = PlanOf w pat plan
+PlanRead w pat None = (plan : Plan) → PlanOf w pat plan → ⊥
 
 -- ---- the search
 
@@ -128,9 +126,9 @@ pub record StateIs (plan : Plan) (w : List ℕ) (s : SearchState) : Type 0 where
   pub fits : OfPlan plan.size plan.lines s.at
   pub lines : LinesSound plan (front plan w)
 
-abbrev pub StateRight : Plan → List ℕ → Taken → Type 0
-StateRight plan w (Taken.Search s) = StateIs plan w s
-StateRight plan w Taken.Altered = (s : SearchState) → StateIs plan w s → ⊥
+abbrev pub StateRight : Plan → List ℕ → Option SearchState → Type 0
+StateRight plan w (Some s) = StateIs plan w s
+StateRight plan w None = (s : SearchState) → StateIs plan w s → ⊥
 
 pub record Sound (w pat : List ℕ) (s : SearchState) : Type 0 where
   pub range : InRange w
@@ -138,6 +136,6 @@ pub record Sound (w pat : List ℕ) (s : SearchState) : Type 0 where
   pub state : StateIs s.plan w s
 
 -- the search that is taken out is sound, and none is taken out only where none is
-abbrev pub TakenRight : List ℕ → List ℕ → Taken → Type 0
-TakenRight w pat (Taken.Search s) = Sound w pat s
-TakenRight w pat Taken.Altered = (s : SearchState) → Sound w pat s → ⊥
+abbrev pub TakenRight : List ℕ → List ℕ → Option SearchState → Type 0
+TakenRight w pat (Some s) = Sound w pat s
+TakenRight w pat None = (s : SearchState) → Sound w pat s → ⊥

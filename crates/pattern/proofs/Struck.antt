@@ -1,5 +1,5 @@
 -- The lines with those struck that may not be used: as many, and each by the test of its own number.
-use Rattle.std.specs.Prelude.{◌≡◌, refl, Bool, cond, List, [], ◌∷◌, ℕ, zero, suc, ◌+◌, ◌-◌, ◌<◌, length}
+use Rattle.std.specs.Prelude.{◌≡◌, refl, Bool, cond, List, [], ◌∷◌, ℕ, zero, suc, ◌+◌, ◌<◌, length}
 use Rattle.std.proofs.Common.{ap, arith}
 use Rattle.meaning.specs.Record.{Line}
 use Rattle.meaning.specs.Writing.{line_at}

@@ -2,7 +2,7 @@
 -- the same outcome, `pattern-step` that a pattern is its command and the patterns after it, with no bound to count down.
 -- `read-within` says where a pattern ends, `pattern-small` that it has at most 63 commands, as written and unfolded, and three keeps
 -- in each other. Laws of meaning's definitions. Assumes nothing.
-use Rattle.std.specs.Prelude.{ℕ, ◌-◌}
+use Rattle.std.specs.Prelude.{ℕ}
 use Rattle.meaning.specs.Outcome.{Outcome}
 use Rattle.meaning.specs.Pattern.{Outside, Part}
 

@@ -3,7 +3,7 @@
 -- that is struck), `first_by` (so the first of the ones is the first of the others), and what stays of each line (`masked-length`,
 -- `masked-at`, `masked-within`, `masked-boats`). Windows over the whole day strike no line: `whole-day-met`, `whole-day-accepts`.
 -- Used by the crates of the search, of the boats and of the request. Laws of meaning's definitions. Assumes nothing.
-use Rattle.std.specs.Prelude.{◌≡◌, true, ◌-◌, ◌≤◌}
+use Rattle.std.specs.Prelude.{◌≡◌, true, ◌≤◌}
 use Rattle.meaning.specs.Record.{Line, time_allowed}
 
 -- ---- windows over the whole day

@@ -1,6 +1,7 @@
 -- The automaton of a pattern in one array of 128 words, its program: for each position a word that packs its node, and the mask of the
 -- positions that may come after it. `packed-back`: a node that is packed is read back. `Compiled` is what the compiler promises.
 use Rattle.std.specs.Prelude.{◌≡◌, refl, Bool, true, false, cond, List, [], ◌∷◌, ◌↔◌, ℕ, zero, suc, ◌+◌, ◌*◌, ◌≤◌, ◌<◌, ◌^◌, ◌/◌, ◌%◌, eqb, length, get_or, set}
+use Rattle.std.specs.Int.{from_bool}
 use Rattle.std.proofs.Common.{sym, ap, ◌∙◌, subst, mod-lt, arith, length-set, get_or-set_same, get_or-set_other}
 use Rattle.meaning.specs.Pattern.{Pattern, same, other, sister, foreign, unfolded}
 use Rattle.lists.specs.Listed.{◌∈◌}
@@ -40,12 +41,8 @@ rule_of t =
     (cond (eqb t 4) Rule.Sister
     (cond (eqb t 5) Rule.Foreign Rule.Never))))
 
-abbrev pub bit : Bool → ℕ
-bit true = 1
-bit false = 0
-
 unfoldable pub packed : Row → ℕ
-packed x = x.kind + rule_code x.rule * 256 + x.level * 65536 + x.depth * 16777216 + bit x.push * 4294967296
+packed x = x.kind + rule_code x.rule * 256 + x.level * 65536 + x.depth * 16777216 + from_bool x.push * 4294967296
 
 unfoldable pub unpacked : ℕ → Row
 unpacked w = record { kind = w % 16; rule = rule_of (w / 256 % 16); level = w / 65536 % 4; depth = w / 16777216 % 4; push = eqb (w / 4294967296 % 2) 1 }
@@ -61,7 +58,7 @@ unfolding packed unpacked
 packed-back x h = λ i. record { kind = kind i; rule = rule i; level = level i; depth = depth i; push = push i }
   where
     w : ℕ
-    w = x.kind + rule_code x.rule * 256 + x.level * 65536 + x.depth * 16777216 + bit x.push * 4294967296
+    w = x.kind + rule_code x.rule * 256 + x.level * 65536 + x.depth * 16777216 + from_bool x.push * 4294967296
 
     few : (t : Rule) → rule_code t ≤ 15
     few Rule.Never = omega arith
@@ -94,14 +91,14 @@ packed-back x h = λ i. record { kind = kind i; rule = rule i; level = level i; 
     depth : w / 16777216 % 4 ≡ x.depth
     depth = omega (arith, h.kind, few x.rule, h.level, h.depth)
 
-    one : (b : Bool) → bit b ≤ 1
+    one : (b : Bool) → from_bool b ≤ 1
     one true = omega arith
     one false = omega arith
 
-    top : w / 4294967296 % 2 ≡ bit x.push
+    top : w / 4294967296 % 2 ≡ from_bool x.push
     top = omega (arith, h.kind, few x.rule, h.level, h.depth, one x.push)
 
-    is : (b : Bool) → eqb (bit b) 1 ≡ b
+    is : (b : Bool) → eqb (from_bool b) 1 ≡ b
     is true = refl
     is false = refl
 
@@ -161,7 +158,7 @@ pub record Put (c : ℕ) (x : Row) (mask : ℕ) (before now : List ℕ) : Type 0
   pub masks : (k : ℕ) → (k ≡ c → ⊥) → follow_at now k ≡ follow_at before k
 
 -- both words are set
-put-set : (a : List ℕ) (c : ℕ) (x : Row) (mask : ℕ) → 2 * c + 1 < length a → Packs x → Put c x mask a (set (set a (2 * c) (packed x)) (2 * c + 1) mask)
+pub put-set : (a : List ℕ) (c : ℕ) (x : Row) (mask : ℕ) → 2 * c + 1 < length a → Packs x → Put c x mask a (set (set a (2 * c) (packed x)) (2 * c + 1) mask)
 unfolding row_at follow_at
 put-set a c x mask h small =
     let b = set a (2 * c) (packed x) in

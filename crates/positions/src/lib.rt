@@ -1,20 +1,28 @@
 // A pattern's automaton in one array of 128 words, its program: for each position a word that packs its row, and the mask of the
 // positions that may come after it. The automaton as mathematics stands in crate automaton; crate compiler writes programs.
-#![tactic(auto)]
+#![tactic(auto, unfolding(crate::specs::Program::packed, crate::specs::Program::unpacked, crate::specs::Program::row_at, crate::specs::Program::follow_at))]
 
-ghost use Rattle.std.specs.Prelude.{◌≡◌, ◌<◌, length, set};
-ghost use Rattle.positions.specs.Program.{rule_code, rule_of, bit, packed, unpacked, Packs, row_at, follow_at, Put};
+ghost use Rattle.std.specs.Prelude.{◌≡◌, ◌<◌};
+ghost use Rattle.positions.specs.Program.{rule_code, rule_of, packed, unpacked, Packs, row_at, follow_at, Put};
 
 // What a position asks of a line's boat: nobody passes, everybody does, only the boat that is kept, all others, those of its class, or
-// those of another class.
-#[derive(Clone, Copy)]
+// those of another class. Each has the number that stands for it in a packed row.
+#[derive(Clone, Copy, Debug, PartialEq, Eq)]
 pub enum Rule {
-    Never,
-    Always,
-    Same,
-    Other,
-    Sister,
-    Foreign,
+    Never = 0,
+    Always = 1,
+    Same = 2,
+    Other = 3,
+    Sister = 4,
+    Foreign = 5,
+}
+
+impl From<Rule> for u8 {
+    ghost from_gives = { λ rule code. code ≡ rule_code rule };
+
+    fn from(rule: Rule) -> u8 {
+        rule as u8
+    }
 }
 
 // A position: its kind and rule, the stack level of the boat that the rule compares with, the stack's depth before it, and whether it
@@ -34,63 +42,39 @@ pub struct Row {
 pub fn code_of(rule: Rule) -> u8
     ensures { result ≡ rule_code rule }
 {
-    match rule {
-        Rule::Never => 0,
-        Rule::Always => 1,
-        Rule::Same => 2,
-        Rule::Other => 3,
-        Rule::Sister => 4,
-        Rule::Foreign => 5,
-    }
+    u8::from(rule)
 }
 
+// The rule of a number; a number of no rule lets nobody pass.
 fn rule_of(code: u64) -> Rule
     ensures { result ≡ rule_of code }
 {
-    if code == 1 {
-        return Rule::Always;
+    match code {
+        1 => Rule::Always,
+        2 => Rule::Same,
+        3 => Rule::Other,
+        4 => Rule::Sister,
+        5 => Rule::Foreign,
+        _ => Rule::Never,
     }
-    if code == 2 {
-        return Rule::Same;
-    }
-    if code == 3 {
-        return Rule::Other;
-    }
-    if code == 4 {
-        return Rule::Sister;
-    }
-    if code == 5 {
-        return Rule::Foreign;
-    }
-    Rule::Never
-}
-
-fn bit_of(b: bool) -> u8
-    ensures { result ≡ bit b }
-{
-    if b { 1 } else { 0 }
 }
 
 fn pack(row: Row) -> u64
     ensures { result ≡ packed row }
 {
-    let rule = row.rule;
-    let code = code_of(rule) as u64;
-    let push = bit_of(row.push) as u64;
-    row.kind as u64
-        + code * 256
-        + row.level as u64 * 65536
-        + row.depth as u64 * 16777216
-        + push * 4294967296
+    u64::from(row.kind)
+        + u64::from(u8::from(row.rule)) * 256
+        + u64::from(row.level) * 65536
+        + u64::from(row.depth) * 16777216
+        + u64::from(row.push) * 4294967296
 }
 
 fn unpack(word: u64) -> Row
     ensures { result ≡ unpacked word }
 {
-    let rule = rule_of(word / 256 % 16);
     Row {
         kind: (word % 16) as u8,
-        rule,
+        rule: rule_of(word / 256 % 16),
         level: (word / 65536 % 4) as u8,
         depth: (word / 16777216 % 4) as u8,
         push: word / 4294967296 % 2 == 1,
@@ -134,19 +118,11 @@ pub fn follow_at(program: &[u64; 128], c: usize) -> u64
     program[i]
 }
 
-// Word `i` becomes `v`; an array that is lent as a slice tells its length.
-fn put(words: &mut [u64], i: usize, v: u64)
-    requires { i < length words.old }
-    ensures { words.new ≡ set words.old i v }
-{
-    words[i] = v;
-}
-
 // The row and the mask of position `c` are written, of a row whose numbers fit their bits.
 pub fn put_row(program: &mut [u64; 128], c: usize, row: Row, follow: u64)
     requires { c < 64 }
     ensures { Packs row → Put c row follow program.old program.new }
 {
-    put(program, 2 * c, pack(row));
-    put(program, 2 * c + 1, follow);
+    program[2 * c] = pack(row);
+    program[2 * c + 1] = follow;
 }

@@ -1,21 +1,18 @@
--- The turns of `readout`'s loops, one by one: a state's mark noted, a mark made a line.
+-- A turn of `readout`'s loop over the states found: a state's mark is noted.
 use mathlib.Core.Path.{◌≡◌, refl, ap, ◌∙◌}
 use mathlib.Core.Bool.{Bool, true, false, cond, ◌&&◌}
-use mathlib.Core.List.{List, [], ◌∷◌, ◌++◌}
-use Prim.Native.Nat.{ℕ, zero, suc, ◌+◌, ◌*◌, ◌-◌, ◌%◌, ◌≤◌, ◌<◌}
-use native.Mathlib.Nat.{not-suc-le-zero, le_of_suc-le-suc}
+use mathlib.Core.List.{List}
+use Prim.Native.Nat.{ℕ, ◌+◌, ◌*◌, ◌-◌, ◌%◌, ◌≤◌, ◌<◌}
 use native.Mathlib.Omega.{arith}
 use lib.Dec.{ltb}
-use lib.ListN.{length, get_or, set, take, drop, get_or-map}
+use lib.ListN.{get_or, set, get_or-map}
 use borrow.Author.Tests.{lt-ltb, le-ltb}
 use Rattle.graph.specs.PhaseTwo.{lesser_word}
 use Rattle.request.specs.declared.Plan.{Plan}
 use Rattle.area.specs.Area.{stretch, found}
 use Rattle.area.proofs.Stretches.{stretch-get}
 use Rattle.states.specs.Pairs.{distances}
-use Rattle.readout.specs.Readout.{marks_low, queue_in, note_turn, lines_of}
-
--- ---- a state's mark is noted
+use Rattle.readout.specs.Readout.{marks_low, queue_in, note_turn}
 
 not-both : (b : Bool) (x y : List ℕ) → y ≡ cond (b && false) x y
 not-both true x y = refl
@@ -46,13 +43,3 @@ module _ (plan : Plan) (tail far : ℕ) (w : List ℕ) (j : ℕ) (out : List ℕ
       → set out i r ≡ note_turn plan tail far w j out
   unfolding note_turn
   note-here n l x ex i r ei er = rw (← es, ← ed, lt-ltb 0 d (omega arith), lt-ltb d far l, ← ex, ← ei, ← er)
-
--- ---- a mark is made a line
-
-lines-suc : (n : ℕ) (d : List ℕ) → n < length d → let e = lines_of (take n d) ++ drop n d in set e n (get_or e n 0 - 1) ≡ lines_of (take (suc n) d) ++ drop (suc n) d
-lines-suc n [] l = absurd (not-suc-le-zero l)
-lines-suc zero (x ∷ d) l = refl
-lines-suc (suc n) (x ∷ d) l = ap (λ (t : List ℕ). (x - 1) ∷ t) (lines-suc n d (le_of_suc-le-suc l))
-
-pub lines_more : (n : ℕ) (d : List ℕ) → n < length d → let e = lines_of (take n d) ++ drop n d in set e n (get_or e n 0 - 1) ≡ lines_of (take (n + 1) d) ++ drop (n + 1) d
-lines_more n d l = let e : n + 1 ≡ suc n = omega arith in rw e (lines-suc n d l)

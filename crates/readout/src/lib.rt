@@ -3,36 +3,22 @@
 // written; where a search stands in it, the output's front is the chain.
 #![tactic(auto)]
 
-ghost use Rattle.std.specs.Prelude.{◌≡◌, ◌++◌, ◌+◌, ◌*◌, ◌-◌, ◌≤◌, ◌<◌, length, take, drop, replicate};
+ghost use Rattle.std.specs.Prelude.{◌≡◌, ◌++◌, ◌+◌, ◌*◌, ◌-◌, ◌≤◌, ◌<◌, length, take, drop};
 ghost use Rattle.graph.specs.PhaseTwo.{lesser_word};
 ghost use Rattle.states.specs.Pairs.{RoomBack, GoodBack};
 ghost use Rattle.readout.specs.Readout.{note_turn, noted, lines_of, chain_of};
 
 use request::Plan;
 
-// The first `n` entries become 0.
-fn clear_front(out: &mut [u16], n: usize)
-    requires { n ≤ length out.old }
-    ensures { out.new ≡ replicate n 0 ++ drop n out.old }
-{
-    let mut i = 0;
-    while i < n {
-        out[i] = 0;
-        i += 1;
-    }
-}
-
 // The lesser of two marks, where 0 stands for none.
+#[tactic(auto, unfolding(graph::specs::PhaseTwo::lesser_word))]
 fn lesser(v: u16, w: u16) -> u16
     ensures { result ≡ lesser_word v w }
 {
-    if v == 0 {
-        return w;
+    match (v, w) {
+        (0, x) | (x, 0) => x,
+        _ => v.min(w),
     }
-    if w == 0 {
-        return v;
-    }
-    if v < w { v } else { w }
 }
 
 // The state at place `j` of the queue: its mark is noted for its level, if that is below `far`.
@@ -60,18 +46,9 @@ fn note_marks(work: &[u32], plan: Plan, tail: usize, far: usize, out: &mut [u16]
     requires far_in_bounds { far - 1 ≤ length out.old }
     ensures { GoodBack plan tail work.now → out.new ≡ noted plan tail far work.now out.old }
 {
-    let mut j = 0;
-    while j < tail {
+    for j in 0..tail {
         note_mark(work, plan, tail, far, j, out);
-        j += 1;
     }
-}
-
-// A mark's line.
-fn line_of(mark: u16) -> u16
-    ensures { result ≡ mark - 1 }
-{
-    if mark == 0 { 0 } else { mark - 1 }
 }
 
 // The first `n` entries, which are marks, become lines.
@@ -79,10 +56,8 @@ fn lines_of(out: &mut [u16], n: usize)
     requires { n ≤ length out.old }
     ensures { out.new ≡ lines_of (take n out.old) ++ drop n out.old }
 {
-    let mut i = 0;
-    while i < n {
-        out[i] = line_of(out[i]);
-        i += 1;
+    for mark in &mut out[..n] {
+        *mark = mark.saturating_sub(1);
     }
 }
 
@@ -92,8 +67,8 @@ pub fn chain_out(work: &[u32], plan: Plan, tail: usize, far: usize, out: &mut [u
     requires far_in_bounds { far - 1 ≤ length out.old }
     ensures { GoodBack plan tail work.now → out.new ≡ chain_of plan tail far work.now ++ drop (far - 1) out.old }
 {
-    let n = if far == 0 { 0 } else { far - 1 };
-    clear_front(out, n);
+    let n = far.saturating_sub(1);
+    out[..n].fill(0);
     note_marks(work, plan, tail, far, out);
     lines_of(out, n);
 }

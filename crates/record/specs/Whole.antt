@@ -1,12 +1,14 @@
 -- What a record that passes is made of, and how long it is. Assumes nothing.
-use Rattle.std.specs.Prelude.{◌≡◌, refl, true, ◌&&◌, List, [], ℕ, ◌+◌, ◌<◌, ◌≤◌, leb, eqb, length, drop, take}
+use Rattle.std.specs.Prelude.{◌≡◌, refl, true, ◌&&◌, List, [], ℕ, ◌+◌, ◌<◌, ◌≤◌, leb, eqb, length, drop, take, Ok, Err}
 use Rattle.std.proofs.Common.{sym, ap, ◌∙◌, subst, arith, length-drop, drop-drop, leb-true, le-leb}
 use Rattle.meaning.specs.Outcome.{Outcome, refused, passed}
 use Rattle.meaning.specs.Record.{Line, Day, byte, two, count_allowed, time_allowed, places_whole, lines_from, read_record}
 use Rattle.meaning.specs.Writing.{line_at}
-use Rattle.record.specs.Reading.{reading_told}
-use Rattle.record.specs.declared.Reading.TheVariants as Reading
-use Rattle.record.specs.Outcomes.{passed-inj, ask-passed, and_then-passed, and-true}
+use Rattle.record.specs.Reading.{counts_of}
+use Rattle.record.specs.declared.Counts.{Counts}
+use Rattle.refusals.specs.declared.Refusal.{Refusal}
+use Rattle.refusals.specs.Refusal.{number, outcome, mapped}
+use Rattle.record.specs.Outcomes.{passed-inj, not-both, ask-passed, and_then-passed, and-true}
 use Rattle.record.specs.Walk.{LineStands, widths, lines-many, lines-length, lines_at}
 
 -- the parts of a record that passes: the places command, and the walk over the lines
@@ -112,10 +114,10 @@ places-few s day h =
 
 -- ---- what a reading of the record says
 
-pub reading-refused : (o : Outcome Day) (number : ℕ) → Reading.Refused number ≡ reading_told o → o ≡ refused number
-reading-refused (refused q) number h = ap refused cc
-reading-refused (passed day) number h = absurd (let z : ◌≡◌ {A = ℕ} 0 1 = cc in omega arith)
+pub reading-refused : (o : Outcome Day) (e : Refusal) → outcome (Err e) ≡ mapped counts_of o → o ≡ refused (number e)
+reading-refused (refused q) e h = ap refused cc
+reading-refused (passed day) e h = absurd (not-both h)
 
-pub reading-passed : (o : Outcome Day) (places lines : ℕ) → Reading.Record places lines ≡ reading_told o → (day : Day) × (o ≡ passed day) × (places ≡ day.places) × (lines ≡ length day.lines)
-reading-passed (refused q) places lines h = absurd (let z : ◌≡◌ {A = ℕ} 0 1 = cc in omega arith)
-reading-passed (passed day) places lines h = (day, refl, cc, cc)
+pub reading-passed : (o : Outcome Day) (counts : Counts) → outcome (Ok counts) ≡ mapped counts_of o → (day : Day) × (o ≡ passed day) × (counts.places ≡ day.places) × (counts.lines ≡ length day.lines)
+reading-passed (refused q) counts h = absurd (not-both (sym h))
+reading-passed (passed day) counts h = let e = passed-inj h in (day, refl, ap (λ (c : Counts). c.places) e, ap (λ (c : Counts). c.lines) e)

@@ -2,17 +2,19 @@
 #![tactic(auto)]
 
 ghost use Rattle.std.specs.Prelude.{◌≡◌, suc, ◌+◌, ◌*◌, ◌<◌, ◌≤◌, length, drop, eqb};
-ghost use Rattle.meaning.specs.Outcome.{value, passed, told};
-ghost use Rattle.meaning.specs.Record.{byte, two, three, four, time_of, line_of, ask_line, time_allowed, line_entry, entry_at, lines_from, read_record};
-ghost use Rattle.meaning.specs.Record.{line as line-entry};
+ghost use Rattle.meaning.specs.Outcome.{ask, passed, told};
+ghost use Rattle.meaning.specs.Record.{byte, two, three, four, width, time_of, line_of, ask_line, time_allowed, line_entry, entry_at, lines_from, places_whole, read_record};
 ghost use Rattle.meaning.specs.Writing.{same_line, line_at, read_of};
 ghost use Rattle.record.specs.Whole.{lines_of};
 ghost use Rattle.record.specs.Cursor.{start_of};
 ghost use Rattle.record.specs.Promise.{line_reply, line_shown};
-ghost use Rattle.record.specs.Reading.{head_word, tail_word, untimed, time_shown, width_shown, written_shown, entry_number, reading_number, entry_told, closed_with, head_told, counted_with, reading_told};
+ghost use Rattle.record.specs.Reading.{head_word, tail_word, untimed, time_shown, width_shown, written_shown, entry_width, counts_of};
+ghost use Rattle.refusals.specs.Refusal.{outcome, mapped};
+
+use refusals::Refusal;
 
 // The five operands of a line.
-#[derive(Clone, Copy)]
+#[derive(Clone, Copy, Debug, PartialEq, Eq)]
 pub struct Line {
     pub from: u16,
     pub kind: u8,
@@ -22,11 +24,10 @@ pub struct Line {
 }
 
 // A line as it is written: its operands, and its time, seconds since midnight, where it is timed.
-#[derive(Clone, Copy)]
+#[derive(Clone, Copy, Debug, PartialEq, Eq)]
 pub struct Written {
     pub line: Line,
-    pub timed: bool,
-    pub time: u32,
+    pub time: Option<u32>,
 }
 
 // A line gone over, and the byte at which the next one begins.
@@ -43,62 +44,11 @@ pub struct Beside {
     pub next: usize,
 }
 
-// What reading a line back says: an untimed line, or a timed one with its time.
-#[derive(Clone, Copy)]
-pub enum LineReply {
-    Line(Line),
-    Timed(Line, u32),
-    Refused(u8, usize),
-}
-
-// The places command at the front of a record.
-#[derive(Clone, Copy)]
-pub enum Head {
-    Places(usize),
-    Wrong(u8),
-}
-
-// What stands at one byte after it, its questions asked: a line of so many bytes, the end, or the number of the question that fails.
-#[derive(Clone, Copy)]
-pub enum Entry {
-    Line(usize),
-    End,
-    Wrong(u8),
-}
-
-// A whole record, its questions asked: how many places and lines, or the number of the question that fails.
-#[derive(Clone, Copy)]
-pub enum Reading {
-    Record { places: usize, lines: usize },
-    Refused(u8),
-}
-
-impl Entry {
-    // The number of the question that failed, 0 where none did.
-    pub fn number(self) -> u8
-        ensures { result ≡ entry_number self }
-    {
-        match self {
-            Entry::Line(_) => 0,
-            Entry::End => 0,
-            Entry::Wrong(q) => q,
-        }
-    }
-}
-
-impl Reading {
-    // The number of the question that failed, 0 where none did.
-    pub fn number(self) -> u8
-        ensures { result ≡ reading_number self }
-    {
-        match self {
-            Reading::Record {
-                places: _,
-                lines: _,
-            } => 0,
-            Reading::Refused(q) => q,
-        }
-    }
+// A record that passes its questions: how many places and lines it has.
+#[derive(Clone, Copy, Debug, PartialEq, Eq)]
+pub struct Counts {
+    pub places: usize,
+    pub lines: usize,
 }
 
 // The limits of questions 1, 2, 22 and 28.
@@ -117,42 +67,34 @@ const LINE_BYTES: usize = 10;
 
 const TIMED_BYTES: usize = 14;
 
-// The command of a timed line.
+// The commands: the end, a line, a timed line.
+const END: u8 = 0;
+
+const LINE: u8 = 2;
+
 const TIMED: u8 = 3;
 
 // ---- numbers in bytes, the high byte first
-
-fn wide(x: u8) -> u16
-    ensures { (result ≡ x) × (result < 256) }
-{
-    x as u16
-}
 
 fn two_at(s: &[u8], i: usize) -> u16
     requires { i + 1 < length s.now }
     ensures { result ≡ two s.now i }
 {
-    let high = wide(s[i]);
-    let low = wide(s[i + 1]);
-    high * 256 + low
+    u16::from(s[i]) * 256 + u16::from(s[i + 1])
 }
 
 fn three_at(s: &[u8], i: usize) -> u32
     requires { i + 2 < length s.now }
     ensures { (result ≡ three s.now i) × (result < 16777216) }
 {
-    let high = two_at(s, i);
-    let low = wide(s[i + 2]);
-    high as u32 * 256 + low as u32
+    u32::from(two_at(s, i)) * 256 + u32::from(s[i + 2])
 }
 
 fn four_at(s: &[u8], i: usize) -> u32
     requires { i + 3 < length s.now }
     ensures { result ≡ four s.now i }
 {
-    let high = two_at(s, i);
-    let low = two_at(s, i + 2);
-    high as u32 * 65536 + low as u32
+    u32::from(two_at(s, i)) * 65536 + u32::from(two_at(s, i + 2))
 }
 
 // ---- a line in bytes
@@ -181,12 +123,12 @@ fn width_of(timed: bool) -> usize
     if timed { TIMED_BYTES } else { LINE_BYTES }
 }
 
-// The time of the line whose bytes s begins with, 0 where it is untimed.
-fn time_of(s: &[u8], timed: bool) -> u32
+// The time of the line whose bytes s begins with, if it is timed.
+fn time_of(s: &[u8], timed: bool) -> Option<u32>
     requires { (timed ≡ eqb (byte s.now 0) 3) × (width_shown timed ≤ length s.now) }
-    ensures { time_shown timed result ≡ time_of s.now }
+    ensures { time_shown result ≡ time_of s.now }
 {
-    if timed { four_at(s, 10) } else { 0 }
+    if timed { Some(four_at(s, 10)) } else { None }
 }
 
 // The line whose bytes s begins with. Whoever reads a line does it here.
@@ -196,141 +138,127 @@ fn written_of(s: &[u8], timed: bool) -> Written
 {
     let line = line_of(s);
     let time = time_of(s, timed);
-    Written { line, timed, time }
+    Written { line, time }
 }
 
 // ---- questions 1 to 7, 22 and 28
 
 // Question 28 of a time.
-fn in_the_day(timed: bool, time: u32) -> bool
-    ensures { result ≡ time_allowed (time_shown timed time) }
+fn in_the_day(time: Option<u32>) -> bool
+    ensures { result ≡ time_allowed (time_shown time) }
 {
-    if timed {
-        return time < DAY;
+    match time {
+        Some(second) => second < DAY,
+        None => true,
     }
-    true
 }
 
-// Questions 5, 6 and 28 of a line.
-pub fn line_asked(w: Written, places: usize) -> Entry
-    ensures { result ≡ entry_told (ask_line places (written_shown w) (passed (line-entry (written_shown w)))) }
+// Questions 5, 6 and 28 of a line. Returns how many bytes it has.
+pub fn line_asked(w: Written, places: usize) -> Result<usize, Refusal>
+    ensures { outcome result ≡ ask_line places (written_shown w) (passed (width (written_shown w))) }
 {
     let l = w.line;
-    if places <= l.from as usize {
-        return Entry::Wrong(5);
+    if places <= usize::from(l.from) {
+        return Err(Refusal::LinePlaceNotThere);
     }
-    if places <= l.to as usize {
-        return Entry::Wrong(5);
+    if places <= usize::from(l.to) {
+        return Err(Refusal::LinePlaceNotThere);
     }
     if l.kind == 0 {
-        return Entry::Wrong(6);
+        return Err(Refusal::LineKindOutOfRange);
     }
     if 15 < l.kind {
-        return Entry::Wrong(6);
+        return Err(Refusal::LineKindOutOfRange);
     }
-    if !in_the_day(w.timed, w.time) {
-        return Entry::Wrong(28);
+    if !in_the_day(w.time) {
+        return Err(Refusal::LineTimeOutOfRange);
     }
-    Entry::Line(width_of(w.timed))
+    Ok(width_of(w.time.is_some()))
 }
 
 // Questions 22, 4 to 6 and 28 of the line that s, the rest of a record, begins with, so many lines standing before it.
-fn line_entry(s: &[u8], timed: bool, places: usize, lines: usize) -> Entry
+fn line_entry(s: &[u8], timed: bool, places: usize, lines: usize) -> Result<Option<usize>, Refusal>
     requires { timed ≡ eqb (byte s.now 0) 3 }
-    ensures { result ≡ entry_told (line_entry places lines s.now) }
+    ensures { outcome result ≡ mapped entry_width (line_entry places lines s.now) }
 {
     if MOST_LINES <= lines {
-        return Entry::Wrong(22);
+        return Err(Refusal::RecordFull);
     }
     if s.len() < width_of(timed) {
-        return Entry::Wrong(4);
+        return Err(Refusal::LineCutShort);
     }
-    line_asked(written_of(s, timed), places)
+    let width = line_asked(written_of(s, timed), places)?;
+    Ok(Some(width))
 }
 
-// All questions at the first of the bytes s, the rest of a record, so many lines standing before it.
-fn entry_at(s: &[u8], places: usize, lines: usize) -> Entry
-    ensures { result ≡ entry_told (entry_at places lines s.now) }
+// All questions at the first of the bytes s, the rest of a record, so many lines standing before it. Returns how many bytes the line there has,
+// and nothing at the end.
+fn entry_at(s: &[u8], places: usize, lines: usize) -> Result<Option<usize>, Refusal>
+    ensures { outcome result ≡ mapped entry_width (entry_at places lines s.now) }
 {
-    if s.len() == 0 {
-        return Entry::Wrong(3);
+    if s.is_empty() {
+        return Err(Refusal::EntryNotKnown);
     }
-    let b = s[0];
-    if b == 0 {
+    let command = s[0];
+    if command == END {
         if s.len() == 1 {
-            return Entry::End;
+            return Ok(None);
         }
-        return Entry::Wrong(7);
+        return Err(Refusal::BytesAfterEnd);
     }
-    if b == 2 {
+    if command == LINE {
         return line_entry(s, false, places, lines);
     }
-    if b == TIMED {
+    if command == TIMED {
         return line_entry(s, true, places, lines);
     }
-    Entry::Wrong(3)
+    Err(Refusal::EntryNotKnown)
 }
 
-// What a record of so many places and lines read so far is, where the walk stops at an entry that is no line.
-fn closed(e: Entry, places: usize, lines: usize) -> Reading
-    ensures { result ≡ closed_with places lines e }
-{
-    match e {
-        Entry::Line(_) => Reading::Refused(3),
-        Entry::End => Reading::Record { places, lines },
-        Entry::Wrong(q) => Reading::Refused(q),
-    }
-}
-
-// The questions of all that stands after the places command.
-fn lines_from(day: &[u8], places: usize) -> Reading
+// The questions of all that stands after the places command. Returns how many lines there are.
+fn lines_from(day: &[u8], places: usize) -> Result<usize, Refusal>
     requires { (3 ≤ length day.now) × (length day.now ≤ 57348) }
-    ensures { result ≡ counted_with places 0 (lines_from (length day.now) places 0 (drop 3 day.now)) }
+    ensures { outcome result ≡ mapped length (lines_from (length day.now) places 0 (drop 3 day.now)) }
 {
-    let mut at: usize = FIRST_LINE;
-    let mut lines: usize = 0;
-    loop {
-        let e = entry_at(&day[at..], places, lines);
-        let Entry::Line(width) = e else {
-            return closed(e, places, lines);
-        };
+    let mut at = FIRST_LINE;
+    let mut lines = 0;
+    while let Some(width) = entry_at(&day[at..], places, lines)? {
         at += width;
         lines += 1;
     }
+    Ok(lines)
 }
 
-// Question 2.
-fn head_of(day: &[u8]) -> Head
-    ensures { result ≡ head_told day.now }
+// Question 2. Returns how many places there are.
+fn head_of(day: &[u8]) -> Result<usize, Refusal>
+    ensures { outcome result ≡ ask (places_whole day.now) 2 (passed (two day.now 1)) }
 {
     if day.len() < 3 {
-        return Head::Wrong(2);
+        return Err(Refusal::PlacesOutOfRange);
     }
     if day[0] != 1 {
-        return Head::Wrong(2);
+        return Err(Refusal::PlacesOutOfRange);
     }
     let count = two_at(day, 1);
     if count == 0 {
-        return Head::Wrong(2);
+        return Err(Refusal::PlacesOutOfRange);
     }
     if MOST_PLACES < count {
-        return Head::Wrong(2);
+        return Err(Refusal::PlacesOutOfRange);
     }
-    Head::Places(count as usize)
+    Ok(usize::from(count))
 }
 
 // All questions of a record.
-pub fn read_record(day: &[u8]) -> Reading
-    ensures { result ≡ reading_told (read_record day.now) }
+pub fn read_record(day: &[u8]) -> Result<Counts, Refusal>
+    ensures { outcome result ≡ mapped counts_of (read_record day.now) }
 {
     if LONGEST < day.len() {
-        return Reading::Refused(1);
+        return Err(Refusal::RecordTooLong);
     }
-    let head = head_of(day);
-    let Head::Places(places) = head else {
-        return Reading::Refused(2);
-    };
-    lines_from(day, places)
+    let places = head_of(day)?;
+    let lines = lines_from(day, places)?;
+    Ok(Counts { places, lines })
 }
 
 // ---- going over the lines
@@ -354,14 +282,14 @@ pub fn pass_line(day: &[u8], i: usize, at: usize) -> Met
 fn head_word(l: Line) -> u32
     ensures { result ≡ head_word (line_shown l) }
 {
-    l.from as u32 * 65536 + (l.kind as u32 * 256 + l.class as u32)
+    u32::from(l.from) * 65536 + (u32::from(l.kind) * 256 + u32::from(l.class))
 }
 
 // The sail number's two low bytes and the place that a line leads to, its bytes 6 to 9, as one number.
 fn tail_word(l: Line) -> u32
     ensures { result ≡ tail_word (line_shown l) }
 {
-    l.sail % 65536 * 65536 + l.to as u32
+    l.sail % 65536 * 65536 + u32::from(l.to)
 }
 
 // Are the operands of the line whose bytes s begins with, but for its time, those of l? Two words of four bytes and the byte between them are
@@ -376,8 +304,7 @@ fn same_operands(s: &[u8], l: Line) -> bool
     if four_at(s, 1) != head_word(l) {
         return false;
     }
-    let high = wide(s[5]);
-    high as u32 == l.sail / 65536
+    u32::from(s[5]) == l.sail / 65536
 }
 
 // Is the line whose bytes s begins with, timed or not, the line w? Timed and untimed lines go different ways, so that a loop over lines does not
@@ -387,15 +314,15 @@ fn same_line(s: &[u8], timed: bool, w: Written) -> bool
     ensures { result ≡ same_line (written_shown w) (line_of s.now) }
 {
     if timed {
-        if !w.timed {
+        let Some(time) = w.time else {
             return false;
-        }
-        if four_at(s, 10) != w.time {
+        };
+        if four_at(s, 10) != time {
             return false;
         }
         return same_operands(s, w.line);
     }
-    if w.timed {
+    if w.time.is_some() {
         return false;
     }
     same_operands(s, w.line)
@@ -420,40 +347,21 @@ fn line_at(day: &[u8], i: usize) -> Written
     requires { i < length (lines_of day.now) }
     ensures { written_shown result ≡ line_at (lines_of day.now) i }
 {
-    let mut at: usize = FIRST_LINE;
-    let mut k: usize = 0;
-    while k < i {
-        let met = pass_line(day, k, at);
-        at = met.next;
-        k += 1;
+    let mut at = FIRST_LINE;
+    for k in 0..i {
+        at = pass_line(day, k, at).next;
     }
-    let met = pass_line(day, i, at);
-    met.written
-}
-
-// A line as it is told, timed or not.
-fn told_line(w: Written) -> LineReply
-    ensures { line_reply result ≡ value (written_shown w) }
-{
-    let line = w.line;
-    if w.timed {
-        let time = w.time;
-        return LineReply::Timed(line, time);
-    }
-    LineReply::Line(line)
+    pass_line(day, i, at).written
 }
 
 // Reads line i back.
-pub fn read_line(day: &[u8], i: u16) -> LineReply
+pub fn read_line(day: &[u8], i: u16) -> Result<Written, Refusal>
     ensures { line_reply result ≡ told (read_of day.now i) }
 {
-    let whole = read_record(day);
-    let Reading::Record { places: _, lines } = whole else {
-        return LineReply::Refused(whole.number(), 0);
-    };
-    let n = i as usize;
-    if lines <= n {
-        return LineReply::Refused(18, 0);
+    let counts = read_record(day)?;
+    let n = usize::from(i);
+    if counts.lines <= n {
+        return Err(Refusal::LineNotThere);
     }
-    told_line(line_at(day, n))
+    Ok(line_at(day, n))
 }

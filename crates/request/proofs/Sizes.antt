@@ -1,13 +1,10 @@
 -- The search size by steps: a product that has passed the limit stays above it; and the boats' table against the size. Assumes nothing.
 use mathlib.Core.Path.{◌≡◌, sym, ap, ◌∙◌}
 use Prim.Native.Nat.{ℕ, zero, suc, ◌+◌, ◌*◌, ◌^◌, ◌<◌, ◌≤◌}
-use native.Mathlib.Nat.{pow-zero, pow-succ', mul-one, mul_assoc, mul_comm, mul-le-mul, mul-le-mul_left, one-le-pow, pow-le-pow_right}
+use native.Mathlib.Nat.{pow-succ', mul_assoc, mul_comm, mul-le-mul, mul-le-mul_left, one-le-pow, pow-le-pow_right}
 use native.Mathlib.Numerals.{add-one}
 use native.Mathlib.Omega.{arith}
 use Rattle.request.specs.Layout.{boat_words}
-
-pub size-start : (n r : ℕ) → n ≡ n * r ^ 0
-size-start n r = sym (ap (λ (x : ℕ). n * x) (pow-zero r) ∙ mul-one n)
 
 pub size_step : (n r k : ℕ) → n * r ^ k * r ≡ n * r ^ (k + 1)
 size_step n r k = mul_assoc n (r ^ k) r ∙ ap (λ (x : ℕ). n * x) (mul_comm (r ^ k) r ∙ sym (ap (λ (e : ℕ). r ^ e) (add-one k) ∙ pow-succ' r k))
@@ -15,10 +12,6 @@ size_step n r k = mul_assoc n (r ^ k) r ∙ ap (λ (x : ℕ). n * x) (mul_comm (
 -- more factors make it no less
 pub size-grows : (n r k m : ℕ) → 0 < r → k ≤ m → n * r ^ k ≤ n * r ^ m
 size-grows n r k m h le = mul-le-mul_left n (pow-le-pow_right h le)
-
--- where nothing is kept there is one stack, whatever the radix
-pub none_kept : (n r k : ℕ) → k ≡ 0 → n * 1 ^ 0 ≡ n * r ^ k
-none_kept n r k none = ap (λ (x : ℕ). n * x) (pow-zero 1 ∙ sym (ap (λ (e : ℕ). r ^ e) none ∙ pow-zero r))
 
 -- ---- the boats' table
 

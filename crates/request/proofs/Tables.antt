@@ -1,16 +1,15 @@
 -- Three stretches written end to end into an area: what the area then holds. Assumes nothing.
 use mathlib.Core.Path.{◌≡◌, sym, ap, ◌∙◌}
 use mathlib.Core.List.{List, ◌++◌, append_assoc}
-use Prim.Native.Nat.{ℕ, zero, suc, ◌+◌, ◌-◌, ◌≤◌}
+use Prim.Native.Nat.{ℕ, suc, ◌+◌, ◌-◌, ◌≤◌}
 use native.Mathlib.Omega.{arith}
-use lib.ListN.{length, take, drop, take-append-drop, length-drop, length-append}
+use lib.ListN.{length, take, drop, length-drop, length-append}
 use lib.Seq.{length-take-le, drop-drop, take_at, drop_at}
 use borrow.Rule.Slice.PartMut.{put_mid}
 use Rattle.meaning.specs.Record.{Line, boats}
 use Rattle.boats.specs.Codes.{codes}
 use Rattle.boats.proofs.Codes.{codes-length}
-use Rattle.boats.specs.Table.{boat_table}
-use Rattle.request.specs.Layout.{Laid, boat_words, boats_loaded, table-long, some_words}
+use Rattle.request.specs.Layout.{Laid, boat_words, boats_loaded, table-long}
 use Rattle.request.specs.declared.Plan.{Plan}
 
 -- a stretch written after what is written already
@@ -22,12 +21,6 @@ module _ (lead w xs : List ℕ) (b e : ℕ) (long : length lead ≡ b) (le : b �
       ∙ (ap (λ t. lead ++ (xs ++ drop (e - b) t)) (drop_at lead (drop b w) b long)
       ∙ (ap (λ t. lead ++ (xs ++ t)) (drop-drop (e - b) b w ∙ ap (λ n. drop n w) there) ∙ sym (append_assoc lead xs (drop e w))))
 
-module _ (lines : List Line) (radix : ℕ) where
-  -- where no boat is kept, no word is written for them
-  none-words : (k b c : ℕ) (w : List ℕ) → k ≡ 0 → c ≡ b + boat_words k radix → w ≡ take b w ++ (boats_loaded k lines ++ drop c w)
-  none-words zero b c w none at = let same : c ≡ b = omega (arith, at) in sym (ap (λ n. take b w ++ drop n w) same ∙ take-append-drop b w)
-  none-words (suc k) b c w none at = absurd (omega (arith, none))
-
 module _ (lines : List Line) (plan : Plan) (w : List ℕ) (l : Laid plan (length w)) where
   -- ---- the boats
 
@@ -37,23 +30,6 @@ module _ (lines : List Line) (plan : Plan) (w : List ℕ) (l : Laid plan (length
   -- what the area holds once they are written
   abbrev boated : List ℕ
   boated = take plan.boats w ++ (table ++ drop plan.codes w)
-
-  -- no boat is kept
-  pub none-loaded : plan.keeps ≡ 0 → w ≡ boated
-  none-loaded none = none-words lines plan.radix plan.keeps plan.boats plan.codes w none l.codes_at
-
-  module _ (some : plan.keeps ≡ 0 → ⊥) where
-    -- some are: their stretch has a word for each, and one
-    pub boats-long : length (take (plan.codes - plan.boats) (drop plan.boats w)) ≡ plan.radix
-    boats-long =
-        length-take-le (plan.codes - plan.boats) (drop plan.boats w) (omega (arith, l.words-at, l.base-at, l.room, length-drop plan.boats w))
-        ∙ omega (arith, l.codes_at, (some_words lines plan.radix plan.keeps some).1)
-
-    pub boats-loaded : put_mid plan.boats (plan.codes - plan.boats) w (boat_table lines) ≡ boated
-    boats-loaded =
-        let there : plan.boats + (plan.codes - plan.boats) ≡ plan.codes = omega (arith, l.codes_at) in
-        ap (λ t. take plan.boats w ++ (boat_table lines ++ t)) (drop-drop (plan.codes - plan.boats) plan.boats w ∙ ap (λ n. drop n w) there)
-        ∙ ap (λ t. take plan.boats w ++ (t ++ drop plan.codes w)) (sym (some_words lines plan.radix plan.keeps some).0)
 
   -- ---- the boat numbers and the lines
 

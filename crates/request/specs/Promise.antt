@@ -1,10 +1,9 @@
--- What asking for the words promises: document 01's number and values of each case of `WordsReply`.
+-- What asking for the words promises: document 01's number and values.
 -- `words_reply r ≡ told (words_of day pattern)` is the promise of the open function `words_needed`.
-use Rattle.std.specs.Prelude.{ℕ}
-use Rattle.meaning.specs.Outcome.{Reply, value, refusal}
-use Rattle.request.specs.declared.WordsReply.{WordsReply}
-use Rattle.request.specs.declared.WordsReply.TheVariants as Words
+use Rattle.std.specs.Prelude.{ℕ, Result}
+use Rattle.meaning.specs.Outcome.{Reply}
+use Rattle.refusals.specs.Refusal.{reply}
+use Rattle.refusals.specs.declared.Refusal.{Refusal}
 
-abbrev pub words_reply : WordsReply → Reply ℕ
-words_reply (Words.Words n) = value n
-words_reply (Words.Refused number second) = refusal number second
+abbrev pub words_reply : Result ℕ Refusal → Reply ℕ
+words_reply r = reply r

@@ -1,8 +1,8 @@
 -- A request that is answered, for the checker and the finder alike: what a request that passes says of its bytes and places (`asked-parts`),
 -- what is left to ask where the bytes are read (`asked_of`, `asked-late`),
--- and the cases of the code's enum against the outcome of questions 1 to 17 (`answers-refused`, `answers-asked`).
+-- and the cases of the code's result against the outcome of questions 1 to 17 (`answers-refused`, `answers-asked`).
 -- The same of a search that is begun: `search-parts`, `search-refused`, `search-asked`.
-use Rattle.std.specs.Prelude.{◌≡◌, refl, Bool, true, false, ◌&&◌, List, ℕ, suc, ◌+◌, ◌*◌, ◌<◌, ◌≤◌, length, replicate}
+use Rattle.std.specs.Prelude.{◌≡◌, refl, Bool, true, false, ◌&&◌, List, ℕ, suc, ◌+◌, ◌*◌, ◌<◌, ◌≤◌, length, replicate, Ok, Err}
 use Rattle.std.proofs.Common.{sym, ap, ◌∙◌, subst, arith, ltb-true, leb-true}
 use Rattle.std.proofs.Math.Dec.{ltb, leb}
 use Rattle.std.proofs.lemmas.List.{length-replicate}
@@ -11,12 +11,13 @@ use Rattle.meaning.specs.Record.{Day, boats, read_record}
 use Rattle.meaning.specs.Pattern.{Pattern, read_pattern, none_given}
 use Rattle.meaning.specs.Windows.{Options, windows_allowed}
 use Rattle.meaning.specs.Request.{Asked, size_of, need, ask_both, ask_request, search_need, ask_search}
-use Rattle.record.specs.Outcomes.{passed-inj, and-true, ask-passed, and_then-passed}
+use Rattle.record.specs.Outcomes.{passed-inj, not-both, and-true, ask-passed, and_then-passed}
 use Rattle.record.specs.Whole.{lines_in, lines_of}
 use Rattle.request.specs.Layout.{largest, table_words, Laid, Planned}
 use Rattle.request.specs.Asking.{ask_sized, Answers, AnswersSearch, tables}
 use Rattle.request.specs.declared.Plan.{Plan}
-use Rattle.request.specs.declared.Request.{Request}
+use Rattle.refusals.specs.Refusal.{number}
+use Rattle.refusals.specs.declared.Refusal.{Refusal}
 
 -- ---- a request that passes
 
@@ -123,13 +124,11 @@ module _ (rec pat : List ℕ) (from to : ℕ) (options : Options) (words : ℕ) 
       go true false v w q = omega arith
       go false u v w q = omega arith
 
--- ---- the enum's cases
+-- ---- the result's cases
 
-pub answers-refused : (o : Outcome Asked) (area : ℕ) (r : Request) (number : ℕ) → Answers o area r → r ≡ Request.Refused number → o ≡ refused number
-answers-refused (refused n) area r number a e = let same : Request.Refused n ≡ Request.Refused number = sym a ∙ e in ap refused cc
-answers-refused (passed q) area r number a e =
-    let same : Request.Asked a.0 ≡ Request.Refused number = sym a.1 ∙ e in
-    absurd (let z : ◌≡◌ {A = ℕ} 0 1 = cc in omega arith)
+pub answers-refused : (o : Outcome Asked) (area : ℕ) (e : Refusal) → Answers o area (Err e) → o ≡ refused (number e)
+answers-refused (refused n) area e a = ap refused cc
+answers-refused (passed q) area e (own, is, planned, laid) = absurd (let z : ◌≡◌ {A = ℕ} 0 1 = cc in omega arith)
 
 -- a plan that was told is that of what passed
 pub record Told (o : Outcome Asked) (area : ℕ) (plan : Plan) : Type 0 where
@@ -138,21 +137,16 @@ pub record Told (o : Outcome Asked) (area : ℕ) (plan : Plan) : Type 0 where
   pub planned : Planned asked plan
   pub laid : Laid plan area
 
-pub answers-asked : (o : Outcome Asked) (area : ℕ) (r : Request) (plan : Plan) → Answers o area r → r ≡ Request.Asked plan → Told o area plan
-answers-asked (refused n) area r plan a e =
-    let same : Request.Refused n ≡ Request.Asked plan = sym a ∙ e in
-    absurd (let z : ◌≡◌ {A = ℕ} 0 1 = cc in omega arith)
-answers-asked (passed q) area r plan (own, is, planned, laid) e =
-    let same : Request.Asked own ≡ Request.Asked plan = sym is ∙ e in
+pub answers-asked : (o : Outcome Asked) (area : ℕ) (plan : Plan) → Answers o area (Ok plan) → Told o area plan
+answers-asked (refused n) area plan a = absurd (not-both (sym a))
+answers-asked (passed q) area plan (own, is, planned, laid) =
     let plans : own ≡ plan = cc in
     record { asked = q; is = refl; planned = subst (Planned q) plans planned; laid = subst (λ (p : Plan). Laid p area) plans laid }
 
 -- the same of a search that is begun
-pub search-refused : (o : Outcome Asked) (area : ℕ) (r : Request) (number : ℕ) → AnswersSearch o area r → r ≡ Request.Refused number → o ≡ refused number
-search-refused (refused n) area r number a e = let same : Request.Refused n ≡ Request.Refused number = sym a ∙ e in ap refused cc
-search-refused (passed q) area r number a e =
-    let same : Request.Asked a.0 ≡ Request.Refused number = sym a.1 ∙ e in
-    absurd (let z : ◌≡◌ {A = ℕ} 0 1 = cc in omega arith)
+pub search-refused : (o : Outcome Asked) (area : ℕ) (e : Refusal) → AnswersSearch o area (Err e) → o ≡ refused (number e)
+search-refused (refused n) area e a = ap refused cc
+search-refused (passed q) area e (own, is, planned, laid, at, room) = absurd (let z : ◌≡◌ {A = ℕ} 0 1 = cc in omega arith)
 
 pub record ToldSearch (o : Outcome Asked) (area : ℕ) (plan : Plan) : Type 0 where
   pub asked : Asked
@@ -162,12 +156,9 @@ pub record ToldSearch (o : Outcome Asked) (area : ℕ) (plan : Plan) : Type 0 wh
   pub boats-at : plan.boats ≡ tables
   pub room : plan.base + 4 * plan.size + table_words plan.places plan.lines ≤ area
 
-pub search-asked : (o : Outcome Asked) (area : ℕ) (r : Request) (plan : Plan) → AnswersSearch o area r → r ≡ Request.Asked plan → ToldSearch o area plan
-search-asked (refused n) area r plan a e =
-    let same : Request.Refused n ≡ Request.Asked plan = sym a ∙ e in
-    absurd (let z : ◌≡◌ {A = ℕ} 0 1 = cc in omega arith)
-search-asked (passed q) area r plan (own, is, planned, laid, at, room) e =
-    let same : Request.Asked own ≡ Request.Asked plan = sym is ∙ e in
+pub search-asked : (o : Outcome Asked) (area : ℕ) (plan : Plan) → AnswersSearch o area (Ok plan) → ToldSearch o area plan
+search-asked (refused n) area plan a = absurd (not-both (sym a))
+search-asked (passed q) area plan (own, is, planned, laid, at, room) =
     let plans : own ≡ plan = cc in
     subst (ToldSearch (passed q) area) plans (record { asked = q; is = refl; planned = planned; laid = laid; boats-at = at; room = room })
 

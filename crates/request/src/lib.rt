@@ -10,15 +10,15 @@ ghost use Rattle.boats.specs.Table.{boat_table};
 ghost use Rattle.record.specs.Promise.{line_shown};
 ghost use Rattle.record.specs.Reading.{written_shown};
 ghost use Rattle.record.specs.Whole.{lines_of};
-ghost use Rattle.windows.specs.Promise.{options_shown};
-ghost use Rattle.windows.specs.Asked.{windows_in};
+ghost use Rattle.windows.specs.Promise.{windows_in, options_shown};
 ghost use Rattle.request.specs.Loading.{next_after, part_after};
 ghost use Rattle.request.specs.Layout.{largest, table_words, boat_words, Laid, Fitting, line_word, word_met, met_by, from_in, to_in, kind_in, boats_loaded, loaded_of};
 ghost use Rattle.request.specs.Promise.{words_reply};
-ghost use Rattle.request.specs.Asking.{BothTold, both_number, pattern_number, Small, sizing_told, measured_told, ask_sized, CountsTold, CountsNumbers, counting_number, ask_weight, weighing_told, weighing_number, Light, Answers, AnswersSearch, Numbers, request_number};
+ghost use Rattle.refusals.specs.Refusal.{outcome, mapped};
+ghost use Rattle.request.specs.Asking.{BothTold, Small, size_within, ask_sized, CountsTold, CountsNumbers, ask_weight, weight_of, Light, Answers, AnswersSearch, Numbers};
 
-use pattern::PatternReply;
-use record::{FIRST_LINE, Line, Reading, Written};
+use record::{FIRST_LINE, Line, Written};
+use refusals::Refusal;
 use windows::Options;
 
 // The largest search size.
@@ -35,7 +35,7 @@ pub const SCALE: usize = 4398046511104;
 
 // The numbers of a search, and where each of its tables begins in the work area. Numbers of one width stand together: the plan is passed by
 // value, and at 128 bytes or less it is copied without a call.
-#[derive(Clone, Copy)]
+#[derive(Clone, Copy, Debug, PartialEq, Eq)]
 pub struct Plan {
     pub places: usize,
     pub lines: usize,
@@ -74,137 +74,55 @@ pub struct Plan {
 // ---- the questions
 
 // A record and a pattern that pass their questions, by their counts.
-#[derive(Clone, Copy)]
-pub enum Both {
-    Read {
-        places: usize,
-        lines: usize,
-        unfolded: usize,
-        keeps: usize,
-    },
-    Refused(u8),
-}
-
-impl Both {
-    // The number of the question that failed, 0 where none did.
-    fn number(self) -> u8
-        ensures { result ≡ both_number self }
-    {
-        match self {
-            Both::Read {
-                places: _,
-                lines: _,
-                unfolded: _,
-                keeps: _,
-            } => 0,
-            Both::Refused(q) => q,
-        }
-    }
-}
-
-fn pattern_number(r: PatternReply) -> u8
-    ensures { result ≡ pattern_number r }
-{
-    match r {
-        PatternReply::Pattern {
-            commands: _,
-            unfolded: _,
-            keeps: _,
-        } => 0,
-        PatternReply::Refused(q, _) => q,
-    }
+#[derive(Clone, Copy, Debug, PartialEq, Eq)]
+pub struct Both {
+    pub places: usize,
+    pub lines: usize,
+    pub unfolded: usize,
+    pub keeps: usize,
 }
 
 // The questions of the record, then those of the pattern; what goes with the question has no part in them.
-fn ask_both(day: &[u8], pattern: &[u8]) -> Both
+fn ask_both(day: &[u8], pattern: &[u8]) -> Result<Both, Refusal>
     ensures both { BothTold day.now pattern.now result }
     ensures small { Small result }
 {
-    let whole = record::read_record(day);
-    let Reading::Record { places, lines } = whole else {
-        return Both::Refused(whole.number());
-    };
-    let tree = pattern::read_pattern(pattern);
-    let PatternReply::Pattern {
-        commands: _,
-        unfolded,
-        keeps,
-    } = tree
-    else {
-        return Both::Refused(pattern_number(tree));
-    };
-    Both::Read {
-        places,
-        lines,
-        unfolded,
-        keeps,
-    }
+    let record = record::read_record(day)?;
+    let tree = pattern::read_pattern(pattern)?;
+    Ok(Both {
+        places: record.places,
+        lines: record.lines,
+        unfolded: tree.unfolded,
+        keeps: tree.keeps,
+    })
 }
 
-// A search size up to the limit, or that it is above it.
-#[derive(Clone, Copy)]
-pub enum Sizing {
-    Size(usize),
-    Above,
-}
-
-// places × (unfolded count + 1) × radix to the power of keeps, step by step.
-pub fn size_of(places: usize, unfolded: usize, radix: usize, keeps: usize) -> Sizing
+// The search size, places × (unfolded count + 1) × radix to the power of keeps, step by step; none above the limit.
+pub fn size_of(places: usize, unfolded: usize, radix: usize, keeps: usize) -> Option<usize>
     requires { (places ≤ 1024) × (unfolded ≤ 63) × (0 < radix) × (radix ≤ 4097) }
-    ensures { result ≡ sizing_told (places * suc unfolded * radix ^ keeps) }
+    ensures { result ≡ size_within (places * suc unfolded * radix ^ keeps) }
 {
     let mut size = places * (unfolded + 1);
-    let mut k: usize = 0;
-    while k < keeps {
-        size = size * radix;
+    for _ in 0..keeps {
+        size *= radix;
         if LARGEST < size {
-            return Sizing::Above;
+            return None;
         }
-        k += 1;
     }
-    Sizing::Size(size)
+    Some(size)
 }
 
-// The different boats of a record and the search size, or that it is above the limit.
-#[derive(Clone, Copy)]
-pub enum Measured {
-    Size { boats: usize, size: usize },
-    Above,
-}
-
-// Question 16 of a record and a pattern, by their counts. Each line's boat gets its number.
-fn measure(
-    day: &[u8],
-    places: usize,
-    lines: usize,
-    unfolded: usize,
-    keeps: usize,
-    numbers: &mut [u16; 4096],
-) -> Measured
-    requires { (lines ≡ length (lines_of day.now)) × (places ≤ 1024) × (unfolded ≤ 63) }
-    ensures size { result ≡ measured_told (lines_of day.now) places unfolded keeps }
-    ensures numbered { take lines numbers.new ≡ codes (lines_of day.now) }
+// The same of a record and a pattern. Where nothing is kept there is one stack, whatever the boats, and they are not counted.
+fn sized(day: &[u8], both: Both) -> Option<usize>
+    requires { (both.lines ≡ length (lines_of day.now)) × (both.places ≤ 1024) × (both.unfolded ≤ 63) }
+    ensures { result ≡ size_within (both.places * suc both.unfolded * suc (length (boats (lines_of day.now))) ^ both.keeps) }
 {
-    let count = boats::number_boats(day, lines, numbers);
-    let boats = count.boats;
-    let sizing = size_of(places, unfolded, boats + 1, keeps);
-    let Sizing::Size(size) = sizing else {
-        return Measured::Above;
-    };
-    Measured::Size { boats, size }
-}
-
-// The same size alone. Where nothing is kept there is one stack, whatever the boats, and they are not counted.
-fn sized(day: &[u8], places: usize, lines: usize, unfolded: usize, keeps: usize) -> Sizing
-    requires { (lines ≡ length (lines_of day.now)) × (places ≤ 1024) × (unfolded ≤ 63) }
-    ensures { result ≡ sizing_told (places * suc unfolded * suc (length (boats (lines_of day.now))) ^ keeps) }
-{
-    if keeps == 0 {
-        return size_of(places, unfolded, 1, 0);
+    if both.keeps == 0 {
+        return size_of(both.places, both.unfolded, 1, 0);
     }
     let mut numbers: [u16; 4096] = [0; 4096];
-    let count = boats::number_boats(day, lines, &mut numbers);
-    size_of(places, unfolded, count.boats + 1, keeps)
+    let count = boats::number_boats(day, both.lines, &mut numbers);
+    size_of(both.places, both.unfolded, count.boats + 1, both.keeps)
 }
 
 // The words that a search of a size needs.
@@ -292,27 +210,8 @@ pub fn planned(
     }
 }
 
-// A request that passed questions 1 to 17, by its plan, or the number of the question that failed.
-#[derive(Clone, Copy)]
-pub enum Request {
-    Asked(Plan),
-    Refused(u8),
-}
-
-impl Request {
-    // The number of the question that failed, 0 where none did.
-    pub fn number(self) -> u8
-        ensures { result ≡ request_number self }
-    {
-        match self {
-            Request::Asked(_) => 0,
-            Request::Refused(q) => q,
-        }
-    }
-}
-
-// What questions 1 to 16 tell of a request: its numbers, with the different boats and one, and the search size.
-#[derive(Clone, Copy)]
+// What questions 1 to 16 tell of a request that passes them: its numbers, with the different boats and one, and the search size.
+#[derive(Clone, Copy, Debug, PartialEq, Eq)]
 pub struct Counts {
     pub places: usize,
     pub lines: usize,
@@ -320,25 +219,6 @@ pub struct Counts {
     pub keeps: usize,
     pub radix: usize,
     pub size: usize,
-}
-
-// A request that passed questions 1 to 16, by its counts, or the number of the question that failed.
-#[derive(Clone, Copy)]
-pub enum Counting {
-    Counted(Counts),
-    Refused(u8),
-}
-
-impl Counting {
-    // The number of the question that failed, 0 where none did.
-    fn number(self) -> u8
-        ensures { result ≡ counting_number self }
-    {
-        match self {
-            Counting::Counted(_) => 0,
-            Counting::Refused(q) => q,
-        }
-    }
 }
 
 // All questions up to 16. Where they pass, each line's boat has its number.
@@ -349,39 +229,27 @@ fn ask_counts(
     to: u16,
     options: Options,
     numbers: &mut [u16; 4096],
-) -> Counting
+) -> Result<Counts, Refusal>
     ensures counts { CountsTold (ask_sized day.now pattern.now from to (options_shown options)) result }
     ensures numbered { CountsNumbers (lines_of day.now) numbers.new result }
 {
-    let both = ask_both(day, pattern);
-    let Both::Read {
-        places,
-        lines,
-        unfolded,
-        keeps,
-    } = both
-    else {
-        return Counting::Refused(both.number());
-    };
-    if places <= from as usize {
-        return Counting::Refused(15);
-    }
-    if places <= to as usize {
-        return Counting::Refused(15);
+    let both = ask_both(day, pattern)?;
+    if both.places <= usize::from(from) || both.places <= usize::from(to) {
+        return Err(Refusal::AskedPlaceNotThere);
     }
     if !windows::allowed(options) {
-        return Counting::Refused(27);
+        return Err(Refusal::WindowOutOfRange);
     }
-    let measured = measure(day, places, lines, unfolded, keeps, numbers);
-    let Measured::Size { boats, size } = measured else {
-        return Counting::Refused(16);
-    };
-    Counting::Counted(Counts {
-        places,
-        lines,
-        unfolded,
-        keeps,
-        radix: boats + 1,
+    let count = boats::number_boats(day, both.lines, numbers);
+    let radix = count.boats + 1;
+    let sizing = size_of(both.places, both.unfolded, radix, both.keeps);
+    let size = sizing.ok_or(Refusal::SearchTooLarge)?;
+    Ok(Counts {
+        places: both.places,
+        lines: both.lines,
+        unfolded: both.unfolded,
+        keeps: both.keeps,
+        radix,
         size,
     })
 }
@@ -406,23 +274,19 @@ pub fn ask_request(
     options: Options,
     area: usize,
     numbers: &mut [u16; 4096],
-) -> Request
+) -> Result<Plan, Refusal>
     ensures answer { Answers (ask_request day.now pattern.now from to (options_shown options) area) area result }
     ensures numbered { Numbers (lines_of day.now) numbers.new result }
 {
-    let counting = ask_counts(day, pattern, from, to, options, numbers);
-    let Counting::Counted(counts) = counting else {
-        return Request::Refused(counting.number());
-    };
+    let counts = ask_counts(day, pattern, from, to, options, numbers)?;
     if area < words_for(counts.size) {
-        return Request::Refused(17);
+        return Err(Refusal::WorkAreaTooSmall);
     }
-    let plan = plan_at(counts, 0, area);
-    Request::Asked(plan)
+    Ok(plan_at(counts, 0, area))
 }
 
 // The same of a search that is begun: question 17 asks for three words more for each line, and the tables stand after what the search keeps
-// of itself.
+// of itself. One function for both would be no plainer: the words needed, the first word and what is promised of the plan differ.
 pub fn ask_search(
     day: &[u8],
     pattern: &[u8],
@@ -431,88 +295,51 @@ pub fn ask_search(
     options: Options,
     area: usize,
     numbers: &mut [u16; 4096],
-) -> Request
+) -> Result<Plan, Refusal>
     ensures answer { AnswersSearch (ask_search day.now pattern.now from to (options_shown options) area) area result }
     ensures numbered { Numbers (lines_of day.now) numbers.new result }
 {
-    let counting = ask_counts(day, pattern, from, to, options, numbers);
-    let Counting::Counted(counts) = counting else {
-        return Request::Refused(counting.number());
-    };
+    let counts = ask_counts(day, pattern, from, to, options, numbers)?;
     if area < search_words_for(counts.size, counts.lines) {
-        return Request::Refused(17);
+        return Err(Refusal::WorkAreaTooSmall);
     }
-    let plan = plan_at(counts, TABLES, area);
-    Request::Asked(plan)
+    Ok(plan_at(counts, TABLES, area))
 }
 
-// How many words of work area a request needs, or the number of the question that failed.
-#[derive(Clone, Copy)]
-pub enum WordsReply {
-    Words(usize),
-    Refused(u8, usize),
+// How many lines and which search size a record and a pattern have.
+#[derive(Clone, Copy, Debug, PartialEq, Eq)]
+pub struct Weight {
+    pub lines: usize,
+    pub size: usize,
 }
 
-// How many lines and which search size a record and a pattern have, whatever places are asked about: questions 1 to 14, 24, 25 and 16.
-#[derive(Clone, Copy)]
-pub enum Weighing {
-    Weighed { lines: usize, size: usize },
-    Refused(u8),
-}
-
-impl Weighing {
-    // The number of the question that failed, 0 where none did.
-    fn number(self) -> u8
-        ensures { result ≡ weighing_number self }
-    {
-        match self {
-            Weighing::Weighed { lines: _, size: _ } => 0,
-            Weighing::Refused(q) => q,
-        }
-    }
-}
-
-fn weigh(day: &[u8], pattern: &[u8]) -> Weighing
-    ensures weighed { result ≡ weighing_told (ask_weight day.now pattern.now) }
+// Both, whatever places are asked about: questions 1 to 14, 24, 25 and 16.
+fn weigh(day: &[u8], pattern: &[u8]) -> Result<Weight, Refusal>
+    ensures weighed { outcome result ≡ mapped weight_of (ask_weight day.now pattern.now) }
     ensures light { Light result }
 {
-    let both = ask_both(day, pattern);
-    let Both::Read {
-        places,
-        lines,
-        unfolded,
-        keeps,
-    } = both
-    else {
-        return Weighing::Refused(both.number());
-    };
-    let sizing = sized(day, places, lines, unfolded, keeps);
-    let Sizing::Size(size) = sizing else {
-        return Weighing::Refused(16);
-    };
-    Weighing::Weighed { lines, size }
+    let both = ask_both(day, pattern)?;
+    let size = sized(day, both).ok_or(Refusal::SearchTooLarge)?;
+    Ok(Weight {
+        lines: both.lines,
+        size,
+    })
 }
 
 // The words that a record and a pattern need, whatever places are asked about: questions 1 to 14, 24, 25 and 16.
-pub fn words_needed(day: &[u8], pattern: &[u8]) -> WordsReply
+pub fn words_needed(day: &[u8], pattern: &[u8]) -> Result<usize, Refusal>
     ensures { words_reply result ≡ told (words_of day.now pattern.now) }
 {
-    let weighing = weigh(day, pattern);
-    let Weighing::Weighed { lines: _, size } = weighing else {
-        return WordsReply::Refused(weighing.number(), 0);
-    };
-    WordsReply::Words(words_for(size))
+    let weight = weigh(day, pattern)?;
+    Ok(words_for(weight.size))
 }
 
 // The same of a search that is begun.
-pub fn search_words(day: &[u8], pattern: &[u8]) -> WordsReply
+pub fn search_words(day: &[u8], pattern: &[u8]) -> Result<usize, Refusal>
     ensures { words_reply result ≡ told (search_words_of day.now pattern.now) }
 {
-    let weighing = weigh(day, pattern);
-    let Weighing::Weighed { lines, size } = weighing else {
-        return WordsReply::Refused(weighing.number(), 0);
-    };
-    WordsReply::Words(search_words_for(size, lines))
+    let weight = weigh(day, pattern)?;
+    Ok(search_words_for(weight.size, weight.lines))
 }
 
 // ---- the work area
@@ -521,18 +348,14 @@ pub fn search_words(day: &[u8], pattern: &[u8]) -> WordsReply
 pub fn clear(work: &mut [u32])
     ensures { work.new ≡ replicate (length work.old) 0 }
 {
-    let mut i: usize = 0;
-    while i < work.len() {
-        work[i] = 0;
-        i += 1;
-    }
+    work.fill(0);
 }
 
 // A line's from, to and kind in one word.
 fn line_word(l: Line) -> u32
     ensures { result ≡ line_word (line_shown l) }
 {
-    l.from as u32 * 16384 + l.to as u32 * 16 + l.kind as u32
+    u32::from(l.from) * 16384 + u32::from(l.to) * 16 + u32::from(l.kind)
 }
 
 // The place that a line comes from, the place that it leads to, and its kind, by its word. Whoever reads a line's word does it here.
@@ -555,15 +378,15 @@ pub fn kind_of(word: u32) -> usize
 }
 
 // The word of a line as the search meets it: one outside its kind's window has kind 0.
-fn word_met<'a>(w: Written, opens: &'a [u32; 15], closes: &'a [u32; 15]) -> u32
+fn word_met(w: Written, options: &Options) -> u32
     requires { (1 ≤ w.line.kind) × (w.line.kind ≤ 15) }
-    ensures { result ≡ word_met (windows_in opens.now closes.now) (written_shown w) }
+    ensures { result ≡ word_met (windows_in options.now.windows) (written_shown w) }
 {
     let word = line_word(w.line);
-    if windows::inside(w, opens, closes) {
+    if windows::inside(w, options) {
         return word;
     }
-    word - w.line.kind as u32
+    word - u32::from(w.line.kind)
 }
 
 // The lines, a word each, as the search meets them.
@@ -572,20 +395,11 @@ fn load_lines(day: &[u8], options: Options, part: &mut [u32])
     ensures { part.new ≡ map line_word (met_by (options_shown options).windows (lines_of day.now)) }
 {
     let mut at: usize = FIRST_LINE;
-    let mut i: usize = 0;
-    while i < part.len() {
+    for (i, word) in part.iter_mut().enumerate() {
         let met = record::pass_line(day, i, at);
-        part[i] = word_met(met.written, &options.opens, &options.closes);
+        *word = word_met(met.written, &options);
         at = met.next;
-        i += 1;
     }
-}
-
-// A boat number as a word.
-fn number_word(x: u16) -> u32
-    ensures { result ≡ x }
-{
-    x as u32
 }
 
 // Each line's boat number.
@@ -593,10 +407,8 @@ fn load_codes(numbers: &[u16], part: &mut [u32])
     requires { length part.old ≤ length numbers.now }
     ensures { part.new ≡ take (length part.old) numbers.now }
 {
-    let mut i: usize = 0;
-    while i < part.len() {
-        part[i] = number_word(numbers[i]);
-        i += 1;
+    for (i, word) in part.iter_mut().enumerate() {
+        *word = u32::from(numbers[i]);
     }
 }
 
@@ -605,7 +417,7 @@ fn load_boat(boat: u32, number: u16, part: &mut [u32], next: usize) -> usize
     requires { number < length part.old }
     ensures { (result ≡ next_after number next) × (part.new ≡ part_after number next boat part.old) }
 {
-    if number as usize == next {
+    if usize::from(number) == next {
         part[next] = boat;
         return next + 1;
     }
@@ -621,12 +433,10 @@ fn load_boats(day: &[u8], lines: usize, numbers: &[u16], part: &mut [u32])
     part[0] = 0;
     let mut next: usize = 1;
     let mut at: usize = FIRST_LINE;
-    let mut i: usize = 0;
-    while i < lines {
+    for i in 0..lines {
         let passed = record::pass_line(day, i, at);
         next = load_boat(boats::boat_of(passed.written.line), numbers[i], part, next);
         at = passed.next;
-        i += 1;
     }
 }
 

@@ -1,20 +1,30 @@
-// Printing: what every table needs.
+// Printing: what every table needs. What cannot be printed is left out.
+use std::fmt::{self, Display};
 
-// What cannot be printed is left out.
-pub fn text(rt: &impl Print, s: &[u8]) {
-    let _ = rt.write_all(s);
+// Bytes that need not be text.
+pub fn bytes(rt: &impl Print, bytes: &[u8]) {
+    let _ = rt.write_all(bytes);
 }
 
-pub fn number(rt: &impl Print, n: usize) {
-    let _ = rt.print(n);
+// A value.
+pub fn part(rt: &impl Print, value: impl Display + Drop) {
+    let _ = rt.print(value);
 }
 
-// A refusal: its number, and the second number where it is not 0.
-pub fn refused(rt: &impl Print, q: u8, second: usize) {
-    text(rt, b"refused ");
-    number(rt, q as usize);
-    if second != 0 {
-        text(rt, b" with ");
-        number(rt, second);
+// A value, and the end of a line.
+pub fn line(rt: &impl Print, value: impl Display + Drop) {
+    let _ = rt.println(value);
+}
+
+// Numbers, each after a space.
+#[derive(Drop)]
+pub struct Each<'a, N>(pub &'a [N]);
+
+impl<N: Display> Display for Each<'_, N> {
+    fn fmt<W: fmt::Write>(&self, f: &mut fmt::Formatter<W>) -> fmt::Result {
+        for n in self.0 {
+            write!(f, " {n}")?;
+        }
+        Ok(())
     }
 }

@@ -1,40 +1,41 @@
 // The work area that a row lends, and what a reply leaves of it.
-ghost use Rattle.std.specs.Prelude.{◌≡◌, ◌≤◌, length};
+ghost use Rattle.std.specs.Prelude.{◌≡◌, length, min};
 
-use crate::print;
+use std::fmt;
 
-// 16,384 words that are 7.
-pub fn lent() -> [u32; 16384]
-    ensures { 16384 ≡ length result }
-{
-    [7; 16384]
-}
+// 16,384 words, which are 7 before a reply.
+#[derive(Drop)]
+pub struct WorkArea([u32; 16384]);
 
-// A number of words, or all that an area has where those are fewer.
-pub fn at_most(n: usize, work: &[u32]) -> usize
-    ensures { result ≤ length work.now }
-{
-    if n <= work.len() { n } else { work.len() }
-}
-
-// How many words are v.
-fn count(work: &[u32], v: u32) -> usize {
-    let mut n: usize = 0;
-    let mut i: usize = 0;
-    while i < work.len() {
-        if work[i] == v {
-            n = std::num::wrapping_add_usize(n, 1);
-        }
-        i += 1;
+impl WorkArea {
+    pub fn new() -> WorkArea {
+        WorkArea([7; 16384])
     }
-    n
+
+    // So many of its words, or all where those are fewer.
+    pub fn words(&mut self, n: usize) -> &mut [u32]
+        ensures { length result.now ≡ min n 16384 }
+    {
+        lent(&mut self.0, n)
+    }
+
+    // How many words are v.
+    fn count(&self, v: u32) -> usize {
+        self.0.iter().filter(|word| **word == v).count()
+    }
 }
 
-// How many words of an area are still 7, and how many are 0.
-pub fn left(rt: &impl Print, work: &[u32]) {
-    print::text(rt, b", ");
-    print::number(rt, count(work, 7));
-    print::text(rt, b" kept, ");
-    print::number(rt, count(work, 0));
-    print::text(rt, b" zero");
+// How many words are still 7, and how many are 0.
+impl fmt::Display for WorkArea {
+    fn fmt<W: fmt::Write>(&self, f: &mut fmt::Formatter<W>) -> fmt::Result {
+        write!(f, "{} kept, {} zero", self.count(7), self.count(0))
+    }
+}
+
+// So many of the items, or all where those are fewer.
+pub fn lent<T>(items: &mut [T], n: usize) -> &mut [T]
+    ensures { length result.now ≡ min n (length items.old) }
+{
+    let n = n.min(items.len());
+    &mut items[..n]
 }

@@ -1,16 +1,18 @@
 -- A search that was left in the area and moved on there: how many states were taken up, and that the area is what it is to be then (`moved_in`); and
 -- that what is read out at the end is the answer (`finished-in`). Assumes nothing.
 use mathlib.Core.Path.{◌≡◌, refl, sym, ap, ◌∙◌, subst}
-use mathlib.Core.Bool.{Bool, true, false, cond, ◌&&◌}
+use mathlib.Core.Bool.{Bool, true, false, cond}
 use mathlib.Core.List.{List, ◌++◌}
 use mathlib.Core.Logic.{◌⊎◌, inl, inr, ⊎_elim}
 use mathlib.Core.Option.{none, some}
+use Rattle.std.specs.Prelude.{Some, None}
+use Rattle.std.specs.Prelude.{Option as Maybe}
 use Prim.Native.Nat.{ℕ, zero, suc, ◌+◌, ◌*◌, ◌-◌, ◌<◌, ◌≤◌, min}
 use native.Mathlib.Omega.{arith}
 use native.Mathlib.Decide.{dec_lt}
-use lib.Dec.{eqb, ltb, leb}
+use lib.Dec.{eqb, leb}
 use lib.ListN.{length, get_or, drop}
-use borrow.Author.Tests.{eqb-true, lt-ltb}
+use borrow.Author.Tests.{eqb-true}
 use Rattle.meaning.specs.Windows.{Options}
 use Rattle.meaning.specs.Request.{Asked, size_of}
 use Rattle.positions.specs.Program.{Compiled}
@@ -25,34 +27,27 @@ use Rattle.holding.specs.Holding.{Sound}
 use Rattle.holding.specs.declared.SearchState.{SearchState}
 use Rattle.tracing.specs.Tracing.{reached_in}
 use Rattle.area.specs.Area.{found}
-use Rattle.readout.specs.Readout.{chain_of}
 use Rattle.readout.specs.Low.{chain-low}
 use Rattle.readout.proofs.Chains.{chain-long}
 use Rattle.stepping.specs.Stepping.{underway_in, MovedOn}
 use Rattle.stepping.specs.declared.Going.{Going}
 use Rattle.searching.specs.Promise.{search_at, held_in, Left}
-use Rattle.searching.specs.Searching.{ReadOut}
+use Rattle.searching.specs.Searching.{length_by, put_out, ReadOut}
 use Rattle.searching.specs.Words.{Stretched, stretched-held}
 use Rattle.searching.specs.Theorems.{Proper, at-standing, at-sized, at-marks, takes_one, ends_by, end_stays, finish-is-find}
 use Rattle.searching.proofs.Bridge.{left-short, left-proper, left-room, left-stretched, left-planned, left-size, left-base, left-underway, left-taken, sound-standing, left-searched}
 use Rattle.searching.proofs.Moving.{put_back, put-long, moved-stretched}
 
--- ---- what is said of a chain by one number
+-- ---- what is said of a chain by its length
 
--- where b holds there is the chain c, and the number is one more than its length; else there is none
-told : (b : Bool) (far : ℕ) (c out after : List ℕ) (r : ℕ) → length c ≡ far - 1 → (b ≡ true → 0 < far) → r ≡ cond b far 0
-    → after ≡ cond (ltb 0 r && leb (r - 1) (length out)) (c ++ drop (r - 1) out) out → Searched (cond b (some c) none) r out after
-told false far c out after r long some-far is written = record { word-is = is; after_is = written ∙ ap (λ (n : ℕ). cond (ltb 0 n && leb (n - 1) (length out)) (c ++ drop (n - 1) out) out) is }
-told true far c out after r long some-far is written =
-    let low = some-far refl in
-    record {
-      word-is = is ∙ omega (arith, long, low);
-      after_is =
-          written
-          ∙ (ap (λ (n : ℕ). cond (ltb 0 n && leb (n - 1) (length out)) (c ++ drop (n - 1) out) out) is
-          ∙ (ap (λ (t : Bool). cond (t && leb (far - 1) (length out)) (c ++ drop (far - 1) out) out) (lt-ltb 0 far low)
-          ∙ (ap (λ (n : ℕ). cond (leb n (length out)) (c ++ drop n out) out) (sym long) ∙ fits (leb (length c) (length out)))));
-    }
+-- where b holds there is the chain c, and its length is the word's; else there is none
+told : (b : Bool) (far : ℕ) (c out after : List ℕ) (r : Maybe ℕ) → length c ≡ far - 1 → (b ≡ true → 0 < far) → r ≡ cond b (length_by far) None
+    → after ≡ put_out r c out → Searched (cond b (some c) none) r out after
+told false far c out after r long some-far is written = record { length-is = is; after_is = written ∙ ap (λ x. put_out x c out) is }
+told true zero c out after r long some-far is written = absurd (omega (arith, some-far refl))
+told true (suc n) c out after r long some-far is written =
+    let same : r ≡ Some (length c) = is ∙ ap Some (omega (arith, long)) in
+    record { length-is = same; after_is = written ∙ (ap (λ x. put_out x c out) same ∙ fits (leb (length c) (length out))) }
   where
     fits : (t : Bool) → cond t (c ++ drop (length c) out) out ≡ out_after (cond t (chain c) (too_long (length c))) out
     fits true = refl
@@ -155,7 +150,7 @@ module _ {rec pat : List ℕ} {from to : ℕ} {options : Options} {asked : Asked
     said : outcome (succs S) lines u ≡ answer asked from to
     said = ap (outcome (succs S) lines) now-is ∙ finish-is-find q from to (left-proper left) N ended
 
-    pub finished-in : {out : List ℕ} {r : ℕ} {after : List ℕ} → ReadOut g.state v out r after → Searched (answer asked from to) r out after
+    pub finished-in : {out : List ℕ} {r : Maybe ℕ} {after : List ℕ} → ReadOut g.state v out r after → Searched (answer asked from to) r out after
     unfolding outcome underway_in reached_in found
     finished-in {out} {r} {after} read =
         let p = g.state.plan in
@@ -167,15 +162,8 @@ module _ {rec pat : List ℕ} {from to : ℕ} {options : Options} {asked : Asked
         let far_some : eqb at.phase 1 ≡ true → 0 < at.far =
         λ e. subst (0 <◌) (sym (ap (λ (x : Underway). x.far) now-is)) ((at-standing q from to (left-proper left) N).forth (sym (ap (λ (x : Underway). x.phase) now-is) ∙ eqb-true at.phase 1 e)).0 in
         subst (λ o. Searched o r out after) said
-        (told (eqb at.phase 1) at.far c out after r (chain-long D u.sweep.noted.marks 0 (succs S) lines (queue_of u) (at.far - 1)) far_some read.word-is
-        (read.after_is (on.held.searched (left-searched left sound)) ∙ written (eqb at.phase 1) read.word-is (chain-low p at.found at.far v low (succs S) lines)))
+        (told (eqb at.phase 1) at.far c out after r (chain-long D u.sweep.noted.marks 0 (succs S) lines (queue_of u) (at.far - 1)) far_some read.length-is
+        (read.after_is (on.held.searched (left-searched left sound)) ∙ ap (λ x. put_out r x out) (chain-low p at.found at.far v low (succs S) lines)))
       where
         few-lines : lines ≤ 4096
         few-lines = omega (arith, (left-planned left sound).lines_are, (sound-standing sound).laid.few-lines)
-
-        -- the chain that is written is that of the marks, where one is
-        written : {c : List ℕ} (b : Bool) → r ≡ cond b g.state.at.far 0 → chain_of g.state.plan g.state.at.found g.state.at.far v ≡ c
-            → cond (ltb 0 r && leb (r - 1) (length out)) (chain_of g.state.plan g.state.at.found r v ++ drop (r - 1) out) out
-            ≡ cond (ltb 0 r && leb (r - 1) (length out)) (c ++ drop (r - 1) out) out
-        written {c} false is e = ap (λ (n : ℕ). cond (ltb 0 n && leb (n - 1) (length out)) (chain_of g.state.plan g.state.at.found n v ++ drop (n - 1) out) out) is ∙ sym (ap (λ (n : ℕ). cond (ltb 0 n && leb (n - 1) (length out)) (c ++ drop (n - 1) out) out) is)
-        written true is e = λ i. cond (ltb 0 r && leb (r - 1) (length out)) ((ap (λ (n : ℕ). chain_of g.state.plan g.state.at.found n v) is ∙ e) i ++ drop (r - 1) out) out

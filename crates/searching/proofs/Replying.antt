@@ -3,10 +3,10 @@
 use mathlib.Core.Path.{◌≡◌, refl, sym, ap, ◌∙◌, subst, subst₂}
 use mathlib.Core.Bool.{Bool, true, false, cond}
 use mathlib.Core.List.{List}
-use Prim.Native.Nat.{ℕ, zero, suc, ◌+◌, ◌-◌, ◌<◌, ◌≤◌}
+use Prim.Native.Nat.{ℕ, ◌+◌, ◌<◌}
 use native.Mathlib.Omega.{arith}
 use lib.Dec.{leb}
-use lib.ListN.{length, take, replicate, length-take, length-replicate}
+use lib.ListN.{length, replicate, length-replicate}
 use borrow.Author.Tests.{leb-true, leb-false}
 use Rattle.meaning.specs.Outcome.{value, refusal}
 use Rattle.meaning.specs.Pattern.{none_given}
@@ -21,7 +21,11 @@ use Rattle.finder.specs.Searching.{told_by, told-by}
 use Rattle.holding.specs.Holding.{Sound, bytes_in}
 use Rattle.holding.specs.declared.SearchState.{SearchState}
 use Rattle.searching.specs.Promise.{held_in, Left, Moving, Finishing, FinishHarmless}
-use Rattle.searching.specs.Searching.{MovedIn, FinishedIn}
+use Rattle.std.specs.Prelude.{Some, None, Err, ok_or}
+use Rattle.refusals.specs.declared.Refusal.{Refusal}
+use Rattle.refusals.specs.declared.Refusal.TheVariants as Is
+use Rattle.std.specs.Prelude.{Option as Maybe}
+use Rattle.searching.specs.Searching.{MovedIn, Short, Kept, FinishedIn}
 use Rattle.searching.proofs.Bridge.{left-parts, left-within, left-room, left-bytes, left-sound}
 
 -- ---- no search was left
@@ -40,13 +44,10 @@ none-sound w pat is never rec pat' from to options q k left =
     let (s, sound) = left-sound left in
     never s (subst (λ (b : List ℕ). Sound w b s) (sym (is ∙ left-bytes left)) sound)
 
--- ---- the bytes that were read out
-
--- as many as the area says are there
-pub bytes-there : (n : ℕ) (bytes w : List ℕ) → n ≡ length (bytes_in w) → take n bytes ≡ bytes_in w → (n ≤ length bytes) × (n ≡ length (take n bytes))
-bytes-there n bytes w many is =
-    let same : n ≡ length (take n bytes) = many ∙ sym (ap length is) in
-    (omega (arith, same, length-take n bytes), same)
+-- none was taken out, and that is the refusal
+pub none-taken : {A : Type 0} (o : Maybe A) (e : Refusal) → ok_or o Is.NoSearch ≡ Err e → (o ≡ None) × (e ≡ Is.NoSearch)
+none-taken None e is = (refl, cc)
+none-taken (Some a) e is = absurd cc
 
 -- ---- move
 
@@ -76,28 +77,28 @@ finish-none w out never = record {
   altered = (refl, refl, (refl, omega arith, (λ e. (refl, refl)), λ other. absurd (other refl)));
 }
 
--- the reply by the number is harmless, the area being cleared
-harmless : (r : ℕ) (w v out after : List ℕ) → v ≡ replicate (length w) 0 → r < 4294967296 → (r ≡ 0 → after ≡ out) → (length out < r - 1 → after ≡ out) → FinishHarmless (told_by r (length out)) w v out after
-harmless zero w v out after cleared small none_out long-out = (none_out refl, cleared)
-harmless (suc n) w v out after cleared small none_out long-out = go (leb n (length out)) refl
+-- the reply by the length is harmless, the area being cleared
+harmless : (r : Maybe ℕ) (w v out after : List ℕ) → v ≡ replicate (length w) 0 → Short r → Kept r out after → FinishHarmless (told_by r (length out)) w v out after
+harmless None w v out after cleared short kept = (kept, cleared)
+harmless (Some n) w v out after cleared short kept = go (leb n (length out)) refl
   where
     go : (t : Bool) → leb n (length out) ≡ t → FinishHarmless (cond t (found n) (refusing 19 n)) w v out after
-    go true e = (leb-true n (length out) e, omega (arith, small), cleared)
+    go true e = (leb-true n (length out) e, short, cleared)
     go false e =
-        let more : length out < n = omega (arith, leb-false n (length out) e) in
-        (long-out (omega (arith, more)), omega (arith, small), (λ z. absurd (omega (arith, z))), λ other. (refl, more, cleared))
+        let more : length out < n = leb-false n (length out) e in
+        (kept more, short, (λ z. absurd (omega (arith, z))), λ other. (refl, more, cleared))
 
-pub finish-some : (w out pat : List ℕ) → pat ≡ bytes_in w → (s : SearchState) → Sound w pat s → (r : ℕ) (after : List ℕ) → FinishedIn s pat w out r after
+pub finish-some : (w out pat : List ℕ) → pat ≡ bytes_in w → (s : SearchState) → Sound w pat s → (r : Maybe ℕ) (after : List ℕ) → FinishedIn s pat w out r after
     → (v : List ℕ) → v ≡ replicate (length w) 0 → (reply : Said) → reply ≡ told_by r (length out) → Finishing w out reply v after
 finish-some w out pat is s sound r after done v cleared reply told = record {
   begun = λ rec pat' from to options q k left.
       let same : pat ≡ pat' = is ∙ left-bytes left in
       let searched = done.begun rec from to options q k (subst (λ (b : List ℕ). Left rec b from to options q k w) (sym same) left) in
       let o = answer q from to in
-      let says : reply ≡ said (settled (length out) o) = told ∙ (ap (λ (n : ℕ). told_by n (length out)) searched.word-is ∙ sym (told-by o (length out))) in
+      let says : reply ≡ said (settled (length out) o) = told ∙ (ap (λ x. told_by x (length out)) searched.length-is ∙ sym (told-by o (length out))) in
       (says, cleared, searched.after_is, demanded rec pat' from to options q k left says searched.after_is);
   none-begun = λ z. absurd (omega (arith, sound.range.counts.some-radix, z));
-  altered = (ap length cleared ∙ length-replicate {A = ℕ} (length w) 0, done.long, subst (λ (x : Said). FinishHarmless x w v out after) (sym told) (harmless r w v out after cleared done.small done.none_out done.too-long-out));
+  altered = (ap length cleared ∙ length-replicate {A = ℕ} (length w) 0, done.long, subst (λ (x : Said). FinishHarmless x w v out after) (sym told) (harmless r w v out after cleared done.short done.kept));
 }
   where
     -- demand 3, of the record and the pattern that were read

@@ -4,12 +4,14 @@
 -- finder says of the record at the beginning.
 -- Move and finish see the area alone. `Moving` and `Finishing` name three cases: the area that a begin and its moves left, an area without a search,
 -- and any other, which was altered or cut short.
-use Rattle.std.specs.Prelude.{◌≡◌, List, [], ◌∷◌, ◌++◌, ℕ, suc, ◌+◌, ◌-◌, ◌≤◌, ◌<◌, length, get_or, replicate}
+use Rattle.std.specs.Prelude.{◌≡◌, List, [], ◌∷◌, ◌++◌, ℕ, suc, ◌+◌, ◌-◌, ◌≤◌, ◌<◌, length, get_or, replicate, Result}
 use Rattle.meaning.specs.Outcome.{Outcome, refused, passed, Reply, value, refusal}
 use Rattle.meaning.specs.Record.{boats}
 use Rattle.meaning.specs.Pattern.{unfolded, keeps}
 use Rattle.meaning.specs.Windows.{Options}
 use Rattle.meaning.specs.Request.{Asked, size_of, ask_search}
+use Rattle.refusals.specs.Refusal.{reply, reply_mapped}
+use Rattle.refusals.specs.declared.Refusal.{Refusal}
 use Rattle.automaton.specs.Automaton.{start}
 use Rattle.graph.specs.Plain.{memb, filt, count}
 use Rattle.graph.specs.Underway.{Underway, dist_of, queue_of, begun_from, taken_by, taken_up}
@@ -20,10 +22,6 @@ use Rattle.search.specs.Traced.{trace}
 use Rattle.search.specs.Answer.{setting}
 use Rattle.search.specs.Asked.{answer, met_asked}
 use Rattle.finder.specs.Promise.{settled, Said, found, none_found, refusal as refusing, said, out_after, Demand3}
-use Rattle.searching.specs.declared.BeginReply.{BeginReply}
-use Rattle.searching.specs.declared.BeginReply.TheVariants as Begin
-use Rattle.searching.specs.declared.MoveReply.{MoveReply}
-use Rattle.searching.specs.declared.MoveReply.TheVariants as Move
 
 -- ---- the search of a request, state by state
 
@@ -72,9 +70,8 @@ held_in q pat from to words k = held_of q pat from words (search_at q from to k)
 
 -- ---- begin
 
-abbrev pub begin_reply : BeginReply → Reply ℕ
-begin_reply Begin.Begun = value 0
-begin_reply (Begin.Refused number second) = refusal number second
+abbrev pub begin_reply : Result (Unit {0}) Refusal → Reply ℕ
+begin_reply r = reply_mapped (λ _. 0) (reply r)
 
 abbrev pub begun_told : Outcome Asked → Reply ℕ
 begun_told (refused number) = refusal number 0
@@ -98,9 +95,8 @@ pub record Left (rec pat : List ℕ) (from to : ℕ) (options : Options) (q : As
 
 -- ---- move
 
-abbrev pub move_reply : MoveReply → Reply ℕ
-move_reply (Move.Moved n) = value n
-move_reply (Move.Refused number second) = refusal number second
+abbrev pub move_reply : Result ℕ Refusal → Reply ℕ
+move_reply r = reply r
 
 -- an area that was altered: a refusal is 26 and alters nothing; a count is no more than the amount, and than any search has
 abbrev pub MoveHarmless : ℕ → Reply ℕ → List ℕ → List ℕ → Type 0

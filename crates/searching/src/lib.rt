@@ -2,7 +2,7 @@
 // alone: begin takes what it needs of lines and pattern into the area, and move and finish see neither.
 #![tactic(auto)]
 
-ghost use Rattle.std.specs.Prelude.{◌≡◌, ◌+◌, ◌*◌, ◌≤◌, ◌<◌, min, length};
+ghost use Rattle.std.specs.Prelude.{◌≡◌, ◌+◌, ◌*◌, ◌≤◌, ◌<◌, length};
 ghost use Rattle.meaning.specs.Windows.{plain};
 ghost use Rattle.meaning.specs.Request.{ask_search};
 ghost use Rattle.windows.specs.Promise.{options_shown};
@@ -10,26 +10,13 @@ ghost use Rattle.finder.specs.Promise.{find_reply};
 ghost use Rattle.holding.specs.Holding.{tables_at, Sound};
 ghost use Rattle.stepping.specs.Stepping.{Standing};
 ghost use Rattle.searching.specs.Promise.{begin_reply, begun_told, begun_after, move_reply, Moving, Finishing};
-ghost use Rattle.searching.specs.Searching.{front_of, ReadyToBegin, BegunIn, MovedIn, ReadOut, FinishedIn};
+ghost use Rattle.searching.specs.Searching.{front_of, ReadyToBegin, BegunIn, TurnedBy, MovedIn, ReadOut, FinishedIn};
 
-use finder::FindReply;
-use holding::{Counters, SearchState, Taken};
-use request::{Plan, Request, TABLES};
+use holding::{Counters, SearchState};
+use refusals::{OutputError, Refusal};
+use request::{Plan, TABLES};
 use stepping::Going;
 use windows::Options;
-
-// What begin says, and what a move says: how many states it took up.
-#[derive(Clone, Copy)]
-pub enum BeginReply {
-    Begun,
-    Refused(u8, usize),
-}
-
-#[derive(Clone, Copy)]
-pub enum MoveReply {
-    Moved(usize),
-    Refused(u8, usize),
-}
 
 // ---- begin
 
@@ -38,10 +25,8 @@ fn put_bytes(pattern: &[u8], part: &mut [u32])
     requires { length part.old ≡ length pattern.now }
     ensures { part.new ≡ pattern.now }
 {
-    let mut i: usize = 0;
-    while i < part.len() {
-        part[i] = pattern[i] as u32;
-        i += 1;
+    for (i, &byte) in pattern.iter().enumerate() {
+        part[i] = u32::from(byte);
     }
 }
 
@@ -51,11 +36,14 @@ fn put_front(work: &mut [u32], plan: Plan, from: usize, pattern: &[u8])
     requires radix_bound { (plan.radix < 4294967296) × (plan.places < 4294967296) × (plan.lines < 4294967296) × (from < 4294967296) }
     ensures { work.new ≡ front_of plan from pattern.now work.old }
 {
-    area::write(work, 0, 5, 0, plan.radix as u32);
-    area::write(work, 0, 5, 1, plan.places as u32);
-    area::write(work, 0, 5, 2, plan.lines as u32);
-    area::write(work, 0, 5, 3, from as u32);
-    area::write(work, 0, 5, 4, pattern.len() as u32);
+    let numbers = [
+        plan.radix as u32,
+        plan.places as u32,
+        plan.lines as u32,
+        from as u32,
+        pattern.len() as u32,
+    ];
+    work[..5].copy_from_slice(&numbers);
     put_bytes(pattern, &mut work[17..17 + pattern.len()]);
 }
 
@@ -91,23 +79,26 @@ pub fn begin_search_with(
     to: u16,
     options: Options,
     work: &mut [u32],
-) -> BeginReply
+) -> Result<(), Refusal>
     ensures reply { begin_reply result ≡ begun_told (ask_search day.now pattern.now from to (options_shown options) (length work.old)) }
     ensures workspace { work.new ≡ begun_after (ask_search day.now pattern.now from to (options_shown options) (length work.old)) pattern.now from to work.old }
 {
     let mut numbers: [u16; 4096] = [0; 4096];
-    let asked = request::ask_search(day, pattern, from, to, options, work.len(), &mut numbers);
-    let Request::Asked(plan) = asked else {
-        return BeginReply::Refused(asked.number(), 0);
-    };
+    let plan = request::ask_search(day, pattern, from, to, options, work.len(), &mut numbers)?;
     request::clear(work);
     request::load(day, plan, &numbers, options, work);
-    begin_loaded(work, plan, pattern, from as usize, to as usize);
-    BeginReply::Begun
+    begin_loaded(work, plan, pattern, usize::from(from), usize::from(to));
+    Ok(())
 }
 
 // The same for the whole day.
-pub fn begin_search(day: &[u8], pattern: &[u8], from: u16, to: u16, work: &mut [u32]) -> BeginReply
+pub fn begin_search(
+    day: &[u8],
+    pattern: &[u8],
+    from: u16,
+    to: u16,
+    work: &mut [u32],
+) -> Result<(), Refusal>
     ensures reply { begin_reply result ≡ begun_told (ask_search day.now pattern.now from to plain (length work.old)) }
     ensures workspace { work.new ≡ begun_after (ask_search day.now pattern.now from to plain (length work.old)) pattern.now from to work.old }
 {
@@ -124,11 +115,18 @@ fn all_turns(size: usize) -> usize
     2 * size + 2
 }
 
-// The lesser of two counts.
-fn fewer(a: usize, b: usize) -> usize
-    ensures { result ≡ min a b }
+// The search moved on by so many turns. The pattern's automaton stands in this function's frame.
+fn turned(work: &mut [u32], s: SearchState, pattern: &[u8], turns: usize) -> Going
+    requires { Sound work.old pattern.now s }
+    ensures { TurnedBy s pattern.now turns work.old result work.new }
 {
-    if b < a { b } else { a }
+    let mut program: [u64; 128] = [0; 128];
+    let begin = compiler::compile(pattern, &mut program);
+    let going = Going {
+        state: s,
+        left: turns,
+    };
+    going.moved(work, &program, begin)
 }
 
 // The search moved on and put back. Returns how many states were taken up.
@@ -136,94 +134,72 @@ fn move_taken(work: &mut [u32], s: SearchState, pattern: &[u8], amount: usize) -
     requires { Sound work.old pattern.now s }
     ensures { MovedIn s pattern.now amount work.old result work.new }
 {
-    let mut program: [u64; 128] = [0; 128];
-    let begin = compiler::compile(pattern, &mut program);
     let plan = s.plan;
-    let many = fewer(amount, all_turns(plan.size));
-    let going = Going {
-        state: s,
-        left: many,
-    };
-    let moved = going.moved(work, &program, begin);
+    let many = amount.min(all_turns(plan.size));
+    let moved = turned(work, s, pattern, many);
     area::clear_stretch(
         work,
         plan.base + 4 * plan.size,
         plan.places + 1 + plan.lines,
     );
-    let at = moved.state.at;
-    at.put_back(work);
+    moved.state.at.put_back(work);
     many - moved.left
 }
 
 // Takes up so many states of the search that the area holds, or all that remain, and says how many. Where the area holds none, or its words were
 // altered so that they are no search, the reply is 26 and no word changes.
-pub fn move_search(work: &mut [u32], amount: usize) -> MoveReply
+pub fn move_search(work: &mut [u32], amount: usize) -> Result<usize, Refusal>
     ensures { Moving amount work.old (move_reply result) work.new }
 {
     if work.len() < TABLES {
-        return MoveReply::Refused(26, 0);
+        return Err(Refusal::NoSearch);
     }
     let mut bytes: [u8; 192] = [0; 192];
-    let long = holding::pattern_bytes(work, &mut bytes);
-    let taken = holding::taken_out(work, &bytes[..long]);
-    let Taken::Search(s) = taken else {
-        return MoveReply::Refused(26, 0);
-    };
-    MoveReply::Moved(move_taken(work, s, &bytes[..long], amount))
+    let pattern = holding::pattern_bytes(work, &mut bytes);
+    let s = holding::taken_out(work, pattern).ok_or(Refusal::NoSearch)?;
+    Ok(move_taken(work, s, pattern, amount))
 }
 
 // ---- finish
 
-// The chain by the marks, if the search has one and the output holds it. Returns one more than its length, and 0 where there is none.
-fn read_out(work: &[u32], s: SearchState, out: &mut [u16]) -> u32
+// The length of the chain by the marks, if the search has one. The chain is written where the output holds it.
+fn read_out(work: &[u32], s: SearchState, out: &mut [u16]) -> Option<usize>
     requires { Standing s work.now }
     ensures { ReadOut s work.now out.old result out.new }
 {
     let at = s.at;
     if at.phase != 1 {
-        return 0;
+        return None;
     }
-    if at.far == 0 {
-        return 0;
-    }
-    if out.len() < at.far as usize - 1 {
-        return at.far;
+    let length = at.far.checked_sub(1)? as usize;
+    if out.len() < length {
+        return Some(length);
     }
     readout::chain_out(work, s.plan, at.found as usize, at.far as usize, out);
-    at.far
+    Some(length)
 }
 
 // The rest is taken up, and the chain read out.
-fn finish_taken(work: &mut [u32], s: SearchState, pattern: &[u8], out: &mut [u16]) -> u32
+fn finish_taken(work: &mut [u32], s: SearchState, pattern: &[u8], out: &mut [u16]) -> Option<usize>
     requires { Sound work.old pattern.now s }
     ensures { FinishedIn s pattern.now work.old out.old result out.new }
 {
-    let mut program: [u64; 128] = [0; 128];
-    let begin = compiler::compile(pattern, &mut program);
-    let all = all_turns(s.plan.size);
-    let going = Going {
-        state: s,
-        left: all,
-    };
-    let moved = going.moved(work, &program, begin);
+    let moved = turned(work, s, pattern, all_turns(s.plan.size));
     read_out(work, moved.state, out)
 }
 
 // Takes up what remains of the search that the area holds, and replies as the finder does for the record at the beginning; the area is all zeros then.
 // Where the area holds none, or its words were altered so that they are no search, the reply is 26 and nothing changes.
-pub fn finish_search(work: &mut [u32], out: &mut [u16]) -> FindReply
+pub fn finish_search(work: &mut [u32], out: &mut [u16]) -> Result<Option<usize>, OutputError>
     ensures { Finishing work.old out.old (find_reply result) work.new out.new }
 {
     if work.len() < TABLES {
-        return FindReply::Refused(26, 0);
+        return Err(OutputError::Refused(Refusal::NoSearch));
     }
     let mut bytes: [u8; 192] = [0; 192];
-    let long = holding::pattern_bytes(work, &mut bytes);
-    let taken = holding::taken_out(work, &bytes[..long]);
-    let Taken::Search(s) = taken else {
-        return FindReply::Refused(26, 0);
-    };
-    let nearest = finish_taken(work, s, &bytes[..long], out);
+    let pattern = holding::pattern_bytes(work, &mut bytes);
+    let s = holding::taken_out(work, pattern).ok_or(Refusal::NoSearch)?;
+    let length = finish_taken(work, s, pattern, out);
     request::clear(work);
-    finder::answered(nearest, out.len())
+    finder::answered(length, out.len())
 }

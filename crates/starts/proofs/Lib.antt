@@ -1,3 +1,4 @@
 pub mod Theorems
 pub mod Demand
 pub mod Answering
+pub mod Steps

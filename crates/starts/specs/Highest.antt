@@ -1,73 +1,31 @@
 -- Question 15 of a list of places by the highest of them: the questions of all starts are those of a request from the highest place
 -- (`starts-asked`). Where they pass, each listed place is below the count (`all-below`), and passes alone (`asked-from`).
-use Rattle.std.specs.Prelude.{◌≡◌, refl, Bool, true, false, cond, ◌&&◌, List, [], ◌∷◌, ℕ, ◌+◌, ◌<◌, ◌≤◌, ltb, leb, length, get_or}
+use Rattle.std.specs.Prelude.{◌≡◌, refl, Bool, true, false, ◌&&◌, List, [], ◌∷◌, ℕ, ◌<◌, ltb, leb, max, fold}
 use Rattle.std.proofs.Math.Path.{sym, ap, fun_ext}
-use Rattle.std.proofs.Common.{◌∙◌, subst, ⊎_elim, add-one, arith, drop-cons, ltb-true, lt-ltb, le-ltb}
+use Rattle.std.proofs.Common.{◌∙◌, subst, ⊎_elim, arith, ltb-true, lt-ltb}
 use mathlib.Core.List.Memᴰ
-use Rattle.std.proofs.Math.Decide.{dec_lt}
-use Rattle.std.proofs.Math.ListN.{drop}
-use Rattle.std.proofs.Math.Seq.{drop-length}
+use Rattle.std.proofs.lemmas.Bool.Decides.{nat_tests}
 use Rattle.lists.specs.Listed.{◌∈◌, none_in}
 use Rattle.record.specs.Outcomes.{passed-inj, and-true, ask-passed, and_then-passed}
 use Rattle.meaning.specs.Outcome.{passed, ask, and_then}
 use Rattle.meaning.specs.Windows.{Options, windows_allowed}
 use Rattle.meaning.specs.Request.{Asked, size_of, need, ask_both, ask_windows, ask_request, all_below, ask_starts}
 
--- the higher of two places
-unfoldable pub higher_of : ℕ → ℕ → ℕ
-higher_of a b = cond (ltb a b) b a
-
 -- the highest of the listed places and one more
-unfoldable pub highest_of : List ℕ → ℕ → ℕ
-highest_of [] most = most
-highest_of (a ∷ rest) most = highest_of rest (higher_of most a)
-
--- the cases of the code's test
-module _ (a b : ℕ) where
-  pub higher-second : a < b → b ≡ higher_of a b
-  unfolding higher_of
-  higher-second h = rw (lt-ltb a b h)
-
-  pub higher-first : b ≤ a → a ≡ higher_of a b
-  unfolding higher_of
-  higher-first h = rw (le-ltb a b h)
-
--- the list from place i on: its next place, and its end
-module _ (starts : List ℕ) (i most : ℕ) where
-  pub highest-next : i < length starts → highest_of (drop (i + 1) starts) (higher_of most (get_or starts i 0)) ≡ highest_of (drop i starts) most
-  unfolding highest_of
-  highest-next h =
-      ap (λ n. highest_of (drop n starts) (higher_of most (get_or starts i 0))) (add-one i) ∙ sym (ap (λ l. highest_of l most) (drop-cons starts i 0 h))
-
-  pub highest-end : i ≡ length starts → highest_of (drop i starts) most ≡ most
-  unfolding highest_of
-  highest-end e = ap (λ l. highest_of l most) (ap (λ n. drop n starts) e ∙ drop-length starts)
+abbrev pub highest_of : List ℕ → ℕ → ℕ
+highest_of starts most = fold max most starts
 
 -- ---- both are below a count exactly where the higher is
 
--- a test below a count, by cases
-below : (count a b : ℕ) → ltb (higher_of a b) count ≡ (ltb a count && ltb b count)
-below count a b = elim (dec_lt a b) [
-  | yes less ↦ (ap (λ n. ltb n count) (sym (higher-second a b less)) ∙ elim (dec_lt b count) [
-    | yes low ↦ rw (lt-ltb b count low, lt-ltb a count (omega arith)) refl
-    | no high ↦ rw (le-ltb b count (omega arith)) (sym (and-false (ltb a count)))
-  ])
-  | no other ↦ (ap (λ n. ltb n count) (sym (higher-first a b (omega arith))) ∙ elim (dec_lt a count) [
-    | yes low ↦ rw (lt-ltb a count low, lt-ltb b count (omega arith)) refl
-    | no high ↦ rw (le-ltb a count (omega arith)) refl
-  ])
-]
-  where
-    and-false : (t : Bool) → (t && false) ≡ false
-    and-false true = refl
-    and-false false = refl
+below : (count a b : ℕ) → ltb (max a b) count ≡ (ltb a count && ltb b count)
+below count a b = grind (arith, nat_tests)
 
 -- all listed places and one more
 below_all : (count : ℕ) (starts : List ℕ) (most : ℕ) → ltb (highest_of starts most) count ≡ (all_below count starts && ltb most count)
-unfolding highest_of all_below
+unfolding all_below
 below_all count [] most = refl
 below_all count (a ∷ rest) most =
-    below_all count rest (higher_of most a)
+    below_all count rest (max most a)
     ∙ (ap (all_below count rest &&◌) (below count most a) ∙ turned (ltb a count) (all_below count rest) (ltb most count))
   where
     turned : (x y z : Bool) → (y && (z && x)) ≡ ((x && y) && z)

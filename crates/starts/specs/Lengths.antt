@@ -1,9 +1,7 @@
 -- The lengths of the listed places by the words of a search that has run out: what is written (`written`), what the search of a loaded record leaves
 -- (`Searched`), and that it is right (`RightFor`). What the contracts of the inner functions cite.
-use Rattle.std.specs.Prelude.{◌≡◌, refl, List, [], ◌∷◌, ◌++◌, map, ℕ, zero, suc, ◌-◌, length, drop}
-use Rattle.std.proofs.Common.{sym, ap}
+use Rattle.std.specs.Prelude.{◌≡◌, refl, List, [], ◌∷◌, ◌++◌, map, ℕ, zero, suc, length, drop}
 use Rattle.std.proofs.Math.Option.{Option, none, some}
-use native.Mathlib.Omega.{arith}
 use Rattle.meaning.specs.Request.{Asked}
 use Rattle.request.specs.declared.Plan.{Plan}
 use Rattle.graph.specs.Early.{Ended}
@@ -24,14 +22,6 @@ use Rattle.starts.specs.Promise.{no_length, length_of, lengths, lengths_after}
 unfoldable pub length_by : ℕ → ℕ
 length_by zero = no_length
 length_by (suc n) = n
-
-pub by-none : (word : ℕ) → word ≡ 0 → no_length ≡ length_by word
-unfolding length_by
-by-none word e = sym (ap length_by e)
-
-pub by-some : (word : ℕ) → (word ≡ 0 → ⊥) → word - 1 ≡ length_by word
-by-some zero has = absurd (has refl)
-by-some (suc n) has = unfold length_by in omega arith
 
 -- the word of a chain says its length
 pub by_word : (o : Option (List ℕ)) → length_by (word_of o) ≡ length_of o

@@ -1,7 +1,7 @@
 -- What all starts in one go promises (document 02, request Six): `starts_reply r ≡ told (starts_of …)`, the lengths as `lengths_after`, the area as
 -- `work_after` of `meaning`, and `Shortest`, what the lengths say of accepted chains.
 -- `starts_of` goes by the finder's `answer`, place by place; it takes only the sizes of work area and lengths, never their contents.
-use Rattle.std.specs.Prelude.{◌≡◌, cond, List, ◌++◌, map, ℕ, ◌<◌, leb, length, drop, get_or}
+use Rattle.std.specs.Prelude.{◌≡◌, cond, List, ◌++◌, map, ℕ, ◌<◌, leb, length, drop, get_or, Result, Ok, Err}
 use Rattle.std.proofs.Math.Option.{Option, none, some}
 use Rattle.meaning.specs.Outcome.{Outcome, refused, passed, Reply, value, refusal}
 use Rattle.meaning.specs.Record.{Day, read_record}
@@ -10,8 +10,8 @@ use Rattle.meaning.specs.Windows.{Options}
 use Rattle.meaning.specs.Chain.{Accepted, First}
 use Rattle.meaning.specs.Request.{Asked, ask_starts}
 use Rattle.search.specs.Asked.{answer}
-use Rattle.starts.specs.declared.StartsReply.{StartsReply}
-use Rattle.starts.specs.declared.StartsReply.TheVariants as Starts
+use Rattle.refusals.specs.OutputError.{number, second}
+use Rattle.refusals.specs.declared.OutputError.{OutputError}
 
 -- the mark for none
 abbrev pub no_length : ℕ
@@ -54,9 +54,9 @@ told (stopped number) = refusal number 0
 told (too_short n) = refusal 19 n
 told (lengths l) = value (length l)
 
-abbrev pub starts_reply : StartsReply → Reply ℕ
-starts_reply (Starts.Lengths n) = value n
-starts_reply (Starts.Refused number second) = refusal number second
+abbrev pub starts_reply : Result ℕ OutputError → Reply ℕ
+starts_reply (Ok n) = value n
+starts_reply (Err e) = refusal (number e) (second e)
 
 -- ---- the lent list of words (the work area is `work_after` of the questions up to 17, in `meaning`)
 

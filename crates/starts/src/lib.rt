@@ -12,40 +12,21 @@ ghost use Rattle.search.specs.Loaded.{setting_at};
 ghost use Rattle.states.specs.Pairs.{distances};
 ghost use Rattle.states.specs.Spots.{Fit};
 ghost use Rattle.forward.specs.Posed.{SomePosed};
-ghost use Rattle.starts.specs.Highest.{higher_of, highest_of};
+ghost use Rattle.starts.specs.Highest.{highest_of};
 ghost use Rattle.starts.specs.Lengths.{length_by, length_at, written, Searched, RightFor};
 ghost use Rattle.starts.specs.Promise.{starts_reply, starts_of, told, lengths_after, Shortest};
 
-use request::{Plan, Request};
+use refusals::OutputError;
+use request::Plan;
 use windows::Options;
 
-// What is said of all starts: how many lengths were written, one for each listed place, or a refusal.
-#[derive(Clone, Copy)]
-pub enum StartsReply {
-    Lengths(usize),
-    Refused(u8, usize),
-}
-
 // ---- question 15
-
-// The higher of two places.
-fn higher(a: u16, b: u16) -> u16
-    ensures { result ≡ higher_of a b }
-{
-    if a < b { b } else { a }
-}
 
 // The highest of all places asked about, the listed ones and the finishing place: all are below a count exactly where it is.
 fn highest(starts: &[u16], to: u16) -> u16
     ensures { result ≡ highest_of starts.now to }
 {
-    let mut most = to;
-    let mut i: usize = 0;
-    while i < starts.len() {
-        most = higher(most, starts[i]);
-        i += 1;
-    }
-    most
+    starts.iter().fold(to, |most, &place| most.max(place))
 }
 
 // ---- the lengths
@@ -54,10 +35,7 @@ fn highest(starts: &[u16], to: u16) -> u16
 fn length_by(word: u32) -> u32
     ensures { result ≡ length_by word }
 {
-    if word == 0 {
-        return 4294967295;
-    }
-    word - 1
+    word.checked_sub(1).unwrap_or(u32::MAX)
 }
 
 // The length from one place. Where a place's first states are looked at, it is here.
@@ -69,24 +47,14 @@ fn length_at(work: &[u32], plan: Plan, begin: u64, from: usize) -> u32
     length_by(forward::nearest(work, plan, begin, from))
 }
 
-// The place that is listed at index `i`.
-fn place_at(starts: &[u16], i: usize) -> usize
-    requires { i < length starts.now }
-    ensures { result ≡ get_or starts.now i 0 }
-{
-    starts[i] as usize
-}
-
 // The lengths from the listed places, in the list's order, at the front of `lengths`.
 fn write_lengths(work: &[u32], plan: Plan, begin: u64, starts: &[u16], lengths: &mut [u32])
     requires laid { Laid plan (length work.now) }
     requires starts_value { (all_below plan.places starts.now ≡ true) × (length starts.now ≤ length lengths.old) }
     ensures { lengths.new ≡ written (length_at plan begin (distances plan work.now)) starts.now lengths.old }
 {
-    let mut i: usize = 0;
-    while i < starts.len() {
-        lengths[i] = length_at(work, plan, begin, place_at(starts, i));
-        i += 1;
+    for (i, &place) in starts.iter().enumerate() {
+        lengths[i] = length_at(work, plan, begin, usize::from(place));
     }
 }
 
@@ -143,7 +111,7 @@ pub fn all_starts_with(
     options: Options,
     work: &mut [u32],
     lengths: &mut [u32],
-) -> StartsReply
+) -> Result<usize, OutputError>
     ensures reply { starts_reply result ≡ told (starts_of day.now pattern.now starts.now to (options_shown options) (length work.old) (length lengths.old)) }
     ensures workspace { work.new ≡ work_after (ask_starts day.now pattern.now starts.now to (options_shown options) (length work.old)) work.old }
     ensures lengths { lengths.new ≡ lengths_after (starts_of day.now pattern.now starts.now to (options_shown options) (length work.old) (length lengths.old)) lengths.old }
@@ -151,18 +119,15 @@ pub fn all_starts_with(
 {
     let mut numbers: [u16; 4096] = [0; 4096];
     let most = highest(starts, to);
-    let asked = request::ask_request(day, pattern, most, to, options, work.len(), &mut numbers);
-    let Request::Asked(plan) = asked else {
-        return StartsReply::Refused(asked.number(), 0);
-    };
+    let plan = request::ask_request(day, pattern, most, to, options, work.len(), &mut numbers)?;
     if lengths.len() < starts.len() {
         request::clear(work);
-        return StartsReply::Refused(19, starts.len());
+        return Err(OutputError::TooSmall(starts.len()));
     }
     request::load(day, plan, &numbers, options, work);
     search_loaded(pattern, plan, starts, to as usize, work, lengths);
     request::clear(work);
-    StartsReply::Lengths(starts.len())
+    Ok(starts.len())
 }
 
 // The same for the whole day.
@@ -173,7 +138,7 @@ pub fn all_starts(
     to: u16,
     work: &mut [u32],
     lengths: &mut [u32],
-) -> StartsReply
+) -> Result<usize, OutputError>
     ensures reply { starts_reply result ≡ told (starts_of day.now pattern.now starts.now to plain (length work.old) (length lengths.old)) }
     ensures workspace { work.new ≡ work_after (ask_starts day.now pattern.now starts.now to plain (length work.old)) work.old }
     ensures lengths { lengths.new ≡ lengths_after (starts_of day.now pattern.now starts.now to plain (length work.old) (length lengths.old)) lengths.old }

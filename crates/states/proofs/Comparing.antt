@@ -4,18 +4,18 @@ use mathlib.Core.Bool.{Bool, true, false, cond, not, ◌&&◌, ◌||◌, and-fal
 use Prim.Native.Nat.{ℕ, suc, ◌/◌, ◌%◌}
 use native.Mathlib.Decide.{ℕ_discrete}
 use native.Mathlib.Omega.{arith}
+use denote.Enum.Bare.{sameb, same_true, same_false}
 use lib.Dec.{eqb}
 use borrow.Author.Tests.{eq-eqb, ne_eqb, eqb-true, eqb-false}
 use Rattle.meaning.specs.Language.{Compared, unread, same-boat, same_Class, other-class, meets}
 use Rattle.meaning.specs.Pattern.{same, other, sister, foreign}
-use Rattle.positions.specs.Program.{bit_of}
+use Rattle.positions.specs.contracts.Rule.{the_type}
 use Rattle.positions.specs.declared.Rule.{Rule}
 use Rattle.boats.specs.Table.{class_in, told_by}
-use Rattle.states.specs.Spots.{told_shown, outcome_bit, outcomes, met_by, okay, read_by, read_but, sister_of, foreign_to}
+use Rattle.states.specs.Spots.{met_by, okay, read_by, read_but, sister_of, foreign_to}
 use Rattle.states.specs.Served.{boat_key, class_key, but, nobody, ServedBy}
 use Rattle.states.specs.declared.Sieve.{Sieve}
 use Rattle.states.specs.declared.Spot.{Spot}
-use Rattle.states.specs.declared.Told.{Told}
 
 module _ (B : ℕ → ℕ) (x y : ℕ) where
   pub told-unread : B x ≡ 0 → told_by B x y ≡ unread
@@ -44,25 +44,15 @@ both true true e = (refl, refl)
 both true false e = absurd (false≢true e)
 both false b e = absurd (false≢true e)
 
+-- ---- what `==` tells of two rules
+
+pub same_rule : (b : Bool) (r k : Rule) → b ≡ sameb the_type r k → b ≡ true → r ≡ k
+same_rule b r k is e = same_true the_type tt r k (sym is ∙ e)
+
+pub other_rule : (b : Bool) (r k : Rule) → b ≡ sameb the_type r k → b ≡ false → r ≡ k → ⊥
+other_rule b r k is e = same_false the_type r k (sym is ∙ e)
+
 -- ---- what a rule takes
-
--- the bits of a rule's mask are what it takes
-abbrev BitMet : Rule → Compared → ℕ → Type 0
-BitMet r o i = eqb (bit_of (outcomes r) i) 1 ≡ met_by r o
-
-bits_met : (r : Rule) → BitMet r unread 0 × BitMet r same-boat 1 × BitMet r same_Class 2 × BitMet r other-class 3
-bits_met Rule.Never = (refl, refl, refl, refl)
-bits_met Rule.Always = (refl, refl, refl, refl)
-bits_met Rule.Same = (refl, refl, refl, refl)
-bits_met Rule.Other = (refl, refl, refl, refl)
-bits_met Rule.Sister = (refl, refl, refl, refl)
-bits_met Rule.Foreign = (refl, refl, refl, refl)
-
-pub bit-met : (r : Rule) (o : Told) → BitMet r (told_shown o) (outcome_bit o)
-bit-met r Told.Unread = (bits_met r).0
-bit-met r Told.SameBoat = (bits_met r).1
-bit-met r Told.SameClass = (bits_met r).2
-bit-met r Told.OtherClass = (bits_met r).3
 
 -- a rule that does not take everybody
 abbrev NotAlways : Rule → Type 0

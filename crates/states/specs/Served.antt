@@ -2,11 +2,10 @@
 -- each place do for all. A sieve says what is told apart; `Served` is the rule: for which sets of boats that pass this is to hold. Crate
 -- thinned keeps lines enough for every set that is served (`Covered`), and crate ways goes over those alone where the boats that pass are such
 -- a set.
-use Rattle.std.specs.Prelude.{◌≡◌, Bool, cond, true, false, ℕ, suc, eqb}
+use Rattle.std.specs.Prelude.{◌≡◌, Bool, cond, true, false, ℕ, suc, eqb, Option, Some, None}
 use Rattle.boats.specs.Table.{class_in}
 use Rattle.states.specs.Spots.{okay}
 use Rattle.states.specs.declared.Sieve.{Sieve}
-use Rattle.states.specs.declared.Sifting.{Sifting}
 use Rattle.states.specs.declared.Spot.{Spot}
 
 -- ---- what a sieve tells apart, by the boats' table B
@@ -51,6 +50,7 @@ pub record Thinnable (sieve : Sieve) (s : Spot) : Type 0 where
   pub plain : s.push ≡ false
   pub served : (B : ℕ → ℕ) (R v : ℕ) → ServedBy sieve B (λ x. okay B R s x v)
 
-abbrev pub Sifted : Spot → Sifting → Type 0
-Sifted s (Sifting.Thin sieve) = Thinnable sieve s
-Sifted s Sifting.Whole = Unit {0}
+-- the thin lines of that sieve are enough; with none, nothing is said
+abbrev pub Sifted : Spot → Option Sieve → Type 0
+Sifted s (Some sieve) = Thinnable sieve s
+Sifted s None = Unit {0}

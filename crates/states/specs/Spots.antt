@@ -1,6 +1,6 @@
 -- The code's steps by numbers: a position, a state that is expanded and a line as the code holds them, and what it does with them.
 -- `proofs/Bridge` shows that loops of these are the loops of `Moves` over the setting that the program and the loaded words say.
-use Rattle.std.specs.Prelude.{◌≡◌, Bool, true, false, cond, not, ◌&&◌, List, ℕ, ◌+◌, ◌*◌, ◌-◌, ◌^◌, ◌/◌, ◌%◌, ◌≤◌, ◌<◌, eqb, length, take}
+use Rattle.std.specs.Prelude.{◌≡◌, Bool, true, false, cond, not, ◌&&◌, List, ℕ, ◌+◌, ◌*◌, ◌-◌, ◌^◌, ◌/◌, ◌%◌, ◌≤◌, ◌<◌, eqb, length, take, Option, Some, None, MatchOption}
 use Rattle.meaning.specs.Pattern.{same, other, sister, foreign}
 use Rattle.meaning.specs.Language.{Compared, unread, same-boat, same_Class, other-class, meets}
 use Rattle.positions.specs.Program.{bit_of, row_at, follow_at, depth_at, leaves_at}
@@ -59,7 +59,7 @@ met_by Rule.Other o = meets other o
 met_by Rule.Sister o = meets sister o
 met_by Rule.Foreign o = meets foreign o
 
--- the outcomes that a rule takes, as a mask, and the bit of an outcome in it
+-- the outcomes that a rule takes, as a mask
 abbrev pub outcomes : Rule → ℕ
 outcomes Rule.Never = 0
 outcomes Rule.Always = 15
@@ -67,12 +67,6 @@ outcomes Rule.Same = 2
 outcomes Rule.Other = 12
 outcomes Rule.Sister = 4
 outcomes Rule.Foreign = 8
-
-abbrev pub outcome_bit : Told → ℕ
-outcome_bit Told.Unread = 0
-outcome_bit Told.SameBoat = 1
-outcome_bit Told.SameClass = 2
-outcome_bit Told.OtherClass = 3
 
 -- ---- a position by its numbers
 
@@ -130,10 +124,10 @@ TakenBy B R s v (Takes.ReadBut y) = (y < R) × ((x : ℕ) → okay B R s x v ≡
 TakenBy B R s v Takes.Nobody = (x : ℕ) → okay B R s x v ≡ false
 TakenBy B R s v Takes.Ask = Unit {0}
 
-abbrev pub KinTaken : (ℕ → ℕ) → ℕ → Spot → ℕ → Kin → Type 0
-KinTaken B R s v (Kin.Sister y) = (y < R) × ((x : ℕ) → okay B R s x v ≡ sister_of B y x)
-KinTaken B R s v (Kin.Foreign y) = (y < R) × ((x : ℕ) → okay B R s x v ≡ foreign_to B y x)
-KinTaken B R s v Kin.Neither = Unit {0}
+abbrev pub KinTaken : (ℕ → ℕ) → ℕ → Spot → ℕ → Option Kin → Type 0
+KinTaken B R s v (Some (Kin.Sister y)) = (y < R) × ((x : ℕ) → okay B R s x v ≡ sister_of B y x)
+KinTaken B R s v (Some (Kin.Foreign y)) = (y < R) × ((x : ℕ) → okay B R s x v ≡ foreign_to B y x)
+KinTaken B R s v None = Unit {0}
 
 -- only the boat at the rule's level does, where it is read
 pub record OnlyKept (s : Spot) : Type 0 where
@@ -185,6 +179,10 @@ pub record Lowest (mask k : ℕ) : Type 0 where
 pub record From (mask j rest : ℕ) : Type 0 where
   pub same : (i : ℕ) → j ≤ i → bit_of rest i ≡ bit_of mask i
   pub none_below : (i : ℕ) → i < j → bit_of rest i ≡ 1 → ⊥
+
+-- a mask gives its lowest position and leaves the others; none, where it has none
+abbrev pub TakesLowest : ℕ → Option ℕ → ℕ → Type 0
+TakesLowest mask r rest = MatchOption r (mask ≡ 0) (λ k. (k < 64) × Lowest mask k × From mask (k + 1) rest)
 
 -- the position k, if the mask has it, at the place `to` with the stack v cut to its depth
 unfoldable pub next_turn : {A : Type 0} → Plan → List ℕ → ℕ → (ℕ → A → A) → ℕ → ℕ → ℕ → A → A

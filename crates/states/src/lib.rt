@@ -2,11 +2,12 @@
 #![tactic(auto)]
 
 ghost use Rattle.std.specs.Prelude.{◌≡◌, true, ℕ, ◌+◌, ◌*◌, ◌-◌, ◌^◌, ◌/◌, ◌%◌, ◌≤◌, ◌<◌, eqb, length};
+ghost use Rattle.std.specs.Iterator.{at_most};
 ghost use Rattle.positions.specs.Program.{row_at, depth_at};
 ghost use Rattle.boats.specs.Table.{class_in, told_by};
 ghost use Rattle.request.specs.Layout.{largest, scale, Laid};
 ghost use Rattle.states.specs.Served.{boat_key, class_key, Sifted};
-ghost use Rattle.states.specs.Spots.{boats_in, told_shown, outcome_bit, met_by, outcomes, spot_in, off, on, okay, TakenBy, KinTaken, OnlyKept, TakesAll, Lowest, From, Entries, target_in};
+ghost use Rattle.states.specs.Spots.{boats_in, told_shown, met_by, outcomes, spot_in, off, on, okay, TakenBy, KinTaken, OnlyKept, TakesAll, Lowest, From, TakesLowest, Entries, target_in};
 
 use positions::Rule;
 use request::{Plan, SCALE};
@@ -55,27 +56,13 @@ pub fn class_key(work: &[u32], plan: Plan, x: usize) -> usize
     class_in(word) as usize + 1
 }
 
-// What comparing two boats tells.
+// What comparing two boats tells. Each has a bit of its own in a mask of outcomes.
 #[derive(Clone, Copy)]
 pub enum Told {
-    Unread,
-    SameBoat,
-    SameClass,
-    OtherClass,
-}
-
-impl Told {
-    // Its bit in a mask of outcomes.
-    fn bit(self) -> u64
-        ensures { (result ≡ outcome_bit self) × (result < 4) }
-    {
-        match self {
-            Told::Unread => 0,
-            Told::SameBoat => 1,
-            Told::SameClass => 2,
-            Told::OtherClass => 3,
-        }
-    }
+    Unread = 0,
+    SameBoat = 1,
+    SameClass = 2,
+    OtherClass = 3,
 }
 
 // The class of a boat's word.
@@ -126,9 +113,7 @@ fn outcomes_of(rule: Rule) -> u64
 pub fn meets(rule: Rule, told: Told) -> bool
     ensures { result ≡ met_by rule (told_shown told) }
 {
-    let mask = outcomes_of(rule);
-    let bit = told.bit();
-    (mask >> bit) % 2 == 1
+    (outcomes_of(rule) >> (told as u64)) % 2 == 1
 }
 
 // ---- a position by its numbers
@@ -141,13 +126,6 @@ pub struct Spot {
     pub push: bool,
     pub level: usize,
     pub weight: usize,
-}
-
-// A byte as a number.
-pub fn wide(x: u8) -> usize
-    ensures { (result ≡ x) × (result < 256) }
-{
-    x as usize
 }
 
 // radix^e. No stack is deeper than three. Asked in halves, so that it is compiled to comparisons and not to a jump by a table.
@@ -174,19 +152,17 @@ pub fn spot_at(program: &[u64; 128], radix: usize, c: usize) -> Spot
     ensures { result ≡ spot_in program.now radix c }
 {
     let row = positions::row_at(program, c);
-    let level = power(radix, wide(row.level));
-    let weight = power(radix, wide(row.depth));
-    let rule = row.rule;
     Spot {
-        kind: wide(row.kind),
-        rule,
+        kind: usize::from(row.kind),
+        rule: row.rule,
         push: row.push,
-        level,
-        weight,
+        level: power(radix, usize::from(row.level)),
+        weight: power(radix, usize::from(row.depth)),
     }
 }
 
 // The stack before the position, of the stack after it.
+#[tactic(auto, unfolding(crate::specs::Spots::off))]
 pub fn take_off(spot: Spot, v: usize) -> usize
     requires { 0 < spot.weight }
     ensures { result ≡ off spot v }
@@ -195,6 +171,7 @@ pub fn take_off(spot: Spot, v: usize) -> usize
 }
 
 // The stack after the position, of the stack before it and the line's boat number.
+#[tactic(auto, using(crate::proofs::Bounds::product_small), unfolding(crate::specs::Spots::on))]
 pub fn put_on(spot: Spot, u: usize, code: u32) -> usize
     requires { (spot.weight ≤ largest) × (u < 4294967296) }
     ensures { result ≡ on spot u code }
@@ -247,12 +224,11 @@ pub fn passes(work: &[u32], plan: Plan, spot: Spot, code: u32, v: usize) -> bool
     requires { Laid plan (length work.now) × (0 < spot.level) }
     ensures { result ≡ okay (boats_in plan work.now) plan.radix spot code v }
 {
-    let rule = spot.rule;
-    if let Rule::Always = rule {
+    if spot.rule == Rule::Always {
         return true;
     }
     let kept = entry_at(v, spot.level, plan.radix);
-    meets(rule, compared(work, plan, code as usize, kept))
+    meets(spot.rule, compared(work, plan, code as usize, kept))
 }
 
 // The boat number at a level of a stack, by the level's number.
@@ -290,12 +266,11 @@ pub fn passes_at(
     ensures { result ≡ okay (boats_in plan work.now) plan.radix (spot_in program.now plan.radix c) code v }
 {
     let row = positions::row_at(program, c);
-    let rule = row.rule;
-    if let Rule::Always = rule {
+    if row.rule == Rule::Always {
         return true;
     }
-    let kept = kept_in(v, wide(row.level), plan.radix);
-    meets(rule, compared(work, plan, code as usize, kept))
+    let kept = kept_in(v, usize::from(row.level), plan.radix);
+    meets(row.rule, compared(work, plan, code as usize, kept))
 }
 
 // The stack after position `c`, of the stack before it and the line's boat number. A power is made only where there is a push.
@@ -305,12 +280,13 @@ pub fn put_on_at(program: &[u64; 128], radix: usize, c: usize, u: usize, code: u
 {
     let row = positions::row_at(program, c);
     if row.push {
-        return code as usize * power(radix, wide(row.depth)) + u;
+        return code as usize * power(radix, usize::from(row.depth)) + u;
     }
     u
 }
 
-// Which boats pass, by their numbers, once the boat that the rule compares with is known. `Ask` says nothing: each is to be asked about.
+// Which boats pass, by their numbers, once the boat that the rule compares with is known. `Ask` says nothing: each is to be asked about. It
+// is a case and not the none of an option, since every caller tells all five apart in one match.
 #[derive(Clone, Copy)]
 pub enum Takes {
     Any,
@@ -325,29 +301,20 @@ pub enum Takes {
 pub enum Kin {
     Sister(usize),
     Foreign(usize),
-    Neither,
 }
 
 // Whatever the stack, does only the boat pass that stands at the rule's level, if it is read?
 pub fn wants_kept(spot: Spot) -> bool
     ensures { result ≡ true → OnlyKept spot }
 {
-    let rule = spot.rule;
-    if let Rule::Same = rule {
-        return true;
-    }
-    false
+    spot.rule == Rule::Same
 }
 
 // Whatever the stack, does every boat pass?
 pub fn takes_all(spot: Spot) -> bool
     ensures { result ≡ true → TakesAll spot }
 {
-    let rule = spot.rule;
-    if let Rule::Always = rule {
-        return true;
-    }
-    false
+    spot.rule == Rule::Always
 }
 
 // What the lines of a thin table were told apart by: their boats, their classes, or, in each class, their boats.
@@ -358,28 +325,20 @@ pub enum Sieve {
     Sisters,
 }
 
-// Which lines are enough: the thin ones of a sieve, or no fewer than all.
-#[derive(Clone, Copy)]
-pub enum Sifting {
-    Thin(Sieve),
-    Whole,
-}
-
-// Which lines are enough for the position? For thin ones it must not push, and, whatever the stack, take a set that is served.
-pub fn enough(spot: Spot) -> Sifting
+// The sieve whose thin lines are enough for the position; none where no fewer than all are. For thin ones it must not push, and, whatever
+// the stack, take a set that is served.
+pub fn enough(spot: Spot) -> Option<Sieve>
     ensures { Sifted spot result }
 {
     if spot.push {
-        return Sifting::Whole;
-    }
-    let rule = spot.rule;
-    match rule {
-        Rule::Never => Sifting::Thin(Sieve::Boats),
-        Rule::Always => Sifting::Thin(Sieve::Boats),
-        Rule::Same => Sifting::Whole,
-        Rule::Other => Sifting::Thin(Sieve::Boats),
-        Rule::Sister => Sifting::Thin(Sieve::Sisters),
-        Rule::Foreign => Sifting::Thin(Sieve::Classes),
+        None
+    } else {
+        match spot.rule {
+            Rule::Never | Rule::Always | Rule::Other => Some(Sieve::Boats),
+            Rule::Same => None,
+            Rule::Sister => Some(Sieve::Sisters),
+            Rule::Foreign => Some(Sieve::Classes),
+        }
     }
 }
 
@@ -399,10 +358,7 @@ pub fn stands_at(plan: Plan, s: usize, q: usize) -> bool
 {
     let block = (plan.done + 1) * plan.stacks;
     let low = q * block;
-    if s < low {
-        return false;
-    }
-    s - low < block
+    low <= s && s - low < block
 }
 
 // A number below 2^20 divided by the stacks, as a multiplication by their inverse.
@@ -450,7 +406,7 @@ pub fn lowest(mask: u64) -> usize
     requires { 0 < mask }
     ensures { (result < 64) × Lowest mask result }
 {
-    u64::trailing_zeros(mask) as usize
+    mask.trailing_zeros() as usize
 }
 
 // A mask without its lowest position.
@@ -459,6 +415,28 @@ pub fn rest_of(mask: u64) -> u64
     ensures { (result < mask) × ((k : ℕ) → Lowest mask k → From mask (k + 1) result) }
 {
     mask & (mask - 1)
+}
+
+// The positions of a mask, from its lowest to its last.
+#[derive(Clone, Copy)]
+pub struct Positions(pub u64);
+
+impl Iterator for Positions {
+    type Item = usize;
+
+    ghost next_gives = { λ s k t. TakesLowest s.0 k t.0 };
+
+    ghost remaining = { λ s. at_most s.0 };
+
+    fn next(&mut self) -> Option<usize> {
+        if self.0 == 0 {
+            None
+        } else {
+            let k = lowest(self.0);
+            self.0 = rest_of(self.0);
+            Some(k)
+        }
+    }
 }
 
 // ---- a state that is expanded, by its numbers
@@ -519,42 +497,36 @@ pub fn taken_by(work: &[u32], plan: Plan, spot: Spot, target: Target) -> Takes
     requires { Laid plan (length work.now) × (0 < spot.level) × Entries plan.radix target }
     ensures { TakenBy (boats_in plan work.now) plan.radix spot target.stack result }
 {
-    let rule = spot.rule;
-    if let Rule::Always = rule {
+    if spot.rule == Rule::Always {
         return Takes::Any;
     }
-    if let Rule::Never = rule {
+    if spot.rule == Rule::Never {
         return Takes::Nobody;
     }
     let kept = kept_at(plan.radix, target, spot.level);
     if boat_of(work, plan, kept) == 0 {
         return Takes::Nobody;
     }
-    if let Rule::Same = rule {
-        return Takes::Only(kept);
+    match spot.rule {
+        Rule::Same => Takes::Only(kept),
+        Rule::Other => Takes::ReadBut(kept),
+        _ => Takes::Ask,
     }
-    if let Rule::Other = rule {
-        return Takes::ReadBut(kept);
-    }
-    Takes::Ask
 }
 
-// Those that pass by their classes, where the rule compares these and the kept boat is read. Apart from the others, which are asked for at
-// nearly every step: a question more there is compiled to a jump.
-pub fn kin_taken(work: &[u32], plan: Plan, spot: Spot, target: Target) -> Kin
+// Those that pass by their classes; none where the rule does not compare these or the kept boat is unread. Apart from the others, which are
+// asked for at nearly every step: a question more there is compiled to a jump.
+pub fn kin_taken(work: &[u32], plan: Plan, spot: Spot, target: Target) -> Option<Kin>
     requires { Laid plan (length work.now) × (0 < spot.level) × Entries plan.radix target }
     ensures { KinTaken (boats_in plan work.now) plan.radix spot target.stack result }
 {
     let kept = kept_at(plan.radix, target, spot.level);
     if boat_of(work, plan, kept) == 0 {
-        return Kin::Neither;
+        return None;
     }
-    let rule = spot.rule;
-    if let Rule::Sister = rule {
-        return Kin::Sister(kept);
+    match spot.rule {
+        Rule::Sister => Some(Kin::Sister(kept)),
+        Rule::Foreign => Some(Kin::Foreign(kept)),
+        _ => None,
     }
-    if let Rule::Foreign = rule {
-        return Kin::Foreign(kept);
-    }
-    Kin::Neither
 }

@@ -150,6 +150,16 @@ turned_none {s = s} {program = program} {begin = begin} {amount = amount} {w = w
       going = λ _ j h. absurd (omega (arith, h));
     }
 
+-- what is left, said in another way
+pub turned-left : {Done : Underway → Type 0} {end : ℕ} {s : SearchState} {program : List ℕ} {begin amount : ℕ} {w : List ℕ} {r : SearchState} {m n : ℕ} {v : List ℕ}
+    → m ≡ n → Turned Done end s program begin amount w (record { state = r; left = m }) v → Turned Done end s program begin amount w (record { state = r; left = n }) v
+turned-left {Done} {end} {s} {program} {begin} {amount} {w} {r} {v = v} e t = subst (λ k. Turned Done end s program begin amount w (record { state = r; left = k }) v) e t
+
+-- and what holds where some is left
+pub turned-as : {First Done : Underway → Type 0} {end : ℕ} {s : SearchState} {program : List ℕ} {begin amount : ℕ} {w : List ℕ} {h : Going} {v : List ℕ}
+    → Turned First end s program begin amount w h v → (0 < h.left → Done (underway_in h.state v)) → Turned Done end s program begin amount w h v
+turned-as t d = record { few = t.few; held = t.held; done = d; going = t.going }
+
 -- one turn
 pub turned-one : {end : ℕ} {s : SearchState} {program : List ℕ} {begin amount : ℕ} {w : List ℕ} {r : SearchState} {v : List ℕ}
     → 0 < amount → at_end (underway_in s w) ≡ false → Held (taken_in s program begin w) end s w r v

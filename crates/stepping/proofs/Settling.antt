@@ -32,30 +32,27 @@ use Rattle.tracing.proofs.Traces.{back-later}
 use Rattle.sweeping.specs.Sweeping.{marks_at, index_at, marks_in, FirstsMarked}
 use Rattle.sweeping.proofs.Marks.{only-front, only-stretch, only-laid}
 use Rattle.stepping.proofs.Moving.{held_none, held-idle, held_then}
-use Rattle.stepping.specs.Stepping.{underway_in, firsts, expanded_by, taken_in, Standing, Searched, Held, StepHeld}
+use Rattle.stepping.specs.Stepping.{underway_in, queued_word, firsts, expanded_by, taken_in, Standing, Searched, Held, StepHeld}
 
 -- ---- the word of the state expanded last
 
 -- the queue, and the distances, of a search in the area
-abbrev pub queue_in : SearchState → List ℕ → List ℕ
+abbrev queue_in : SearchState → List ℕ → List ℕ
 queue_in s w = (found s.plan.base s.plan.size s.at.found w).queue
 
-abbrev pub words_in : SearchState → List ℕ → List ℕ
+abbrev words_in : SearchState → List ℕ → List ℕ
 words_in s w = (found s.plan.base s.plan.size s.at.found w).dist
 
 module _ (s : SearchState) (w : List ℕ) where
-  last-by : (e : ℕ) → s.at.expanded ≡ e → last_word (underway_in s w) ≡ elim e [ zero ↦ 0 | suc k ↦ get_or (words_in s w) (get_or (queue_in s w) k 0) 0 ]
+  last-by : (e : ℕ) → s.at.expanded ≡ e → last_word (underway_in s w) ≡ elim e [ zero ↦ 0 | suc k ↦ queued_word s w k ]
   unfolding last_word underway_in reached_in
-  last-by e h i = elim (h i) [ zero ↦ 0 | suc k ↦ get_or (words_in s w) (get_or (queue_in s w) k 0) 0 ]
+  last-by e h i = elim (h i) [ zero ↦ 0 | suc k ↦ queued_word s w k ]
 
   pub last_none : s.at.expanded ≡ 0 → 0 ≡ last_word (underway_in s w)
   last_none h = sym (last-by 0 h)
 
-  pub last_some : (s.at.expanded ≡ 0 → ⊥) → (t d : ℕ) → t ≡ get_or (queue_in s w) (s.at.expanded - 1) 0 → d ≡ get_or (words_in s w) t 0
-      → d ≡ last_word (underway_in s w)
-  last_some n t d is word =
-      let next : s.at.expanded ≡ suc (s.at.expanded - 1) = omega arith in
-      word ∙ (ap (λ x. get_or (words_in s w) x 0) is ∙ sym (last-by (suc (s.at.expanded - 1)) next))
+  pub last_some : (k : ℕ) → s.at.expanded ≡ suc k → queued_word s w k ≡ last_word (underway_in s w)
+  last_some k e = sym (last-by (suc k) e)
 
   -- ---- what waits
 
@@ -86,13 +83,13 @@ module _ (s : SearchState) (w : List ℕ) where
       pub on_none : s.at.found ≤ s.at.expanded → false ≡ goes_on (firsts s begin) s.plan.lines (underway_in s w)
       on_none past = sym (on-by [] (none-waits past))
 
-      pub on_some : s.at.expanded < s.at.found → (t d last : ℕ) (met : Bool)
-          → t ≡ get_or (queue_in s w) s.at.expanded 0 → d ≡ get_or (words_in s w) t 0 → last ≡ last_word (underway_in s w)
+      pub on_some : s.at.expanded < s.at.found → (d last : ℕ) (met : Bool)
+          → d ≡ queued_word s w s.at.expanded → last ≡ last_word (underway_in s w)
           → met ≡ met_by (nearest_word (distances s.plan w) (firsts s begin)) d last
           → not met ≡ goes_on (firsts s begin) s.plan.lines (underway_in s w)
-      on_some less t d last met is word before says =
+      on_some less d last met word before says =
           ap not (says ∙ (λ i. met_by (nearest_word (distances s.plan w) (firsts s begin)) (word i) (before i)))
-          ∙ sym (on-by (t ∷ drop (suc s.at.expanded) (queue_in s w)) (some-waits less t is))
+          ∙ sym (on-by (get_or (queue_in s w) s.at.expanded 0 ∷ drop (suc s.at.expanded) (queue_in s w)) (some-waits less _ refl))
 
 -- ---- the search as it is then
 

@@ -1,13 +1,13 @@
 -- A search under way as it stands in the area (`underway_in`), and what moving it on promises: it becomes what graph's `Underway` says, and every word
 -- that is not its own is as it was.
-use Rattle.std.specs.Prelude.{◌≡◌, true, false, List, [], ℕ, ◌+◌, ◌*◌, ◌-◌, ◌≤◌, ◌<◌, length, take, drop}
+use Rattle.std.specs.Prelude.{◌≡◌, true, false, List, [], ℕ, ◌+◌, ◌*◌, ◌-◌, ◌≤◌, ◌<◌, length, get_or, take, drop}
 use Rattle.graph.specs.Underway.{Underway, expanded_next, taken, taken_by, at_end}
 use Rattle.request.specs.Layout.{table_words, Laid}
 use Rattle.request.specs.declared.Plan.{Plan}
 use Rattle.search.specs.Loaded.{setting_at}
 use Rattle.search.specs.Product.{succs}
 use Rattle.search.specs.Traced.{trace}
-use Rattle.area.specs.Area.{stretch}
+use Rattle.area.specs.Area.{stretch, found}
 use Rattle.states.specs.Pairs.{RoomBack, GoodBack}
 use Rattle.states.specs.Spots.{Fit}
 use Rattle.forward.specs.Firsts.{first_states}
@@ -27,6 +27,10 @@ underway_in s w = record {
   far = s.at.far;
   sweep = record { rest = s.at.rest; chosen = s.at.chosen; noted = record { line = s.at.noted; marks = marks_in s.plan w } };
 }
+
+-- the word of the state at place i of the queue
+abbrev pub queued_word : SearchState → List ℕ → ℕ → ℕ
+queued_word s w i = let table = found s.plan.base s.plan.size s.at.found w in get_or table.dist (get_or table.queue i 0) 0
 
 -- the first states, by the mask of where runs begin
 abbrev pub firsts : SearchState → ℕ → List ℕ

@@ -5,9 +5,9 @@
 
 ghost use Rattle.std.specs.Prelude.{◌≡◌, suc, ◌+◌, ◌≤◌, ◌<◌};
 ghost use Rattle.graph.specs.Underway.{settled, goes_on, last_word};
-ghost use Rattle.stepping.specs.Stepping.{underway_in, firsts, expanded_by, taken_in, Standing, Searched, Fitting, Indexing, Ordering, StepHeld, BackBy, ForthBy, BackMoved, ForthMoved, MovedOn};
+ghost use Rattle.stepping.specs.Stepping.{underway_in, queued_word, firsts, expanded_by, taken_in, Standing, Searched, Fitting, Indexing, Ordering, StepHeld, BackBy, ForthBy, BackMoved, ForthMoved, MovedOn};
 
-use holding::{Counters, SearchState};
+use holding::{Counters, Phase, SearchState};
 use sorted::Order;
 use sweeping::Sweeping;
 
@@ -18,19 +18,26 @@ pub struct Going {
     pub left: usize,
 }
 
+// The word of the state at place `i` of the queue.
+fn queued_word(work: &[u32], s: SearchState, i: usize) -> u32
+    requires { Standing s work.now × (i < s.at.found) }
+    ensures { Searched s work.now → result ≡ queued_word s work.now i }
+{
+    let plan = s.plan;
+    let found = s.at.found as usize;
+    let t = area::waiting_checked(work, plan.base, plan.size, found, i);
+    area::dist_at(work, plan.base, plan.size, found, t)
+}
+
 // The word of the state expanded last, 0 where none is.
 fn last_word(work: &[u32], s: SearchState) -> u32
     requires { Standing s work.now }
     ensures { Searched s work.now → result ≡ last_word (underway_in s work.now) }
 {
-    let plan = s.plan;
-    let at = s.at;
-    if at.expanded == 0 {
+    let Some(last) = (s.at.expanded as usize).checked_sub(1) else {
         return 0;
-    }
-    let found = at.found as usize;
-    let t = area::waiting_checked(work, plan.base, plan.size, found, at.expanded as usize - 1);
-    area::dist_at(work, plan.base, plan.size, found, t)
+    };
+    queued_word(work, s, last)
 }
 
 // Does a state wait, and is no first state as near as it?
@@ -38,16 +45,12 @@ fn goes_on(work: &[u32], s: SearchState, begin: u64) -> bool
     requires { Standing s work.now }
     ensures { Searched s work.now → result ≡ goes_on (firsts s begin) s.plan.lines (underway_in s work.now) }
 {
-    let plan = s.plan;
-    let at = s.at;
-    if at.found <= at.expanded {
+    if s.at.found <= s.at.expanded {
         return false;
     }
-    let found = at.found as usize;
-    let t = area::waiting_checked(work, plan.base, plan.size, found, at.expanded as usize);
-    let d = area::dist_at(work, plan.base, plan.size, found, t);
+    let d = queued_word(work, s, s.at.expanded as usize);
     let last = last_word(work, s);
-    !backward::first_met(work, plan, begin, s.from, d, last)
+    !backward::first_met(work, s.plan, begin, s.from, d, last)
 }
 
 // Phase one goes on; or the first states that are nearest are marked and the sweep is to begin; or there is no chain.
@@ -63,11 +66,11 @@ pub fn settle(work: &mut [u32], s: SearchState, begin: u64) -> SearchState
     }
     let near = forward::nearest(work, plan, begin, from);
     if near == 0 {
-        at.phase = 2;
+        at.phase = Phase::NoChain as u32;
         return SearchState { plan, from, at };
     }
     sweeping::mark_firsts(work, plan, begin, from, near);
-    at.phase = 1;
+    at.phase = Phase::Forth as u32;
     at.far = near;
     at.rest = at.found;
     at.chosen = plan.lines as u32;
@@ -150,15 +153,14 @@ fn back_by(
     ensures { BackBy s program.now begin amount work.old result work.new }
 {
     let mut state = s;
-    let mut left = amount;
-    while 0 < left {
-        if state.at.phase != 0 {
+    for done in 0..amount {
+        if state.at.phase != Phase::Back as u32 {
+            let left = amount - done;
             return Going { state, left };
         }
         state = back_one(work, state, program, begin);
-        left -= 1;
     }
-    Going { state, left }
+    Going { state, left: 0 }
 }
 
 // Turns of phase two, while more than the goal is left.
@@ -174,15 +176,14 @@ fn forth_by(
     ensures { ForthBy s program.now begin amount work.old result work.new }
 {
     let mut state = s;
-    let mut left = amount;
-    while 0 < left {
+    for done in 0..amount {
         if state.at.rest <= 1 {
+            let left = amount - done;
             return Going { state, left };
         }
         state = forth_one(work, state, program, begin);
-        left -= 1;
     }
-    Going { state, left }
+    Going { state, left: 0 }
 }
 
 impl Going {
@@ -192,7 +193,7 @@ impl Going {
         ensures { BackMoved self.state program.now begin self.left work.old result work.new }
     {
         let s = self.state;
-        if s.at.phase != 0 {
+        if s.at.phase != Phase::Back as u32 {
             return self;
         }
         if self.left == 0 {
@@ -209,7 +210,7 @@ impl Going {
         ensures { ForthMoved self.state program.now begin self.left work.old result work.new }
     {
         let s = self.state;
-        if s.at.phase != 1 {
+        if s.at.phase != Phase::Forth as u32 {
             return self;
         }
         if self.left == 0 {

@@ -75,6 +75,10 @@ pub record Lined (plan : Plan) (q lo hi : ℕ) (w : List ℕ) : Type 0 where
   pub rising : (k p : ℕ) → lo ≤ k → k ≤ p → p < hi → get_or w k 0 ≤ get_or w p 0
   pub all : (j : ℕ) → j < plan.lines → from_in (word_at plan (front plan w) j) ≡ q → (p : ℕ) × (lo ≤ p) × (p < hi) × (get_or w p 0 ≡ j)
 
+-- the word read at k, in words that are still the same, is a line
+pub line-read : {plan : Plan} {q lo hi : ℕ} {w v : List ℕ} → Lined plan q lo hi w → (k x : ℕ) → lo ≤ k → k < hi → v ≡ w → x ≡ get_or v k 0 → (x ≡ get_or w k 0) × (x < plan.lines)
+line-read {w = w} lined k x le less same e = let is : x ≡ get_or w k 0 = e ∙ ap (λ l. get_or l k 0) same in (is, omega (arith, is, lined.lines-low k le less))
+
 -- a place is a key
 pub start-keys : (plan : Plan) {q : ℕ} → q < plan.places → q < keys Order.Start plan
 unfolding keys

@@ -17,6 +17,7 @@ ghost use Rattle.sweeping.specs.Sweeping.{index_at, Ordered, mark_turn, first_tu
 use forward::Lead;
 use request::Plan;
 use sorted::Order;
+use states::Positions;
 
 // Which states are marked, by their word, and with what.
 #[derive(Clone, Copy)]
@@ -74,14 +75,11 @@ fn mark_next(
     ensures { Marked plan (turns (next_turn plan program.now mask (mark_turn (distances plan work.old) marking.want marking.with) to v) 0 (plan.done + 1)) false work.old result work.new }
 {
     let mut led = false;
-    let mut rest = mask;
-    while rest != 0 {
-        let k = states::lowest(rest);
+    for k in Positions(mask) {
         if plan.done < k {
             return led;
         }
         led = mark_one(work, plan, program, marking, to, v, k, led);
-        rest = states::rest_of(rest);
     }
     led
 }
@@ -131,8 +129,7 @@ fn lead_on(
 {
     let at = plan.base + 4 * plan.size;
     let run = sorted::run_at(work, plan, Order::Start, at, states::place_of(plan, s));
-    let mut k = run.lo;
-    while k < run.hi {
+    for k in run.start..run.end {
         let i = area::word(work, k) as usize;
         if noted < i {
             return noted;
@@ -145,7 +142,6 @@ fn lead_on(
         if mark_line(work, plan, program, marking, lead, s) {
             return i;
         }
-        k += 1;
     }
     noted
 }
@@ -158,14 +154,8 @@ pub struct Sweeping {
     pub noted: usize,
 }
 
-// The word of states one nearer.
-fn nearer(w: u32) -> u32
-    ensures { result ≡ w - 1 }
-{
-    if w == 0 { 0 } else { w - 1 }
-}
-
-// The state `s` with the word `w`: where it is marked with the line chosen into its level, it looks for its least line. Returns the least line so far.
+// The state `s` with the word `w`: where it is marked with the line chosen into its level, it looks for its least line to a state one nearer. Returns
+// the least line so far.
 fn take_up(
     work: &mut [u32],
     plan: Plan,
@@ -179,7 +169,7 @@ fn take_up(
     ensures { TakenUp plan (setting_at program.now plan work.old) s w at work.old result work.new }
 {
     if area::word(work, plan.base + 3 * plan.size + s) as usize == at.chosen + 1 {
-        return lead_on(work, plan, program, s, nearer(w), at.noted);
+        return lead_on(work, plan, program, s, w.saturating_sub(1), at.noted);
     }
     at.noted
 }

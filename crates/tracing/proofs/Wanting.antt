@@ -3,6 +3,7 @@
 use mathlib.Core.Path.{◌≡◌, refl, sym, ap, ◌∙◌}
 use mathlib.Core.Bool.{Bool, true, false, cond, ◌&&◌, false≢true}
 use mathlib.Core.List.{List}
+use Rattle.std.specs.Prelude.{Option, None, Some}
 use Prim.Native.Nat.{ℕ, ◌+◌, ◌*◌, ◌/◌, ◌%◌, ◌<◌}
 use native.Mathlib.Omega.{arith}
 use native.Mathlib.Nat.{div-eq_of_lt, mod-lt, mul-add-div_right}
@@ -21,7 +22,6 @@ use Rattle.expanding.specs.Undoing.{undone, line_undone}
 use Rattle.expanding.specs.declared.Undo.{Undo}
 use Rattle.tracing.specs.Tracing.{line_traced}
 use Rattle.tracing.specs.Wanting.{can_have, can_lead, WantedBy}
-use Rattle.tracing.specs.declared.Wanted.{Wanted}
 use Rattle.tracing.proofs.Traces.{tagged-idle}
 
 -- ---- one stack
@@ -51,7 +51,7 @@ right-false false b e = refl
 
 module _ (plan : Plan) (u : Undo) (one : u.count ≡ 1) where
   -- with a push, the boat on top
-  pub top-alone : u.spot.push ≡ true → 0 < u.spot.weight → (y : ℕ) → y ≡ u.stack / u.spot.weight → WantedBy plan u (Wanted.Only y)
+  pub top-alone : u.spot.push ≡ true → 0 < u.spot.weight → (y : ℕ) → y ≡ u.stack / u.spot.weight → WantedBy plan u (Some y)
   top-alone pushed some y is B home x st other =
       one-undone plan u B home x st one
       ∙ stack-idle B plan.radix u.spot u.d home x u.stack st (left_false _ _ (ne_eqb _ _ (λ e. other (top e))))
@@ -68,7 +68,7 @@ module _ (plan : Plan) (u : Undo) (one : u.count ≡ 1) where
           sym sum ∙ (sym (mul-add-div_right some x (v % w)) ∙ (ap (◌/ w) (sym put ∙ e) ∙ sym is))
 
   -- without one, where the entry compared with is taken alone, that entry
-  pub kept-alone : u.spot.push ≡ false → OnlyKept u.spot → (y : ℕ) → y ≡ u.stack / u.spot.level % plan.radix → WantedBy plan u (Wanted.Only y)
+  pub kept-alone : u.spot.push ≡ false → OnlyKept u.spot → (y : ℕ) → y ≡ u.stack / u.spot.level % plan.radix → WantedBy plan u (Some y)
   kept-alone plain only y is B home x st other =
       one-undone plan u B home x st one
       ∙ stack-idle B plan.radix u.spot u.d home x u.stack st (right-false (eqb (on u.spot (off u.spot u.stack) x) u.stack) _ refused)
@@ -88,10 +88,10 @@ cond_same true a z e = e
 cond_same false a z e = refl
 
 module _ (plan : Plan) (u : Undo) (g : List ℕ) (place c i : ℕ) where
-  idle-by : (y : Wanted) → WantedBy plan u y → can_have y (code_at plan g i) ≡ false → (st : Search) → line_undone plan u g place c i st ≡ st
+  idle-by : (y : Option ℕ) → WantedBy plan u y → can_have y (code_at plan g i) ≡ false → (st : Search) → line_undone plan u g place c i st ≡ st
   unfolding line_undone
-  idle-by (Wanted.Only y) h no-boat st = cond_same (eqb (to_in (word_at plan g i)) place && eqb (kind_in (word_at plan g i)) u.spot.kind) _ st (h (boat_at plan g) (state_in plan (from_in (word_at plan g i)) c 0) (code_at plan g i) st (eqb-false _ _ no-boat))
-  idle-by Wanted.Any h no-boat st = absurd (false≢true (sym no-boat))
+  idle-by (Some y) h no-boat st = cond_same (eqb (to_in (word_at plan g i)) place && eqb (kind_in (word_at plan g i)) u.spot.kind) _ st (h (boat_at plan g) (state_in plan (from_in (word_at plan g i)) c 0) (code_at plan g i) st (eqb-false _ _ no-boat))
+  idle-by None h no-boat st = absurd (false≢true (sym no-boat))
 
   -- a line of another kind
   idle-kind : eqb (kind_in (word_at plan g i)) u.spot.kind ≡ false → (st : Search) → line_undone plan u g place c i st ≡ st
@@ -103,13 +103,13 @@ module _ (plan : Plan) (u : Undo) (g : List ℕ) (place c i : ℕ) where
       go true false e = refl
       go false b e = refl
 
-  idle-line : (y : Wanted) → WantedBy plan u y → can_lead u.spot.kind y (word_at plan g i) (code_at plan g i) ≡ false → (st : Search) → line_undone plan u g place c i st ≡ st
+  idle-line : (y : Option ℕ) → WantedBy plan u y → can_lead u.spot.kind y (word_at plan g i) (code_at plan g i) ≡ false → (st : Search) → line_undone plan u g place c i st ≡ st
   idle-line y h never st = go (can_have y (code_at plan g i)) refl never
     where
       go : (b : Bool) → can_have y (code_at plan g i) ≡ b → (b && eqb (kind_in (word_at plan g i)) u.spot.kind) ≡ false → line_undone plan u g place c i st ≡ st
       go true e n = idle-kind n st
       go false e n = idle-by y h e st
 
-  pub line-unwanted : (parent : ℕ) (y : Wanted) → WantedBy plan u y → can_lead u.spot.kind y (word_at plan g i) (code_at plan g i) ≡ false → (x : Reached) → line_traced plan u g place c parent i x ≡ x
+  pub line-unwanted : (parent : ℕ) (y : Option ℕ) → WantedBy plan u y → can_lead u.spot.kind y (word_at plan g i) (code_at plan g i) ≡ false → (x : Reached) → line_traced plan u g place c parent i x ≡ x
   unfolding line_traced
   line-unwanted parent y h never x = tagged-idle (tag_of i parent) (line_undone plan u g place c i) x (idle-line y h never x.table)

@@ -22,23 +22,13 @@ use states::Target;
 // A tag is a line times this and a state.
 const TAG: usize = 1048576;
 
-// All words of `part` become `v`.
-fn fill(part: &mut [u32], v: u32)
-    ensures { part.new ≡ replicate (length part.old) v }
-{
-    let mut i = 0;
-    while i < part.len() {
-        part[i] = v;
-        i += 1;
-    }
-}
-
 // The words from word `lo` up to word `hi` become `v`.
+#[tactic(auto, unfolding(area::specs::Area::patch))]
 fn write_run(work: &mut [u32], lo: usize, hi: usize, v: u32)
     requires { (lo ≤ hi) × (hi ≤ length work.old) }
     ensures { work.new ≡ patch lo (hi - lo) (replicate (hi - lo) v) work.old }
 {
-    fill(&mut work[lo..hi], v);
+    work[lo..hi].fill(v);
 }
 
 // Line `i`, if it leads to the place and is of the position's kind: gone back over to the position `c`. The states that it finds get its tag.
@@ -63,55 +53,43 @@ fn one_traced(
     t
 }
 
-// Which boats a line can have that leads back: one alone, or any.
-#[derive(Clone, Copy)]
-pub enum Wanted {
-    Only(usize),
-    Any,
-}
-
-// Where one stack is undone: the boat that it has on top, where the position keeps a boat, or the entry that the position compares with, where
-// it takes that alone.
-fn wanted_by(plan: Plan, undo: Undo) -> Wanted
+// The one boat that a line can have which leads back; none where it can have any. Where one stack is undone it is the boat that the stack has on top,
+// where the position keeps a boat, or the entry that the position compares with, where it takes that alone.
+fn wanted_by(plan: Plan, undo: Undo) -> Option<usize>
     requires { Sane undo.spot × (0 < plan.radix) }
     ensures { WantedBy plan undo result }
 {
     let spot = undo.spot;
     if undo.count != 1 {
-        return Wanted::Any;
+        return None;
     }
     if spot.push {
-        return Wanted::Only(undo.stack / spot.weight);
+        return Some(undo.stack / spot.weight);
     }
     if states::wants_kept(spot) {
-        return Wanted::Only(states::entry_at(undo.stack, spot.level, plan.radix));
+        return Some(states::entry_at(undo.stack, spot.level, plan.radix));
     }
-    Wanted::Any
+    None
 }
 
 // Can line `i` have it?
-fn can_have(work: &[u32], plan: Plan, wanted: Wanted, i: usize) -> bool
+fn can_have(work: &[u32], plan: Plan, wanted: Option<usize>, i: usize) -> bool
     requires { Laid plan (length work.now) × (i < plan.lines) }
     ensures { result ≡ can_have wanted (code_at plan (front plan work.now) i) }
 {
-    if let Wanted::Only(x) = wanted {
-        let code = area::word(work, plan.codes + i) as usize;
-        return code == x;
+    match wanted {
+        Some(x) => area::word(work, plan.codes + i) as usize == x,
+        None => true,
     }
-    true
 }
 
 // Can line `i` lead back: can it have the wanted boat, and is it of the kind? Both are asked before the line is gone over, since most lines fail one;
 // the boat first, which fewer pass.
-fn can_lead(work: &[u32], plan: Plan, kind: usize, wanted: Wanted, i: usize) -> bool
+fn can_lead(work: &[u32], plan: Plan, kind: usize, wanted: Option<usize>, i: usize) -> bool
     requires { Laid plan (length work.now) × (i < plan.lines) }
     ensures { result ≡ can_lead kind wanted (word_at plan (front plan work.now) i) (code_at plan (front plan work.now) i) }
 {
-    if can_have(work, plan, wanted, i) {
-        let line = area::word(work, plan.words + i);
-        return request::kind_of(line) == kind;
-    }
-    false
+    can_have(work, plan, wanted, i) && request::kind_of(area::word(work, plan.words + i)) == kind
 }
 
 // Is line `i` to be gone over: can it lead back, and is the state that it would find not one that has been met?
@@ -119,7 +97,7 @@ fn worth_going(
     work: &[u32],
     plan: Plan,
     undo: Undo,
-    wanted: Wanted,
+    wanted: Option<usize>,
     c: usize,
     i: usize,
     tail: usize,
@@ -129,14 +107,8 @@ fn worth_going(
     requires leads_to { LeadsTo plan undo c }
     ensures { result ≡ false → NothingTraced plan undo c i tail work.now }
 {
-    let spot = undo.spot;
-    if can_lead(work, plan, spot.kind, wanted, i) {
-        if expanding::line_met(work, plan, undo, c, i, tail) {
-            return false;
-        }
-        return true;
-    }
-    false
+    can_lead(work, plan, undo.spot.kind, wanted, i)
+        && !expanding::line_met(work, plan, undo, c, i, tail)
 }
 
 // Each line that leads to the place, one after the other; those that would do nothing are left out.
@@ -158,7 +130,7 @@ fn over_into(
     let run = sorted::run_at(work, plan, Order::End, at, place);
     let boats = wanted_by(plan, undo);
     let mut t = tail;
-    for k in run.lo..run.hi {
+    for k in run.start..run.end {
         let i = area::word(work, k) as usize;
         if worth_going(work, plan, undo, boats, c, i, t) {
             t = one_traced(work, plan, undo, place, c, i, parent, t);

@@ -5,8 +5,9 @@ use mathlib.Core.List.{List, [], ◌∷◌, ◌++◌, append_assoc, append-nil}
 use Prim.Native.Nat.{ℕ, zero, suc, ◌+◌, ◌-◌, ◌<◌, ◌≤◌}
 use native.Mathlib.Omega.{arith}
 use lib.Dec.{eqb}
-use lib.ListN.{length, get_or, set, take, drop, take-append-drop}
-use lib.Seq.{take-suc-set, drop-set-lt, drop-drop}
+use lib.ListN.{length, get_or, set, take}
+use lib.Seq.{take-suc-set}
+use Rattle.std.proofs.lemmas.List.{take_all}
 use borrow.Author.Tests.{eq-eqb, ne_eqb}
 use Rattle.graph.specs.Loops.{turns}
 use Rattle.graph.specs.Table.{Search}
@@ -71,28 +72,31 @@ pub anything-same : (x y : Search) → anything x ≡ anything y
 unfolding anything
 anything-same x y = refl
 
--- the line x is written at j, and the walk goes on from the frontier that it leads to
-pub walk-on : (E : ℕ → ℕ → ℕ → Search → Search) (m left lo j n x : ℕ) (st st' : Search) (out whole : List ℕ)
-    → 0 < left → j < length out
+walk-cons : (E : ℕ → ℕ → ℕ → Search → Search) (m left k lo n x : ℕ) (st st' : Search) → left ≡ suc k
     → x ≡ (try E left lo m 0 st).line → st' ≡ try_table E left lo m 0 st → length st.queue ≡ n
-    → take j out ++ walk E m left lo st ≡ whole
-    → take (j + 1) (set out j x) ++ walk E m (left - 1) n st' ≡ whole
-walk-on E m zero lo j n x st st' out whole some low line table len written = absurd (omega arith)
-walk-on E m (suc k) lo j n x st st' out whole some low line table len written =
+    → x ∷ walk E m k n st' ≡ walk E m left lo st
+unfolding walk try_table
+walk-cons E m left k lo n x st st' some line table len = rw (line, table, some, ← len)
+
+walk-none : (E : ℕ → ℕ → ℕ → Search → Search) (m left lo : ℕ) (st : Search) → left ≡ 0 → walk E m left lo st ≡ []
+unfolding walk
+walk-none E m left lo st none = rw none
+
+-- of `far` lines the line x is written at j, and the walk goes on from the frontier that it leads to
+pub walk-on : (E : ℕ → ℕ → ℕ → Search → Search) (m far lo j n x : ℕ) (st st' : Search) (out whole : List ℕ)
+    → j < far → j < length out
+    → x ≡ (try E (far - j) lo m 0 st).line → st' ≡ try_table E (far - j) lo m 0 st → length st.queue ≡ n
+    → take j out ++ walk E m (far - j) lo st ≡ whole
+    → take (j + 1) (set out j x) ++ walk E m (far - (j + 1)) n st' ≡ whole
+walk-on E m far lo j n x st st' out whole some low line table len written =
     let more : j + 1 ≡ suc j = omega arith in
-    let one : suc k - 1 ≡ k = omega arith in
-    let next : x ∷ walk E m k n st' ≡ walk E m (suc k) lo st = unfold walk try_table in rw (line, table, ← len) in
-    rw (more, one, take-suc-set out j x low, append_assoc (take j out) (x ∷ []) (walk E m k n st')) (ap (take j out ++◌) next ∙ written)
+    let next = walk-cons E m (far - j) (far - (j + 1)) lo n x st st' (omega arith) line table len in
+    rw (more, take-suc-set out j x low, append_assoc (take j out) (x ∷ []) (walk E m (far - suc j) n st'), ← more) (ap (take j out ++◌) next ∙ written)
 
--- the rest of the output stays
-pub walk_kept : (j x : ℕ) (out out₀ : List ℕ) → drop j out ≡ drop j out₀ → drop (j + 1) (set out j x) ≡ drop (j + 1) out₀
-walk_kept j x out out₀ e = drop-set-lt (j + 1) out j x (omega arith) ∙ (sym (drop-drop 1 j out) ∙ (ap (drop 1) e ∙ drop-drop 1 j out₀))
-
-pub walk_end : (E : ℕ → ℕ → ℕ → Search → Search) (m left lo j far : ℕ) (st : Search) (out out₀ whole : List ℕ)
-    → left ≡ 0 → j ≡ far → take j out ++ walk E m left lo st ≡ whole → drop j out ≡ drop j out₀
-    → out ≡ whole ++ drop far out₀
-walk_end E m left lo j far st out out₀ whole z all written kept =
-    let none : walk E m left lo st ≡ [] = unfold walk in rw z in
-    let front : take j out ≡ whole = sym (append-nil (take j out)) ∙ (ap (take j out ++◌) (sym none) ∙ written) in
-    let back : drop j out ≡ drop far out₀ = kept ∙ ap (λ (n : ℕ). drop n out₀) all in
-    sym (take-append-drop j out) ∙ rw (front, back)
+-- all of them are written
+pub walk_end : (E : ℕ → ℕ → ℕ → Search → Search) (m far lo j : ℕ) (st : Search) (out whole : List ℕ)
+    → far ≤ j → length out ≤ j → take j out ++ walk E m (far - j) lo st ≡ whole → out ≡ whole
+walk_end E m far lo j st out whole done full written =
+    let none = walk-none E m (far - j) lo st (omega arith) in
+    let all : take j out ++ [] ≡ whole = ap (take j out ++◌) (sym none) ∙ written in
+    sym (take_all j out full) ∙ (sym (append-nil (take j out)) ∙ all)

@@ -43,16 +43,15 @@ pub fn gather_line(
 {
     let lead = forward::lead_of(work, plan, i);
     let mut t = tail;
-    let mut j = lo;
-    while j < tail {
+    for j in lo..tail {
         let s = area::waiting(work, plan.marks, plan.size, t, j);
         t = forward::from_state(work, plan, program, want, lead, s, t);
-        j += 1;
     }
     t
 }
 
-// The line that is chosen, and the count of the queue then.
+// The line that is chosen, and the count of the queue then. Where no line leads on it is the count of lines, and no `None`: what is chosen is
+// written out either way, as the specification's walk does.
 #[derive(Clone, Copy)]
 pub struct Choice {
     pub line: usize,
@@ -73,16 +72,16 @@ fn choose_all(
     requires want_nonzero { (0 < want) × (lo ≤ tail) }
     ensures { Chose plan program.now want lo tail work.old result.line result.tail work.new }
 {
-    let lines = plan.lines;
-    let mut i = 0;
-    while i < lines {
-        let t = gather_line(work, plan, program, want, i, lo, tail);
+    for line in 0..plan.lines {
+        let t = gather_line(work, plan, program, want, line, lo, tail);
         if t != tail {
-            return Choice { line: i, tail: t };
+            return Choice { line, tail: t };
         }
-        i += 1;
     }
-    Choice { line: i, tail }
+    Choice {
+        line: plan.lines,
+        tail,
+    }
 }
 
 // The place of the frontier, which stands in the queue from index `lo` on; any place where it is empty.
@@ -116,14 +115,12 @@ fn choose_here(
 {
     let q = place_of(work, plan, lo, tail);
     let run = sorted::run_of(work, plan, Order::Start, q);
-    let mut k = run.lo;
-    while k < run.hi {
-        let i = area::word(work, k) as usize;
-        let t = gather_line(work, plan, program, want, i, lo, tail);
+    for k in run.start..run.end {
+        let line = area::word(work, k) as usize;
+        let t = gather_line(work, plan, program, want, line, lo, tail);
         if t != tail {
-            return Choice { line: i, tail: t };
+            return Choice { line, tail: t };
         }
-        k += 1;
     }
     Choice {
         line: plan.lines,
@@ -167,15 +164,11 @@ pub fn walk_lines(
 {
     let mut lo = 0;
     let mut t = tail;
-    let mut left = far;
-    let mut j = 0;
-    while 0 < left {
-        let chosen = choose_line(work, plan, program, left, lo, t);
-        out[j] = chosen.line as u16;
+    for (j, x) in out[..far as usize].iter_mut().enumerate() {
+        let chosen = choose_line(work, plan, program, far - j as u32, lo, t);
+        *x = chosen.line as u16;
         lo = t;
         t = chosen.tail;
-        j += 1;
-        left -= 1;
     }
 }
 

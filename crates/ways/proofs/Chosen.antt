@@ -13,10 +13,9 @@ use Rattle.graph.specs.Table.{push}
 use Rattle.states.specs.Spots.{okay, read_by, read_but, sister_of, foreign_to, OnlyKept}
 use Rattle.states.specs.declared.Spot.{Spot}
 use Rattle.states.specs.declared.Target.{Target}
-use Rattle.states.proofs.Bounds.{power-fits, power_small}
+use Rattle.states.proofs.Bounds.{power-fits, power_small, stacks-small}
 use Rattle.sorted.specs.Sorting.{pack_by}
-use Rattle.ways.specs.Ways.{taken_by, NoClass, Plain, Single, Before}
-use Rattle.ways.specs.declared.Lane.{Lane}
+use Rattle.ways.specs.Ways.{taken_by, Single, Before}
 use Rattle.ways.specs.declared.Taking.{Taking}
 use Rattle.ways.proofs.Right.{stack-plain, stack-pushed, stack-forgotten, stack-left, stack-fits}
 
@@ -24,23 +23,14 @@ use Rattle.ways.proofs.Right.{stack-plain, stack-pushed, stack-forgotten, stack-
 pub by-boat : (p R x : ℕ) → p < 1024 → R ≤ 4097 → x < R → (p * R ≤ 4195328) × (p * R + x < 4200000)
 by-boat p R x a b l = let m : p * R ≤ 1024 * 4097 = mul-le-mul {n₂ = 1024} {m₂ = 4097} (omega arith) b in (omega (arith, m), omega (arith, m))
 
--- a lane that takes one number does not ask for classes
-abbrev pub taking_tag : Taking → ℕ
-taking_tag Taking.All = 0
-taking_tag Taking.Only = 1
-taking_tag Taking.ReadBut = 2
-taking_tag Taking.Sister = 3
-taking_tag Taking.Foreign = 4
-
-pub no-class : (taking : Taking) → taking_tag taking ≤ 2 → NoClass taking
-no-class taking low = record { no-sister = λ e. omega (arith, low, ap taking_tag e); no-foreign = λ e. omega (arith, low, ap taking_tag e) }
-
-pub only-plain : (lane : Lane) → lane.taking ≡ Taking.Only → Plain lane
-only-plain lane e = no-class lane.taking (omega (arith, ap taking_tag e))
-
 -- a state's own stack is no deeper than the keeps
 pub shallow : {plan : Plan} {s : Spot} {t : Target} {c leaves : ℕ} → Before plan s t c leaves → Before plan s t c t.depth
 shallow b = record { area = b.area; laid = b.laid; aimed = b.aimed; sane = b.sane; kind-low = b.kind-low; position-low = b.position-low; leaves-low = b.aimed.depth_low }
+
+-- what making a lane asks for
+pub lane-asked : {plan : Plan} {s : Spot} {t : Target} {c leaves : ℕ} → Before plan s t c leaves → {u : ℕ} → u < plan.stacks → (c ≤ 63) × (plan.done ≤ 63) × (plan.stacks ≤ largest) × (u < 4294967296)
+lane-asked b low =
+    let few = stacks-small b.laid in (omega (arith, b.position-low, b.laid.few-positions), b.laid.few-positions, omega (arith, few, b.laid.small), omega (arith, low, few, b.laid.small))
 
 module _ (plan : Plan) (s : Spot) (t : Target) (c leaves : ℕ) (b : Before plan s t c leaves) where
   pub before-fits : t.stack % s.weight < plan.stacks
@@ -79,13 +69,13 @@ module _ (B : ℕ → ℕ) (plan : Plan) (s : Spot) (t : Target) (c leaves : ℕ
         law = λ d home x low st. stack-plain B R s d home x t.weight t.stack st e ∙ ap (λ z. cond z (push d (home + t.stack) st) st) (is x low);
       }
 
-  pub any-single : s.push ≡ false → (n : ℕ) → ((x : ℕ) → okay B R s x t.stack ≡ true) → Single B plan s t 1 (λ x. taken_by B Taking.All x n) (λ x. t.stack + x * 0)
-  any-single e n any = flat (plain e (λ x. true) (λ x low. any x))
+  pub any-single : s.push ≡ false → ((x : ℕ) → okay B R s x t.stack ≡ true) → Single B plan s t 1 (taken_by B Taking.All) (λ x. t.stack + x * 0)
+  any-single e any = flat (plain e (λ x. true) (λ x low. any x))
 
   pub only-single : s.push ≡ false → (y : ℕ) → ((x : ℕ) → okay B R s x t.stack ≡ eqb x y) → Single B plan s t 1 (λ x. eqb x y) (λ x. t.stack)
   only-single e y is = plain e (λ x. eqb x y) (λ x low. is x)
 
-  pub but-single : s.push ≡ false → (y : ℕ) → ((x : ℕ) → okay B R s x t.stack ≡ read_but B y x) → Single B plan s t 1 (λ x. taken_by B Taking.ReadBut x y) (λ x. t.stack + x * 0)
+  pub but-single : s.push ≡ false → (y : ℕ) → ((x : ℕ) → okay B R s x t.stack ≡ read_but B y x) → Single B plan s t 1 (taken_by B (Taking.ReadBut y)) (λ x. t.stack + x * 0)
   but-single e y is = flat (plain e (λ x. read_but B y x) (λ x low. is x))
 
   pub sister-single : s.push ≡ false → (y : ℕ) → ((x : ℕ) → okay B R s x t.stack ≡ sister_of B y x) → Single B plan s t 1 (λ x. sister_of B y x) (λ x. t.stack + x * 0)
@@ -103,8 +93,8 @@ module _ (B : ℕ → ℕ) (plan : Plan) (s : Spot) (t : Target) (c leaves : ℕ
 
   -- ---- it has one boat more, which is forgotten
 
-  pub drop-single : s.push ≡ true → s.weight ≡ t.weight → (n : ℕ) → ((x : ℕ) → okay B R s x t.stack ≡ true) → Single B plan s t R (λ x. taken_by B Taking.All x n) (λ x. t.stack + x * 0)
-  drop-single e same n any =
+  pub drop-single : s.push ≡ true → s.weight ≡ t.weight → ((x : ℕ) → okay B R s x t.stack ≡ true) → Single B plan s t R (taken_by B Taking.All) (λ x. t.stack + x * 0)
+  drop-single e same any =
       flat
       (record {
         fits = λ x low. stack-fits plan s t c leaves b;
@@ -112,7 +102,7 @@ module _ (B : ℕ → ℕ) (plan : Plan) (s : Spot) (t : Target) (c leaves : ℕ
       })
 
   -- every read boat is another than one that has no number
-  pub left-single : s.push ≡ false → OnlyKept s → s.level ≡ t.weight → leaves ≡ suc t.depth → Single B plan s t R (λ x. taken_by B Taking.ReadBut x pack_by) (λ x. t.stack + x * t.weight)
+  pub left-single : s.push ≡ false → OnlyKept s → s.level ≡ t.weight → leaves ≡ suc t.depth → Single B plan s t R (taken_by B (Taking.ReadBut pack_by)) (λ x. t.stack + x * t.weight)
   left-single e only same deep =
       record {
         fits = fits;

@@ -26,18 +26,18 @@ use Rattle.ways.specs.Ways.{lane_state, taken_by, lane_turn, run_turn}
 use Rattle.ways.specs.declared.Lane.{Lane}
 
 module _ (B : ℕ → ℕ) (lane : Lane) (d e : ℕ) (st : Search) where
-  pub lane-taken : (s : ℕ) → taken_by B lane.taking (e % pack_by) lane.number ≡ true → s ≡ lane_state lane e → lane_turn B d lane e st ≡ push d s st
+  pub lane-taken : (s : ℕ) → taken_by B lane.taking (e % pack_by) ≡ true → s ≡ lane_state lane e → lane_turn B d lane e st ≡ push d s st
   unfolding lane_turn
   lane-taken s goes is = rw (goes, ← is)
 
-  pub lane-passed : taken_by B lane.taking (e % pack_by) lane.number ≡ false → lane_turn B d lane e st ≡ st
+  pub lane-passed : taken_by B lane.taking (e % pack_by) ≡ false → lane_turn B d lane e st ≡ st
   unfolding lane_turn
   lane-passed stays = rw stays
 
   -- a state that has been met is not pushed, whether the word is taken or not
   pub lane-met : (s : ℕ) → s ≡ lane_state lane e → (get_or st.dist s 0 ≡ 0 → ⊥) → lane_turn B d lane e st ≡ st
   unfolding lane_turn
-  lane-met s is met = go (taken_by B lane.taking (e % pack_by) lane.number)
+  lane-met s is met = go (taken_by B lane.taking (e % pack_by))
     where
       go : (b : Bool) → cond b (push d (lane_state lane e) st) st ≡ st
       go true = ap (λ n. push d n st) (sym is) ∙ push-met d s st met

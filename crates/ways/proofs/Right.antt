@@ -24,7 +24,7 @@ use Rattle.states.specs.Spots.{read_by, off, off_by, on, on_by, okay, OnlyKept, 
 use Rattle.states.specs.declared.Spot.{Spot}
 use Rattle.states.specs.declared.Target.{Target}
 use Rattle.states.proofs.Bounds.{state-low, block-small, power-fits}
-use Rattle.ways.specs.Ways.{lane_state, taken_by, lane_turn, LaneTo, Narrow, run_turn, Told, Runs, Single, Before}
+use Rattle.ways.specs.Ways.{lane_state, taken_by, lane_turn, number_in, LaneTo, Narrow, run_turn, Told, Runs, Single, Before}
 use Rattle.ways.specs.Stacked.{stacked_turn}
 use Rattle.ways.specs.declared.Lane.{Lane}
 use Rattle.ways.specs.declared.Taking.{Taking}
@@ -150,7 +150,7 @@ module _ (plan : Plan) (g : List ℕ) (told : Told plan g) (few : plan.radix ≤
   kind-small = omega (arith, mod-lt (word_at plan g i) {m = 16} (omega arith))
 
   -- the state that a lane gives a word with this place and the number y
-  module _ (c u weight number : ℕ) (taking : Taking) (lane : Lane) (is : LaneTo plan c u weight number taking lane) (y : ℕ) (small : y < pack_by) where
+  module _ (c u weight : ℕ) (taking : Taking) (lane : Lane) (is : LaneTo plan c u weight taking lane) (y : ℕ) (small : y < pack_by) where
     state-split : (v : ℕ) → state_in plan from c 0 + v ≡ from * ((plan.done + 1) * plan.stacks) + (c * plan.stacks + v)
     state-split v =
         let n = plan.done + 1 in
@@ -165,9 +165,9 @@ module _ (plan : Plan) (g : List ℕ) (told : Told plan g) (few : plan.radix ≤
     number_of : (from * pack_by + y) % pack_by ≡ y
     number_of = digits_mod from small
 
-    lane-turn : (B : ℕ → ℕ) (d : ℕ) (st : Search) → lane_turn B d lane (from * pack_by + y) st ≡ cond (taken_by B taking y number) (push d (state_in plan from c 0 + (u + y * weight)) st) st
+    lane-turn : (B : ℕ → ℕ) (d : ℕ) (st : Search) → lane_turn B d lane (from * pack_by + y) st ≡ cond (taken_by B taking y) (push d (state_in plan from c 0 + (u + y * weight)) st) st
     unfolding lane_turn
-    lane-turn B d st = rw (number_of, lane-is, is.number_is, is.taking-is)
+    lane-turn B d st = rw (number_of, lane-is, is.taking-is)
 
   module _ (s : Spot) (t : Target) (d c count : ℕ) (st : Search) where
     abbrev stacks_of : Search → Search
@@ -210,18 +210,18 @@ module _ (plan : Plan) (g : List ℕ) (told : Told plan g) (few : plan.radix ≤
 
 -- ---- a lane's bounds
 
-module _ (plan : Plan) (area : ℕ) (laid : Laid plan area) (c u weight number : ℕ) (taking : Taking) (lane : Lane) (is : LaneTo plan c u weight number taking lane) (c-low : c ≤ plan.done) (u-low : u < plan.stacks) where
-  lane_narrow : weight ≤ largest → number ≤ largest → Narrow lane
+module _ (plan : Plan) (area : ℕ) (laid : Laid plan area) (c u weight : ℕ) (taking : Taking) (lane : Lane) (is : LaneTo plan c u weight taking lane) (c-low : c ≤ plan.done) (u-low : u < plan.stacks) where
+  lane_narrow : weight ≤ largest → number_in taking ≤ largest → Narrow lane
   lane_narrow low few =
       let c< : c < plan.done + 1 = omega arith in
       let in_block : c * plan.stacks + u < (plan.done + 1) * plan.stacks = digits_lt c< u-low in
-      record { block-low = omega (arith, is.block-is, block-small laid); home-low = omega (arith, is.home-is, in_block, block-small laid); weight-low = omega (arith, is.weight_is, low); number-low = omega (arith, is.number_is, few) }
+      record { block-low = omega (arith, is.block-is, block-small laid); home-low = omega (arith, is.home-is, in_block, block-small laid); weight-low = omega (arith, is.weight_is, low); number-low = rw is.taking-is few }
 
   lane_low : (g : List ℕ) (told : Told plan g) (i : ℕ) (h : i < plan.lines) (y : ℕ) → y < pack_by → u + y * weight < plan.stacks → lane_state lane (from_in (word_at plan g i) * pack_by + y) < plan.size
   lane_low g told i h y small fits =
       let q = from_in (word_at plan g i) in
       let low = state-low plan.places (plan.done + 1) plan.stacks plan.size q c (u + y * weight) laid.size_is (told.starts i h) (omega arith) fits in
-      rw (lane-is plan g told laid.few-boats i h c u weight number taking lane is y small) (omega (arith, low))
+      rw (lane-is plan g told laid.few-boats i h c u weight taking lane is y small) (omega (arith, low))
 
 -- ---- the runs
 
@@ -233,37 +233,37 @@ module _ (plan : Plan) (s : Spot) (t : Target) (c leaves : ℕ) (b : Before plan
     abbrev B : ℕ → ℕ
     B = boat_at plan g
 
-    pub kind-runs : (weight number : ℕ) (taking : Taking) → LaneTo plan c t.stack weight number taking lane → k ≡ t.place * 16 + s.kind → weight ≤ largest → number ≤ largest
-        → Single B plan s t count (λ x. taken_by B taking x number) (λ x. t.stack + x * weight) → Runs Order.Kind plan g s t c count k lane
+    pub kind-runs : (weight : ℕ) (taking : Taking) → LaneTo plan c t.stack weight taking lane → k ≡ t.place * 16 + s.kind → weight ≤ largest → number_in taking ≤ largest
+        → Single B plan s t count (taken_by B taking) (λ x. t.stack + x * weight) → Runs Order.Kind plan g s t c count k lane
     unfolding keys pack_in
-    kind-runs weight number taking is key low few-number single =
+    kind-runs weight taking is key low few-number single =
         record {
           key-low = let q< = b.aimed.place-low in let k< : t.place * 16 + s.kind < plan.places * 16 = digits_lt q< (omega (arith, b.kind-low)) in omega (arith, key, k<);
-          narrow = lane_narrow plan b.area b.laid c t.stack weight number taking lane is b.position-low stack-fits low few-number;
-          gives = λ i h. lane_low plan b.area b.laid c t.stack weight number taking lane is b.position-low stack-fits g told i h (code_at plan g i) (omega (arith, told.codes-low i h, b.laid.few-boats)) (single.fits (code_at plan g i) (told.codes-low i h));
+          narrow = lane_narrow plan b.area b.laid c t.stack weight taking lane is b.position-low stack-fits low few-number;
+          gives = λ i h. lane_low plan b.area b.laid c t.stack weight taking lane is b.position-low stack-fits g told i h (code_at plan g i) (omega (arith, told.codes-low i h, b.laid.few-boats)) (single.fits (code_at plan g i) (told.codes-low i h));
           same = λ d i h st.
               let few = b.laid.few-boats in
               let x = code_at plan g i in
               let small = code-small plan g told few i h in
-              let by-lane = lane-turn plan g told few i h c t.stack weight number taking lane is x small B d st in
+              let by-lane = lane-turn plan g told few i h c t.stack weight taking lane is x small B d st in
               let way = kind-way plan g told few i h s t d c count st (lane_turn B d lane) b.kind-low (single.law d (state_in plan (from_in (word_at plan g i)) c 0) x (told.codes-low i h) st ∙ sym by-lane) in
               way ∙ ap (λ z. run_turn Order.Kind plan g z (lane_turn B d lane) i st) (sym key);
         }
 
-    pub boat-runs : (u x₀ : ℕ) → LaneTo plan c u 0 s.kind Taking.Only lane → k ≡ t.place * plan.radix + x₀ → x₀ < plan.radix → u < plan.stacks
+    pub boat-runs : (u x₀ : ℕ) → LaneTo plan c u 0 (Taking.Only s.kind) lane → k ≡ t.place * plan.radix + x₀ → x₀ < plan.radix → u < plan.stacks
         → Single B plan s t count (λ x. eqb x x₀) (λ x. u) → Runs Order.Boat plan g s t c count k lane
     unfolding keys pack_in
     boat-runs u x₀ is key low fits single =
         record {
           key-low = let k< : t.place * plan.radix + x₀ < plan.places * plan.radix = digits_lt b.aimed.place-low low in omega (arith, key, k<);
-          narrow = lane_narrow plan b.area b.laid c u 0 s.kind Taking.Only lane is b.position-low fits (omega arith) (omega (arith, b.kind-low));
-          gives = λ i h. lane_low plan b.area b.laid c u 0 s.kind Taking.Only lane is b.position-low fits g told i h (kind_in (word_at plan g i)) (kind-small plan g told b.laid.few-boats i h) (omega (arith, mul-zero (kind_in (word_at plan g i)), fits));
+          narrow = lane_narrow plan b.area b.laid c u 0 (Taking.Only s.kind) lane is b.position-low fits (omega arith) (omega (arith, b.kind-low));
+          gives = λ i h. lane_low plan b.area b.laid c u 0 (Taking.Only s.kind) lane is b.position-low fits g told i h (kind_in (word_at plan g i)) (kind-small plan g told b.laid.few-boats i h) (omega (arith, mul-zero (kind_in (word_at plan g i)), fits));
           same = λ d i h st.
               let few = b.laid.few-boats in
               let y = kind_in (word_at plan g i) in
               let home = state_in plan (from_in (word_at plan g i)) c 0 in
               let sum : home + (u + y * 0) ≡ home + u = omega (arith, mul-zero y) in
-              let by-lane = lane-turn plan g told few i h c u 0 s.kind Taking.Only lane is y (kind-small plan g told few i h) B d st ∙ ap (λ z. cond (eqb y s.kind) (push d z st) st) sum in
+              let by-lane = lane-turn plan g told few i h c u 0 (Taking.Only s.kind) lane is y (kind-small plan g told few i h) B d st ∙ ap (λ z. cond (eqb y s.kind) (push d z st) st) sum in
               let way = boat-way plan g told few i h s t d c count st lane x₀ low (push d (home + u) st) (single.law d home (code_at plan g i) (told.codes-low i h) st) by-lane in
               way ∙ ap (λ z. run_turn Order.Boat plan g z (lane_turn B d lane) i st) (sym key);
         }

@@ -211,12 +211,12 @@ module _ (sieve : Sieve) (B : ℕ → ℕ) (lane : Lane) (thin : ThinLane sieve 
   flat-state e = let none : e % pack_by * lane.weight ≡ 0 = ap (e % pack_by *◌) thin.flat ∙ mul-zero (e % pack_by) in omega (arith, none)
 
   abbrev pub LaneGets : ℕ → ℕ → Type 0
-  LaneGets = Gets 1 (λ n y. taken_by B lane.taking y lane.number) (λ n q. q * lane.block + lane.home)
+  LaneGets = Gets 1 (λ n y. taken_by B lane.taking y) (λ n q. q * lane.block + lane.home)
 
   pub lane-pushing : (d : ℕ) → 0 < d → Pushing sieve B (lane_turn B d lane) LaneGets
   lane-pushing d some =
-      pushing 1 (λ n y. taken_by B lane.taking y lane.number) (λ n q. q * lane.block + lane.home) sieve B (λ n. thin.served) d some (lane_turn B d lane)
-      (λ e st. unfold lane_turn turns in ap (λ z. cond (taken_by B lane.taking (e % pack_by) lane.number) (push d z st) st) (flat-state e))
+      pushing 1 (λ n y. taken_by B lane.taking y) (λ n q. q * lane.block + lane.home) sieve B (λ n. thin.served) d some (lane_turn B d lane)
+      (λ e st. unfold lane_turn turns in ap (λ z. cond (taken_by B lane.taking (e % pack_by)) (push d z st) st) (flat-state e))
 
 -- ---- the words of a position that does not push: for each stack one state
 

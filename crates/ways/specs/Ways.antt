@@ -1,7 +1,7 @@
 -- The ways back over lines from a state that is expanded to a position: most need only one run of the sorted lines, and of each line only
 -- the word written of it, which gives one state before. A lane says which of the run's words are taken and what state each gives.
 -- `proofs/Right` shows that the way chosen does what going over all lines and all stacks does.
-use Rattle.std.specs.Prelude.{◌≡◌, Bool, cond, true, List, ℕ, ◌+◌, ◌*◌, ◌/◌, ◌%◌, ◌≤◌, ◌<◌, eqb, get_or}
+use Rattle.std.specs.Prelude.{◌≡◌, Bool, cond, true, false, List, ℕ, ◌+◌, ◌*◌, ◌/◌, ◌%◌, ◌≤◌, ◌<◌, eqb, get_or}
 use Rattle.request.specs.Layout.{largest, Laid, from_in, to_in}
 use Rattle.request.specs.declared.Plan.{Plan}
 use Rattle.search.specs.Loaded.{boat_at, code_at, word_at}
@@ -25,24 +25,31 @@ use Rattle.ways.specs.declared.Way.{Way}
 unfoldable pub lane_state : Lane → ℕ → ℕ
 lane_state lane e = e / pack_by * lane.block + (lane.home + e % pack_by * lane.weight)
 
--- is a line with the number y taken, by the boats' table B? All, only those with the lane's number x, the read ones of the others, those of
+-- is a line with the number y taken, by the boats' table B? All, only those with the number x, the read ones of the others, those of
 -- its class, or those of another class
-abbrev pub taken_by : (ℕ → ℕ) → Taking → ℕ → ℕ → Bool
-taken_by B Taking.All y x = true
-taken_by B Taking.Only y x = eqb y x
-taken_by B Taking.ReadBut y x = read_but B x y
-taken_by B Taking.Sister y x = sister_of B x y
-taken_by B Taking.Foreign y x = foreign_to B x y
+abbrev pub taken_by : (ℕ → ℕ) → Taking → ℕ → Bool
+taken_by B Taking.All y = true
+taken_by B (Taking.Only x) y = eqb y x
+taken_by B (Taking.ReadBut x) y = read_but B x y
+taken_by B (Taking.Sister x) y = sister_of B x y
+taken_by B (Taking.Foreign x) y = foreign_to B x y
+
+-- the number x
+abbrev pub number_in : Taking → ℕ
+number_in Taking.All = 0
+number_in (Taking.Only x) = x
+number_in (Taking.ReadBut x) = x
+number_in (Taking.Sister x) = x
+number_in (Taking.Foreign x) = x
 
 unfoldable pub lane_turn : (ℕ → ℕ) → ℕ → Lane → ℕ → Search → Search
-lane_turn B d lane e st = cond (taken_by B lane.taking (e % pack_by) lane.number) (push d (lane_state lane e) st) st
+lane_turn B d lane e st = cond (taken_by B lane.taking (e % pack_by)) (push d (lane_state lane e) st) st
 
 -- the lane to position c with the stack u
-pub record LaneTo (plan : Plan) (c u weight number : ℕ) (taking : Taking) (lane : Lane) : Type 0 where
+pub record LaneTo (plan : Plan) (c u weight : ℕ) (taking : Taking) (lane : Lane) : Type 0 where
   pub block-is : lane.block ≡ (plan.done + 1) * plan.stacks
   pub home-is : lane.home ≡ c * plan.stacks + u
   pub weight_is : lane.weight ≡ weight
-  pub number_is : lane.number ≡ number
   pub taking-is : lane.taking ≡ taking
 
 -- its numbers are small
@@ -50,12 +57,18 @@ pub record Narrow (lane : Lane) : Type 0 where
   pub block-low : lane.block ≤ largest
   pub home-low : lane.home ≤ largest
   pub weight-low : lane.weight ≤ largest
-  pub number-low : lane.number ≤ largest
+  pub number-low : number_in lane.taking ≤ largest
 
 -- it does not ask for classes
-pub record NoClass (taking : Taking) : Type 0 where
-  pub no-sister : taking ≡ Taking.Sister → ⊥
-  pub no-foreign : taking ≡ Taking.Foreign → ⊥
+abbrev pub by_class : Taking → Bool
+by_class Taking.All = false
+by_class (Taking.Only x) = false
+by_class (Taking.ReadBut x) = false
+by_class (Taking.Sister x) = true
+by_class (Taking.Foreign x) = true
+
+abbrev pub NoClass : Taking → Type 0
+NoClass taking = by_class taking ≡ false
 
 abbrev pub Plain : Lane → Type 0
 Plain lane = NoClass lane.taking
@@ -64,7 +77,7 @@ Plain lane = NoClass lane.taking
 -- that is served
 pub record ThinLane (sieve : Sieve) (B : ℕ → ℕ) (lane : Lane) : Type 0 where
   pub flat : lane.weight ≡ 0
-  pub served : ServedBy sieve B (λ y. taken_by B lane.taking y lane.number)
+  pub served : ServedBy sieve B (taken_by B lane.taking)
 
 -- each of the words from lo up to hi gives one of so many states
 abbrev pub Within : Lane → ℕ → ℕ → ℕ → List ℕ → Type 0
@@ -110,7 +123,6 @@ Right plan g s t c count Way.Nowhere = (d i : ℕ) → i < plan.lines → (st : 
 abbrev pub ClassRight : Plan → List ℕ → Spot → Target → ℕ → ClassWay → Type 0
 ClassRight plan g s t c (ClassWay.Sister k lane) = ((B : ℕ → ℕ) → ThinLane Sieve.Sisters B lane) × Runs Order.Kind plan g s t c 1 k lane
 ClassRight plan g s t c (ClassWay.Foreign k lane) = ((B : ℕ → ℕ) → ThinLane Sieve.Classes B lane) × Runs Order.Kind plan g s t c 1 k lane
-ClassRight plan g s t c ClassWay.Neither = Unit {0}
 
 -- by the boats' table B, what `count` stacks of a line do, whatever line: if p has its boat's number x, the state with the stack u x is pushed,
 -- else nothing is done
@@ -122,10 +134,6 @@ pub record Single (B : ℕ → ℕ) (plan : Plan) (s : Spot) (t : Target) (count
 abbrev pub RightFor : Plan → Spot → Target → ℕ → ((ℕ → ℕ) → ℕ → Bool) → (ℕ → ℕ) → Way → Type 0
 RightFor plan s t c p u way =
     (g : List ℕ) (count : ℕ) → Told plan g → Single (boat_at plan g) plan s t count (p (boat_at plan g)) u → Right plan g s t c count way
-
-abbrev pub ClassRightFor : Plan → Spot → Target → ℕ → ((ℕ → ℕ) → ℕ → Bool) → ClassWay → Type 0
-ClassRightFor plan s t c p way =
-    (g : List ℕ) → Told plan g → Single (boat_at plan g) plan s t 1 (p (boat_at plan g)) (λ x. t.stack + x * 0) → ClassRight plan g s t c way
 
 -- what a way is chosen from: a state and a position before it, by their numbers
 pub record Before (plan : Plan) (s : Spot) (t : Target) (c leaves : ℕ) : Type 0 where

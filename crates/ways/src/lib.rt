@@ -1,53 +1,49 @@
 // The ways back over lines: which of the sorted lines lead to a state by a position, what state each gives, and the loop over them.
 #![tactic(auto)]
 
-ghost use Rattle.std.specs.Prelude.{◌≡◌, ℕ, suc, ◌+◌, ◌*◌, ◌-◌, ◌^◌, ◌/◌, ◌%◌, ◌≤◌, ◌<◌, length, get_or, true, false, List, eqb};
+ghost use Rattle.std.specs.Prelude.{◌≡◌, ℕ, suc, ◌+◌, ◌*◌, ◌-◌, ◌^◌, ◌/◌, ◌%◌, ◌≤◌, ◌<◌, length, get_or, true, false, List, eqb, IfSome};
 ghost use Rattle.request.specs.Layout.{largest, Laid, filed_end};
 ghost use Rattle.graph.specs.Loops.{turns};
 ghost use Rattle.states.specs.Pairs.{ReadyBack, StepBack};
-ghost use Rattle.ways.specs.Ways.{lane_state, taken_by, lane_turn, LaneTo, Narrow, Plain, NoClass, ThinLane, Within, run_lines, Told, Gives, Right, RightFor, ClassRight, ClassRightFor, Before};
+ghost use Rattle.ways.specs.Ways.{lane_state, taken_by, lane_turn, number_in, LaneTo, Narrow, Plain, NoClass, ThinLane, Within, run_lines, Told, Gives, Right, RightFor, ClassRight, Before};
 ghost use Rattle.sorted.specs.Sorting.{keys, table_at, table_end, Keyed, Sorted, Kept};
 ghost use Rattle.ways.specs.Stacked.{Enough};
 ghost use Rattle.ways.specs.Filed.{Basic, Filed, Said, Sieved};
 ghost use Rattle.thinned.specs.Thinning.{FromPlaces, thin_at, thin_end, Thinned};
-ghost use Rattle.positions.specs.Program.{rule_code, row_at};
+ghost use Rattle.positions.specs.Program.{row_at};
 ghost use Rattle.sorted.specs.declared.Order.TheVariants as Orders;
 ghost use Rattle.states.specs.declared.Sieve.TheVariants as Sieves;
 ghost use Rattle.states.specs.Spots.{front, boats_in, read_but, sister_of, foreign_to};
 
+use positions::Rule;
 use request::Plan;
-use sorted::{Bounds, Order, PACK};
-use states::{Kin, Sieve, Sifting, Spot, Takes, Target};
+use sorted::{Order, PACK};
+use states::{Kin, Sieve, Spot, Takes, Target};
+use std::ops::Range;
 
 // Which words are taken: all, only those with a number, those of read boats with another, and of these only those of the same class or, whatever
 // their numbers, those of another class.
-#[derive(Clone, Copy)]
+#[derive(Clone, Copy, PartialEq, Eq)]
 pub enum Taking {
     All,
-    Only,
-    ReadBut,
-    Sister,
-    Foreign,
+    Only(usize),
+    ReadBut(usize),
+    Sister(usize),
+    Foreign(usize),
 }
 
 // What the words written of lines give: `from` times `block`, `home`, and the word's number times `weight` is the state before. `taking` says
-// which words are taken, by `number`.
-#[derive(Clone, Copy)]
+// which words are taken.
+#[derive(Clone, Copy, PartialEq, Eq)]
 pub struct Lane {
     pub block: usize,
     pub home: usize,
     pub weight: usize,
-    pub number: usize,
     pub taking: Taking,
 }
 
-// A number that no word has.
+// A number that no word has. The read boats other than its are all read boats, which so need no question of their own in the loop.
 const NONE: usize = PACK as usize;
-
-// The codes of the rules that have thin tables of their own.
-const SISTER: u8 = 4;
-
-const FOREIGN: u8 = 5;
 
 // ---- the loop
 
@@ -56,10 +52,7 @@ fn read_but(work: &[u32], plan: Plan, number: usize, y: usize) -> bool
     requires { Laid plan (length work.now) × (y < 4294967296) }
     ensures { result ≡ read_but (boats_in plan work.now) number y }
 {
-    if y == number {
-        return false;
-    }
-    states::boat_of(work, plan, y) != 0
+    y != number && states::boat_of(work, plan, y) != 0
 }
 
 // Is `y` the number of another boat of `number`'s class? And is it that of a boat of another class?
@@ -67,53 +60,30 @@ fn sister_of(work: &[u32], plan: Plan, number: usize, y: usize) -> bool
     requires { Laid plan (length work.now) × (y < 4294967296) × (number < 4294967296) }
     ensures { result ≡ sister_of (boats_in plan work.now) number y }
 {
-    if read_but(work, plan, number, y) {
-        return states::class_of(work, plan, y) == states::class_of(work, plan, number);
-    }
-    false
+    read_but(work, plan, number, y)
+        && states::class_of(work, plan, y) == states::class_of(work, plan, number)
 }
 
 fn foreign_to(work: &[u32], plan: Plan, number: usize, y: usize) -> bool
     requires { Laid plan (length work.now) × (y < 4294967296) × (number < 4294967296) }
     ensures { result ≡ foreign_to (boats_in plan work.now) number y }
 {
-    if states::boat_of(work, plan, y) == 0 {
-        return false;
-    }
-    states::class_of(work, plan, y) != states::class_of(work, plan, number)
+    states::boat_of(work, plan, y) != 0
+        && states::class_of(work, plan, y) != states::class_of(work, plan, number)
 }
 
-// Is a word with the number `y` taken, by a lane that asks for classes?
-fn class_taken(work: &[u32], plan: Plan, lane: Lane, y: usize) -> bool
-    requires { Laid plan (length work.now) × (y < 4294967296) × Narrow lane }
-    ensures { result ≡ taken_by (boats_in plan work.now) lane.taking y lane.number }
+// Is a word with the number `y` taken? Whether the lane may ask for classes is a constant of the loop below, so that the loop of a lane that
+// does not is compiled without that question.
+fn taken<const CLASSES: bool>(work: &[u32], plan: Plan, lane: Lane, y: usize) -> bool
+    requires { Laid plan (length work.now) × (y < 4294967296) × Narrow lane × (CLASSES ≡ false → Plain lane) }
+    ensures { result ≡ taken_by (boats_in plan work.now) lane.taking y }
 {
-    let taking = lane.taking;
-    match taking {
+    match lane.taking {
         Taking::All => true,
-        Taking::Only => y == lane.number,
-        Taking::ReadBut => read_but(work, plan, lane.number, y),
-        Taking::Sister => sister_of(work, plan, lane.number, y),
-        Taking::Foreign => foreign_to(work, plan, lane.number, y),
-    }
-}
-
-// Is a word with the number `y` taken? `classes` is a constant wherever the loop below is called, so that the loop of a lane that does not
-// ask for classes is compiled without that question.
-fn taken(work: &[u32], plan: Plan, classes: bool, lane: Lane, y: usize) -> bool
-    requires { Laid plan (length work.now) × (y < 4294967296) × Narrow lane × (classes ≡ false → Plain lane) }
-    ensures { result ≡ taken_by (boats_in plan work.now) lane.taking y lane.number }
-{
-    if classes {
-        return class_taken(work, plan, lane, y);
-    }
-    let taking = lane.taking;
-    match taking {
-        Taking::All => true,
-        Taking::Only => y == lane.number,
-        Taking::ReadBut => read_but(work, plan, lane.number, y),
-        Taking::Sister => false,
-        Taking::Foreign => false,
+        Taking::Only(x) => y == x,
+        Taking::ReadBut(x) => read_but(work, plan, x, y),
+        Taking::Sister(x) => CLASSES && sister_of(work, plan, x, y),
+        Taking::Foreign(x) => CLASSES && foreign_to(work, plan, x, y),
     }
 }
 
@@ -128,17 +98,16 @@ fn lane_state(lane: Lane, e: u32) -> usize
 }
 
 // Word `p`: the state that it gives is pushed, if it is taken. Most states have been met before, so that is asked first.
-fn one_word(
+fn one_word<const CLASSES: bool>(
     work: &mut [u32],
     plan: Plan,
-    classes: bool,
     lane: Lane,
     d: u32,
     p: usize,
     tail: usize,
 ) -> usize
     requires ready_back { ReadyBack plan tail work.old }
-    requires laid { Laid plan (length work.old) × Narrow lane × (classes ≡ false → Plain lane) }
+    requires laid { Laid plan (length work.old) × Narrow lane × (CLASSES ≡ false → Plain lane) }
     requires d_nonzero { (0 < d) × (d ≤ suc tail) × (p < length work.old) × (lane_state lane (get_or work.old p 0) < plan.size) }
     ensures { StepBack plan (lane_turn (boats_in plan work.old) d lane (get_or work.old p 0)) tail work.old result work.new }
 {
@@ -147,17 +116,16 @@ fn one_word(
     if area::dist_at(work, plan.base, plan.size, tail, s) != 0 {
         return tail;
     }
-    if taken(work, plan, classes, lane, (e % PACK) as usize) {
+    if taken::<CLASSES>(work, plan, lane, (e % PACK) as usize) {
         return area::push_if_new(work, plan.base, plan.size, d, s, tail);
     }
     tail
 }
 
 // The words from `lo` up to `hi`, which stand after the pair of stretches.
-pub fn over_words(
+pub fn over_words<const CLASSES: bool>(
     work: &mut [u32],
     plan: Plan,
-    classes: bool,
     lane: Lane,
     d: u32,
     lo: usize,
@@ -165,14 +133,14 @@ pub fn over_words(
     tail: usize,
 ) -> usize
     requires ready_back { ReadyBack plan tail work.old }
-    requires laid { Laid plan (length work.old) × Narrow lane × (classes ≡ false → Plain lane) }
+    requires laid { Laid plan (length work.old) × Narrow lane × (CLASSES ≡ false → Plain lane) }
     requires d_nonzero { (0 < d) × (d ≤ suc tail) × (plan.base + plan.size + plan.size ≤ lo) × (lo ≤ hi) × (hi ≤ length work.old) }
     requires within { Within lane plan.size lo hi work.old }
     ensures { StepBack plan (turns (λ p. lane_turn (boats_in plan work.old) d lane (get_or work.old p 0)) lo (hi - lo)) tail work.old result work.new }
 {
     let mut t = tail;
     for p in lo..hi {
-        t = one_word(work, plan, classes, lane, d, p, t);
+        t = one_word::<CLASSES>(work, plan, lane, d, p, t);
     }
     t
 }
@@ -181,7 +149,7 @@ pub fn over_words(
 
 // The way from a state back to a position: by the lines of one boat into its place, by those of one kind, with each stack, one by one, or
 // by no line.
-#[derive(Clone, Copy)]
+#[derive(Clone, Copy, PartialEq, Eq)]
 pub enum Way {
     ByBoat(usize, Lane),
     ByKind(usize, Lane),
@@ -190,15 +158,14 @@ pub enum Way {
 }
 
 // The lane to position `c`, for the stack `u`.
-fn lane_at(plan: Plan, c: usize, u: usize, weight: usize, number: usize, taking: Taking) -> Lane
+fn lane_at(plan: Plan, c: usize, u: usize, weight: usize, taking: Taking) -> Lane
     requires { (c ≤ 63) × (plan.done ≤ 63) × (plan.stacks ≤ largest) × (u < 4294967296) }
-    ensures { LaneTo plan c u weight number taking result }
+    ensures { LaneTo plan c u weight taking result }
 {
     Lane {
         block: (plan.done + 1) * plan.stacks,
         home: c * plan.stacks + u,
         weight,
-        number,
         taking,
     }
 }
@@ -211,24 +178,16 @@ fn boat_way(plan: Plan, spot: Spot, target: Target, c: usize, u: usize, boat: us
     if plan.keeps == 0 {
         return Way::ByStack;
     }
-    let lane = lane_at(plan, c, u, 0, spot.kind, Taking::Only);
+    let lane = lane_at(plan, c, u, 0, Taking::Only(spot.kind));
     Way::ByBoat(target.place * plan.radix + boat, lane)
 }
 
 // Those lines of the position's kind that are taken: the stack before is the state's, with the line's number at `weight`.
-fn kind_way(
-    plan: Plan,
-    spot: Spot,
-    target: Target,
-    c: usize,
-    weight: usize,
-    number: usize,
-    taking: Taking,
-) -> Way
-    requires { Before plan spot target c target.depth × (weight ≤ largest) × (number ≤ largest) × NoClass taking }
-    ensures { RightFor plan spot target c (λ B x. taken_by B taking x number) (λ x. target.stack + x * weight) result }
+fn kind_way(plan: Plan, spot: Spot, target: Target, c: usize, weight: usize, taking: Taking) -> Way
+    requires { Before plan spot target c target.depth × (weight ≤ largest) × (number_in taking ≤ largest) × NoClass taking }
+    ensures { RightFor plan spot target c (λ B. taken_by B taking) (λ x. target.stack + x * weight) result }
 {
-    let lane = lane_at(plan, c, target.stack, weight, number, taking);
+    let lane = lane_at(plan, c, target.stack, weight, taking);
     Way::ByKind(target.place * 16 + spot.kind, lane)
 }
 
@@ -258,9 +217,9 @@ fn exact_way(work: &[u32], plan: Plan, spot: Spot, target: Target, c: usize) -> 
         return pushing_way(plan, spot, target, c);
     }
     match states::taken_by(work, plan, spot, target) {
-        Takes::Any => kind_way(plan, spot, target, c, 0, NONE, Taking::All),
+        Takes::Any => kind_way(plan, spot, target, c, 0, Taking::All),
         Takes::Only(x) => boat_way(plan, spot, target, c, target.stack, x),
-        Takes::ReadBut(x) => kind_way(plan, spot, target, c, 0, x, Taking::ReadBut),
+        Takes::ReadBut(x) => kind_way(plan, spot, target, c, 0, Taking::ReadBut(x)),
         Takes::Nobody => Way::Nowhere,
         Takes::Ask => Way::ByStack,
     }
@@ -271,11 +230,8 @@ fn dropping_way(plan: Plan, spot: Spot, target: Target, c: usize) -> Way
     requires { Before plan spot target c (suc target.depth) × (spot.push ≡ true) }
     ensures { (g : List ℕ) → Told plan g → Right plan g spot target c plan.radix result }
 {
-    if spot.weight != target.weight {
-        return Way::ByStack;
-    }
-    if states::takes_all(spot) {
-        return kind_way(plan, spot, target, c, 0, NONE, Taking::All);
+    if spot.weight == target.weight && states::takes_all(spot) {
+        return kind_way(plan, spot, target, c, 0, Taking::All);
     }
     Way::ByStack
 }
@@ -288,10 +244,8 @@ fn forgetting_way(plan: Plan, spot: Spot, target: Target, c: usize) -> Way
     if spot.push {
         return dropping_way(plan, spot, target, c);
     }
-    if spot.level == target.weight {
-        if states::wants_kept(spot) {
-            return kind_way(plan, spot, target, c, target.weight, NONE, Taking::ReadBut);
-        }
+    if spot.level == target.weight && states::wants_kept(spot) {
+        return kind_way(plan, spot, target, c, target.weight, Taking::ReadBut(NONE));
     }
     Way::ByStack
 }
@@ -315,55 +269,39 @@ pub fn way_of(work: &[u32], plan: Plan, spot: Spot, target: Target, leaves: usiz
 
 // The lines of one kind, where other boats of one class are asked for, or boats of other classes. Apart from the ways above, which nearly every
 // search takes: with two more of them these are compiled to slower code.
-#[derive(Clone, Copy)]
+#[derive(Clone, Copy, PartialEq, Eq)]
 pub enum ClassWay {
     Sister(usize, Lane),
     Foreign(usize, Lane),
-    Neither,
-}
-
-// Those of another boat of the class of the boat `number`.
-fn sister_way(plan: Plan, spot: Spot, target: Target, c: usize, number: usize) -> ClassWay
-    requires { Before plan spot target c target.depth × (number ≤ largest) }
-    ensures { ClassRightFor plan spot target c (λ B x. sister_of B number x) result }
-{
-    let lane = lane_at(plan, c, target.stack, 0, number, Taking::Sister);
-    ClassWay::Sister(target.place * 16 + spot.kind, lane)
-}
-
-// Those of a boat of another class.
-fn foreign_way(plan: Plan, spot: Spot, target: Target, c: usize, number: usize) -> ClassWay
-    requires { Before plan spot target c target.depth × (number ≤ largest) }
-    ensures { ClassRightFor plan spot target c (λ B x. foreign_to B number x) result }
-{
-    let lane = lane_at(plan, c, target.stack, 0, number, Taking::Foreign);
-    ClassWay::Foreign(target.place * 16 + spot.kind, lane)
 }
 
 // The way by classes, where the stack after the position is the state's and it does not push.
-pub fn class_way(work: &[u32], plan: Plan, spot: Spot, target: Target, c: usize) -> ClassWay
+pub fn class_way(work: &[u32], plan: Plan, spot: Spot, target: Target, c: usize) -> Option<ClassWay>
     requires before { Before plan spot target c target.depth }
     requires laid { Laid plan (length work.now) × Told plan (front plan work.now) }
-    ensures { ClassRight plan (front plan work.now) spot target c result }
+    ensures { IfSome result (ClassRight plan (front plan work.now) spot target c) }
 {
     if spot.push {
-        return ClassWay::Neither;
+        return None;
     }
-    match states::kin_taken(work, plan, spot, target) {
-        Kin::Sister(x) => sister_way(plan, spot, target, c, x),
-        Kin::Foreign(x) => foreign_way(plan, spot, target, c, x),
-        Kin::Neither => ClassWay::Neither,
-    }
+    let kin = states::kin_taken(work, plan, spot, target)?;
+    let k = target.place * 16 + spot.kind;
+    Some(match kin {
+        Kin::Sister(x) => ClassWay::Sister(k, lane_at(plan, c, target.stack, 0, Taking::Sister(x))),
+        Kin::Foreign(x) => ClassWay::Foreign(
+            k,
+            lane_at(plan, c, target.stack, 0, Taking::Foreign(x)),
+        ),
+    })
 }
 
 // ---- a run
 
 // The lines of the key `k`, of a sorted table.
-pub fn over_run(
+pub fn over_run<const CLASSES: bool>(
     work: &mut [u32],
     plan: Plan,
     order: Order,
-    classes: bool,
     k: usize,
     lane: Lane,
     d: u32,
@@ -372,25 +310,18 @@ pub fn over_run(
     requires ready_back { ReadyBack plan tail work.old }
     requires laid { Laid plan (length work.old) × (k < keys order plan) }
     requires sorted { Sorted order plan (table_at order plan) work.old × (table_end order plan ≤ length work.old) }
-    requires narrow { Narrow lane × Gives order plan (front plan work.old) k lane × (classes ≡ false → Plain lane) × (0 < d) × (d ≤ suc tail) }
+    requires narrow { Narrow lane × Gives order plan (front plan work.old) k lane × (CLASSES ≡ false → Plain lane) × (0 < d) × (d ≤ suc tail) }
     ensures { StepBack plan (run_lines order plan work.old k d lane) tail work.old result work.new }
 {
     let run = sorted::run_of(work, plan, order, k);
-    over_words(work, plan, classes, lane, d, run.lo, run.hi, tail)
+    over_words::<CLASSES>(work, plan, lane, d, run.start, run.end, tail)
 }
 
 // Are the thin lines of boats enough for the lane? Their numbers must have no weight, and those that it takes be a set that is served.
 pub fn thin_lane(lane: Lane) -> bool
     ensures { result ≡ true → (B : ℕ → ℕ) → ThinLane Sieves.Boats B lane }
 {
-    let taking = lane.taking;
-    match taking {
-        Taking::All => lane.weight == 0,
-        Taking::Only => false,
-        Taking::ReadBut => lane.weight == 0,
-        Taking::Sister => false,
-        Taking::Foreign => false,
-    }
+    lane.weight == 0 && matches!(lane.taking, Taking::All | Taking::ReadBut(_))
 }
 
 // Is the thin table of a sieve there, which is not made for every request? It needs its room, and its first word is not 0.
@@ -398,10 +329,8 @@ fn is_made(work: &[u32], plan: Plan, sieve: Sieve) -> bool
     requires { Laid plan (length work.now) }
     ensures { result ≡ true → Said sieve plan work.now }
 {
-    if work.len() < thinned::thin_end(plan, sieve) {
-        return false;
-    }
-    area::word(work, thinned::thin_at(plan, sieve)) != 0
+    thinned::thin_end(plan, sieve) <= work.len()
+        && area::word(work, thinned::thin_at(plan, sieve)) != 0
 }
 
 // That of the boats is there.
@@ -411,17 +340,15 @@ pub fn has_thin(work: &[u32], plan: Plan, sieve: Sieve) -> bool
 {
     match sieve {
         Sieve::Boats => true,
-        Sieve::Classes => is_made(work, plan, Sieve::Classes),
-        Sieve::Sisters => is_made(work, plan, Sieve::Sisters),
+        Sieve::Classes | Sieve::Sisters => is_made(work, plan, sieve),
     }
 }
 
 // The lines of the kind that the key `k` says, by the thin ones: for a lane for which they are enough.
-pub fn over_thin(
+pub fn over_thin<const CLASSES: bool>(
     work: &mut [u32],
     plan: Plan,
     sieve: Sieve,
-    classes: bool,
     k: usize,
     lane: Lane,
     d: u32,
@@ -429,30 +356,28 @@ pub fn over_thin(
 ) -> usize
     requires ready_back { ReadyBack plan tail work.old }
     requires laid { Laid plan (length work.old) × Filed plan work.old × Sieved sieve plan work.old × (k < keys Orders.Kind plan) }
-    requires narrow { Narrow lane × Gives Orders.Kind plan (front plan work.old) k lane × ThinLane sieve (boats_in plan work.old) lane × (classes ≡ false → Plain lane) × (0 < d) × (d ≤ suc tail) }
+    requires narrow { Narrow lane × Gives Orders.Kind plan (front plan work.old) k lane × ThinLane sieve (boats_in plan work.old) lane × (CLASSES ≡ false → Plain lane) × (0 < d) × (d ≤ suc tail) }
     ensures { StepBack plan (run_lines Orders.Kind plan work.old k d lane) tail work.old result work.new }
 {
     let run = thinned::thin_of(work, plan, sieve, k);
-    over_words(work, plan, classes, lane, d, run.lo, run.hi, tail)
+    over_words::<CLASSES>(work, plan, lane, d, run.start, run.end, tail)
 }
 
 // ---- the tables
 
 // The words that are enough for a position whose stacks are gone over one by one: the lines of its kind, and of them the thin ones where
 // they do and are there.
-pub fn lines_for(work: &[u32], plan: Plan, spot: Spot, target: Target) -> Bounds
+pub fn lines_for(work: &[u32], plan: Plan, spot: Spot, target: Target) -> Range<usize>
     requires laid { Laid plan (length work.now) × Told plan (front plan work.now) }
     requires filed { Filed plan work.now }
     requires kind_bound { (spot.kind ≤ 15) × (target.place < plan.places) }
-    ensures { Enough plan spot target work.now result.lo result.hi }
+    ensures { Enough plan spot target work.now result.start result.end }
 {
     let k = target.place * 16 + spot.kind;
-    if let Sifting::Thin(sieve) = states::enough(spot) {
-        if has_thin(work, plan, sieve) {
-            return thinned::thin_of(work, plan, sieve, k);
-        }
+    match states::enough(spot) {
+        Some(sieve) if has_thin(work, plan, sieve) => thinned::thin_of(work, plan, sieve, k),
+        _ => sorted::run_of(work, plan, Order::Kind, k),
     }
-    sorted::run_of(work, plan, Order::Kind, k)
 }
 
 // The lines are sorted by boat, if boats are kept: no position asks for one boat's lines otherwise.
@@ -462,27 +387,17 @@ fn sort_boats(work: &mut [u32], plan: Plan)
     ensures sorted { 0 < plan.keeps → Sorted Orders.Boat plan plan.byboat work.new }
     ensures kept { Kept plan.byboat (table_end Orders.Boat plan) work.old work.new }
 {
-    if plan.keeps == 0 {
-        return;
+    if plan.keeps != 0 {
+        sorted::sort_lines(work, plan, Order::Boat);
     }
-    sorted::sort_lines(work, plan, Order::Boat);
 }
 
-// Does a position of the program have the rule with this code? A search without such a position needs no table of its own for it.
-fn asks(program: &[u64; 128], done: usize, code: u8) -> bool
+// Does a position of the program have the rule? A search without such a position needs no table of its own for it.
+fn asks(program: &[u64; 128], done: usize, rule: Rule) -> bool
     requires { done ≤ 63 }
-    ensures { result ≡ false → (c : ℕ) → c < done → rule_code (row_at program.now c).rule ≡ code → ⊥ }
+    ensures { result ≡ false → (c : ℕ) → c < done → (row_at program.now c).rule ≡ rule → ⊥ }
 {
-    let mut c = 0;
-    while c < done {
-        let row = positions::row_at(program, c);
-        let rule = row.rule;
-        if positions::code_of(rule) == code {
-            return true;
-        }
-        c += 1;
-    }
-    false
+    (0..done).any(|c| positions::row_at(program, c).rule == rule)
 }
 
 // The thin table of a sieve is made, where it is asked for. Else its first word becomes 0.
@@ -494,9 +409,9 @@ fn thin_more(work: &mut [u32], plan: Plan, sieve: Sieve, asked: bool)
 {
     if asked {
         thinned::thin_lines(work, plan, sieve);
-        return;
+    } else {
+        area::write(work, thinned::thin_at(plan, sieve), 1, 0, 0);
     }
-    area::write(work, thinned::thin_at(plan, sieve), 1, 0, 0);
 }
 
 // The thin tables of classes and of sisters, where there is room.
@@ -512,12 +427,17 @@ fn thin_others(work: &mut [u32], plan: Plan, program: &[u64; 128])
         work,
         plan,
         Sieve::Classes,
-        asks(program, plan.done, FOREIGN),
+        asks(program, plan.done, Rule::Foreign),
     );
     if work.len() < thinned::thin_end(plan, Sieve::Sisters) {
         return;
     }
-    thin_more(work, plan, Sieve::Sisters, asks(program, plan.done, SISTER));
+    thin_more(
+        work,
+        plan,
+        Sieve::Sisters,
+        asks(program, plan.done, Rule::Sister),
+    );
 }
 
 // The lines are sorted by kind and by boat, and thinned by boats.
@@ -539,9 +459,8 @@ pub fn file_lines(work: &mut [u32], plan: Plan, program: &[u64; 128])
     ensures filed { plan.filed ≡ true → Filed plan work.new }
     ensures kept { Kept plan.bykind (length work.old) work.old work.new }
 {
-    if !plan.filed {
-        return;
+    if plan.filed {
+        file_basic(work, plan);
+        thin_others(work, plan, program);
     }
-    file_basic(work, plan);
-    thin_others(work, plan, program);
 }

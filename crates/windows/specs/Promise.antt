@@ -1,10 +1,14 @@
 -- What goes with a question, as callers give it: the code's struct (`options_shown`), and for C, Rust and Python a list of words (`options_of`).
-use Rattle.std.specs.Prelude.{cond, List, [], ◌∷◌, ℕ, zero, suc, ◌+◌, ◌*◌, leb, length, get_or}
-use Rattle.meaning.specs.Windows.{Options}
+use Rattle.std.specs.Prelude.{cond, List, [], ◌∷◌, map, ℕ, zero, suc, ◌+◌, ◌*◌, leb, length, get_or}
+use Rattle.meaning.specs.Windows.{Windows, Options}
+use Rattle.windows.specs.declared.Window.{Window}
 use Rattle.windows.specs.declared.Options.{Options as OptionsStruct}
 
+abbrev pub windows_in : List Window → Windows
+windows_in ws = record { opens = map (λ (w : Window). w.opens) ws; closes = map (λ (w : Window). w.closes) ws }
+
 abbrev pub options_shown : OptionsStruct → Options
-options_shown o = record { windows = record { opens = o.opens; closes = o.closes } }
+options_shown o = record { windows = windows_in o.windows }
 
 -- ---- a list of words: the opening and the closing second of the kinds 1 to 15 in turn
 

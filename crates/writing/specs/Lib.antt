@@ -1,4 +1,3 @@
 pub mod Promise
-pub mod Asking
 pub mod Added
 pub mod Before

@@ -1,10 +1,9 @@
--- What beginning a record and adding a line promise: document 01's number and values of each case of `WriteReply`.
+-- What beginning a record and adding a line promise: the record's new length, or the documents' numbers of the refusal.
 -- `write_reply r ≡ told (begin_of …)` and `write_reply r ≡ told (add_of …)`; the buffer is `begin_after` and `add_after` of `meaning`.
-use Rattle.std.specs.Prelude.{ℕ}
-use Rattle.meaning.specs.Outcome.{Reply, value, refusal}
-use Rattle.writing.specs.declared.WriteReply.{WriteReply}
-use Rattle.writing.specs.declared.WriteReply.TheVariants as Write
+use Rattle.std.specs.Prelude.{ℕ, Result}
+use Rattle.meaning.specs.Outcome.{Reply}
+use Rattle.refusals.specs.declared.Refusal.{Refusal}
+use Rattle.refusals.specs.Refusal.{reply}
 
-abbrev pub write_reply : WriteReply → Reply ℕ
-write_reply (Write.Length n) = value n
-write_reply (Write.Refused number second) = refusal number second
+abbrev pub write_reply : Result ℕ Refusal → Reply ℕ
+write_reply r = reply r

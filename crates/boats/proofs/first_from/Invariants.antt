@@ -1,10 +1,6 @@
--- `boats::first_from`: of the words read so far none is the boat's. The measure is the words left.
-use Rattle.std.proofs.Common.{length, ◌-◌}
+-- `boats::first_from`: of the words read so far none is the boat's.
 use Rattle.boats.specs.Counting.{NoneBefore}
 use Rattle.boats.proofs.first_from.Given as goal
 
 abbrev pub invariant-loop-j : goal.invariant-loop-j
 invariant-loop-j l = NoneBefore l.noted l.boat l.j
-
-abbrev pub decreases-loop-j : goal.decreases-loop-j
-decreases-loop-j l = length l.noted - l.j

@@ -1,17 +1,13 @@
 -- `checker::next_line`: the states that waited are set aside, nothing is marked then, and what is gathered is their step.
-use Rattle.states.proofs.Bounds.{fit_same}
 use Rattle.checker.proofs.Moving.{aside-ready, aside-listed, advanced}
 use Rattle.checker.proofs.next_line.Goals as goal
 
-pub gather-requires : goal.gather-requires
-gather-requires c =
-    let alive = c.requires.alive in
-    let aside = c.settle.ensures in
-    record {
-      ready_forth = aside-ready alive aside;
-      fit = fit_same aside.long aside.front c.requires.fit;
-      line_lt_lines = (c.requires.line_lt_lines, alive.ready.fits, aside-listed alive aside);
-    }
+pub gather-requires-clause-ready_forth : goal.gather-requires-clause-ready_forth
+gather-requires-clause-ready_forth c = aside-ready c.requires.alive c.settle.ensures
+
+pub gather-requires-clause-line_lt_lines : goal.gather-requires-clause-line_lt_lines
+gather-requires-clause-line_lt_lines c =
+    (c.requires.line_lt_lines, c.requires.alive.ready.fits, aside-listed c.requires.alive c.settle.ensures)
 
 pub returns : goal.returns
 returns c = advanced c.requires.fit c.requires.alive c.settle.ensures _ c.requires.line_lt_lines c.gather.ensures

@@ -3,6 +3,7 @@
 use Rattle.std.proofs.Common.{◌≡◌, ℕ, false, sym, ◌∙◌, subst, eq-eqb, arith}
 use Rattle.meaning.specs.Pattern.{nothing, inside}
 use Rattle.compiler.specs.Compiling.{skips, Begins}
+use Rattle.pattern.specs.Reading.{byte_of}
 use Rattle.compiler.proofs.Parts.{commands-there, led, none_after, one-after, two-after, base-low, next_place, after-reads, inner-part, first_part, second-part, second_reads, second-place, over-stands, counted-one, skip_is, fits-as, surrounds}
 use Rattle.compiler.proofs.Beginnings.{around-counted, begins-as, begins-part, skipped-begins}
 use Rattle.compiler.proofs.+begin_at.Goals as goal
@@ -20,8 +21,8 @@ returns-then-c-eq0 t c = record { begins = λ o x e. begins-part (none_after (le
 
 -- ---- a pattern that may come no time
 
-pub place_after-next-requires : goal.place_after-next-requires
-place_after-next-requires t c = over-stands c.step_at-c.ensures c.requires.is.stands c.if-c-eq0.false
+pub place_after-requires : goal.place_after-requires
+place_after-requires t c = over-stands c.step_at-c.ensures c.requires.is.stands c.if-c-eq0.false
 
 pub begin_nothing-requires : goal.begin_nothing-requires
 begin_nothing-requires t c = base-low c.requires.is
@@ -30,10 +31,10 @@ pub returns-then-left_out : goal.returns-then-left_out
 returns-then-left_out t c = record {
   begins = λ o x e.
       let r = c.step_at-c.result in
-      let (code, none) = skip_is r.code r.second (sym c.left_out.ensures ∙ c.if-left_out.true) in
+      let (code, none) = skip_is (byte_of r.op) r.second (sym c.left_out.ensures ∙ c.if-left_out.true) in
       let l = led e.stands c.step_at-c.ensures in
       let q = one-after l (counted-one l code) in
-      let ends = c.place_after-next.ensures.ends (inside r.code r.second o) q.inner q.reads in
+      let ends = c.place_after.ensures.ends (inside (byte_of r.op) r.second o) q.inner q.reads in
       begins-part q.is
       (begins-as (around-counted r.first r.second q.inner.tree code)
       (skipped-begins q.inner.tree none (q.counts (eq-eqb _ _ code)).0 (subst (λ (n : ℕ). Begins nothing c.args.base n c.begin_nothing.result) ends c.begin_nothing.ensures)));
@@ -54,11 +55,11 @@ pub returns-then-c-eq1 : goal.returns-then-c-eq1
 returns-then-c-eq1 t c = record {
   begins = λ o x e.
       let r = c.step_at-c.result in
-      let stays : skips r.code r.second ≡ false = sym c.left_out.ensures ∙ c.if-left_out.false in
+      let stays : skips (byte_of r.op) r.second ≡ false = sym c.left_out.ensures ∙ c.if-left_out.false in
       let q = one-after (led e.stands c.step_at-c.ensures) c.if-c-eq1.true in
       begins-part q.is
       (c.begin_around.ensures q.inner.tree q.inner.next q.code (λ k. (q.counts k).0) (fits-as c.step_at-c.ensures e q.is)
-      (c.begin_at-p.ensures.begins (inside r.code r.second o) q.inner (inner-part c.step_at-c.ensures e q stays)));
+      (c.begin_at-p.ensures.begins (inside (byte_of r.op) r.second o) q.inner (inner-part c.step_at-c.ensures e q stays)));
 }
 
 -- ---- two patterns after it

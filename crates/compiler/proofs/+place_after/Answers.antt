@@ -1,6 +1,7 @@
 -- `compiler::place_after`: the command at the place passed its questions, and what stands after it was read (`Parts`).
 use Rattle.std.proofs.Common.{ap, ◌∙◌, arith}
 use Rattle.meaning.specs.Pattern.{inside}
+use Rattle.pattern.specs.Reading.{byte_of}
 use Rattle.compiler.proofs.Parts.{commands-there, led, none_after, one-after, two-after, over-next, over-stands, over-second, second-stands, over-place}
 use Rattle.compiler.proofs.+place_after.Goals as goal
 
@@ -19,7 +20,7 @@ pub returns-then-c-eq1 : goal.returns-then-c-eq1
 returns-then-c-eq1 t c = record {
   ends = λ o x e.
       let q = one-after (led e c.step_at-c.ensures) c.if-c-eq1.true in
-      c.place_after-then.ensures.ends (inside c.step_at-c.result.code c.step_at-c.result.second o) q.inner q.reads ∙ ap (λ y. y.next) q.is;
+      c.place_after-then.ensures.ends (inside (byte_of c.step_at-c.result.op) c.step_at-c.result.second o) q.inner q.reads ∙ ap (λ y. y.next) q.is;
 }
 
 pub place_after-requires : goal.place_after-requires

@@ -5,4 +5,4 @@ use Rattle.compiler.proofs.begin_counted.Goals as goal
 
 pub returns : goal.returns
 returns c x next low fits h =
-    counted-begins h (c.round_of-round.ensures.is x next h) low fits refl refl c.heads_of-heads.ensures c.may_end-nullable.ensures
+    counted-begins h (c.round_of-round.ensures.is x next h) c.from-rounds.ensures c.from.ensures low fits refl refl c.heads_of.ensures c.may_end.ensures

@@ -19,8 +19,8 @@ put-requires c = omega (arith, end_low c.requires c.begin_at-p.ensures)
 
 pub returns-clause-automaton : goal.returns-clause-automaton
 returns-clause-automaton c = (whole-compiled c.begin_at-p.ensures c.compile_at.ensures refl refl (λ K m. record { depth_is = refl; levels-are = no-levels; after-marks = m })
-    c.bit-end.ensures (c.put.ensures c.silent_entry-x.ensures.small) c.silent_entry-x.ensures c.entered.ensures).0
+    c.bit-end.ensures (c.put.ensures c.silent_entry.ensures.small) c.silent_entry.ensures c.entered.ensures).0
 
 pub returns-clause-small : goal.returns-clause-small
 returns-clause-small c = (whole-compiled c.begin_at-p.ensures c.compile_at.ensures refl refl (λ K m. record { depth_is = refl; levels-are = no-levels; after-marks = m })
-    c.bit-end.ensures (c.put.ensures c.silent_entry-x.ensures.small) c.silent_entry-x.ensures c.entered.ensures).1
+    c.bit-end.ensures (c.put.ensures c.silent_entry.ensures.small) c.silent_entry.ensures c.entered.ensures).1

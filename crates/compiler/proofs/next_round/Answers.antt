@@ -8,5 +8,5 @@ returns c = record {
   base-is = refl;
   depth_is = refl;
   fits = λ scope K x next f l fits h.
-      record { depth_is = f.depth_is; levels-are = f.levels-are; after-marks = c.after_round-after.ensures x K (c.round_of-round.ensures.is x next h) l fits f.after-marks };
+      record { depth_is = f.depth_is; levels-are = f.levels-are; after-marks = c.after_round.ensures x K (c.round_of-round.ensures.is x next h) l fits f.after-marks };
 }

@@ -4,18 +4,16 @@ use Rattle.graph.specs.Loops.{turns}
 use Rattle.area.specs.Area.{found}
 use Rattle.states.specs.Spots.{front}
 use Rattle.area.proofs.Changes.{step-as}
-use Rattle.area.proofs.Anyhow.{room_of}
 use Rattle.expanding.specs.Undoing.{line_undone}
-use Rattle.expanding.proofs.Undone.{by-line, undo-power, undo-leads, undo-goes}
+use Rattle.expanding.proofs.Undone.{by-line, undo-power, undo-leads}
 use Rattle.expanding.proofs.by_stack.Goals as goal
 
 pub undo_of-undo-requires : goal.undo_of-undo-requires
 undo_of-undo-requires c = undo-power c.requires.before
 
-pub over_lines-requires : goal.over_lines-requires
-over_lines-requires c =
-    let (some, near) = c.requires.d_nonzero in
-    record { undoing = undo-goes c.requires.before c.undo_of-undo.ensures (room_of c.requires.ready_back) c.requires.laid.0 some near; starts = c.requires.laid.1.starts; leads_to = undo-leads c.requires.before c.undo_of-undo.ensures }
+pub over_lines-requires-clause-leads_to : goal.over_lines-requires-clause-leads_to
+over_lines-requires-clause-leads_to c =
+    undo-leads c.requires.before c.undo_of-undo.ensures
 
 pub returns : goal.returns
 returns c =

@@ -58,9 +58,6 @@ one_spot-u-requires c =
     let (some, near, less) = c.requires.d_nonzero in
     record { ready_back = c.loop-c.invariant.1.ready; backing = backing-under c.loop-c.invariant.1 c.requires.backing; aimed = aimed fit c.args.t less _ c.target_of-target.ensures; d_nonzero = (some, omega (arith, near, c.loop-c.invariant.1.grows), omega arith, ap (λ (m : ℕ). bit_of m c.target_of-target.result.position) (sym c.follow_at.ensures) ∙ c.if-follow_at-target-eq1.true) }
 
-pub loop-c-smaller : goal.loop-c-smaller
-loop-c-smaller c = omega (arith, c.loop-c-test.true)
-
 pub loop-c-preserved : goal.loop-c-preserved
 loop-c-preserved c = (omega (arith, c.loop-c-test.true), loop-turn _ _ _ c.loop-c.invariant.1 c.loop-c-test.true (step_of c))
 

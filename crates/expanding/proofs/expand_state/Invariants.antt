@@ -9,6 +9,3 @@ use Rattle.expanding.proofs.expand_state.Given as goal
 
 abbrev pub invariant-loop-c : goal.invariant-loop-c
 invariant-loop-c l = (l.c ≤ l.plan.done) × Under l.plan.base l.plan.size (expand (setting_in l.program l.plan (front l.plan l.initial.work)) l.d l.t) l.tail l.initial.work (turns (spot_turn l.program l.plan (front l.plan l.initial.work) l.target l.d) l.c (l.plan.done - l.c)) l.u l.work
-
-abbrev pub decreases-loop-c : goal.decreases-loop-c
-decreases-loop-c l = l.plan.done - l.c

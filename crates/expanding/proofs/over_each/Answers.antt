@@ -1,29 +1,13 @@
 -- `expanding::over_each` meets its contract, by what is left of its turns. Assumes nothing.
-use mathlib.Core.Path.{sym, subst}
+use mathlib.Core.Path.{sym}
 use Prim.Native.Nat.{ℕ, ◌+◌, ◌*◌}
 use native.Mathlib.Omega.{arith}
-use Rattle.request.specs.Layout.{Laid}
 use Rattle.graph.specs.Table.{Search}
 use Rattle.area.specs.Area.{found}
 use Rattle.states.specs.Spots.{boats_in, stack_at, stack_turn}
 use Rattle.states.proofs.Bounds.{boats-front}
-use Rattle.area.proofs.Anyhow.{loop-start, step-as, loop-turn, loop-end, under-front}
+use Rattle.area.proofs.Anyhow.{step-as, loop-turn, loop-end, under-front}
 use Rattle.expanding.proofs.over_each.Goals as goal
-
-pub loop-x-init : goal.loop-x-init
-loop-x-init c = (omega arith, loop-start _ _ c.requires.undoing.ready)
-
-pub overflow_mul-x : goal.overflow_mul-x
-overflow_mul-x c =
-    omega (arith, c.requires.in_states c.loop-x.x c.loop-x-test.true, c.requires.undoing.laid.small)
-
-pub overflow_add-x : goal.overflow_add-x
-overflow_add-x c =
-    omega (arith, c.requires.in_states c.loop-x.x c.loop-x-test.true, c.requires.undoing.laid.small)
-
-pub one_stack-t-requires : goal.one_stack-t-requires
-one_stack-t-requires c =
-    record { room_back = c.loop-x.invariant.1.ready; laid = subst (Laid c.args.plan) (sym c.loop-x.invariant.1.long) c.requires.undoing.laid; sane = c.requires.undoing.sane; d_nonzero = (c.requires.undoing.some, omega (arith, c.requires.undoing.near, c.loop-x.invariant.1.grows), c.requires.in_states c.loop-x.x c.loop-x-test.true) }
 
 pub loop-x-preserved : goal.loop-x-preserved
 unfolding stack_turn

@@ -8,6 +8,3 @@ use Rattle.expanding.proofs.over_entries.Given as goal
 abbrev pub invariant-loop-h : goal.invariant-loop-h
 invariant-loop-h l =
     (l.h ≤ l.above) × UnderAny l.plan.base l.plan.size (turns (entries_turn l.plan l.undo l.home l.code l.below) 0 l.above) l.tail l.initial.work (turns (entries_turn l.plan l.undo l.home l.code l.below) l.h (l.above - l.h)) l.t l.work
-
-abbrev pub decreases-loop-h : goal.decreases-loop-h
-decreases-loop-h l = l.above - l.h

@@ -2,16 +2,12 @@
 use mathlib.Core.Path.{sym, subst}
 use native.Mathlib.Omega.{arith}
 use Rattle.states.specs.Spots.{Starts}
-use Rattle.area.proofs.Anyhow.{loop-start, loop-turn, loop-end, under-front}
-use Rattle.expanding.proofs.Undone.{undoing-under}
+use Rattle.area.proofs.Anyhow.{loop-turn, loop-end, under-front}
 use Rattle.expanding.proofs.over_lines.Goals as goal
 
-pub loop-i-init : goal.loop-i-init
-loop-i-init c = (omega arith, loop-start _ _ c.requires.undoing.ready)
-
-pub one_line-t-requires : goal.one_line-t-requires
-one_line-t-requires c =
-    record { undoing = undoing-under c.loop-i.invariant.1 c.requires.undoing; starts = (subst (Starts c.args.plan) (sym (under-front c.loop-i.invariant.1 c.args.plan.base (omega arith))) c.requires.starts, c.loop-i-test.true); leads_to = c.requires.leads_to }
+pub one_line-t-requires-clause-starts : goal.one_line-t-requires-clause-starts
+one_line-t-requires-clause-starts c =
+    (subst (Starts c.args.plan) (sym (under-front c.loop-i.invariant.1 c.args.plan.base (omega arith))) c.requires.starts, c.loop-i-test.true)
 
 pub loop-i-preserved : goal.loop-i-preserved
 loop-i-preserved c =

@@ -10,6 +10,3 @@ abbrev pub invariant-loop-i : goal.invariant-loop-i
 invariant-loop-i l =
     (l.i ≤ l.plan.lines)
     × UnderAny l.plan.base l.plan.size (turns (line_undone l.plan l.undo (front l.plan l.initial.work) l.place l.c) 0 l.plan.lines) l.tail l.initial.work (turns (line_undone l.plan l.undo (front l.plan l.initial.work) l.place l.c) l.i (l.plan.lines - l.i)) l.t l.work
-
-abbrev pub decreases-loop-i : goal.decreases-loop-i
-decreases-loop-i l = l.plan.lines - l.i

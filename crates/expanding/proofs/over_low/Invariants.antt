@@ -7,6 +7,3 @@ use Rattle.expanding.proofs.over_low.Given as goal
 
 abbrev pub invariant-loop-l : goal.invariant-loop-l
 invariant-loop-l l = (l.l ≤ l.many) × UnderAny l.plan.base l.plan.size (turns (λ n. push l.d (l.first + n * l.weight)) 0 l.many) l.tail l.initial.work (turns (λ n. push l.d (l.first + n * l.weight)) l.l (l.many - l.l)) l.t l.work
-
-abbrev pub decreases-loop-l : goal.decreases-loop-l
-decreases-loop-l l = l.many - l.l

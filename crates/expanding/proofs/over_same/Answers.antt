@@ -18,18 +18,11 @@ returns-then-boat_of-eq0 c =
     let x = c.args in
     step-none _ c.requires.undoing.ready (same-unread (boats_in x.plan x.work.now) x.plan x.undo x.home x.code c.requires.wants_same (sym c.boat_of.ensures ∙ c.if-boat_of-eq0.true) _)
 
-pub nonzero_div-above : goal.nonzero_div-above
-nonzero_div-above c = let among = c.entry_among.ensures c.if-entry_among.true in omega (arith, among.some)
-
-pub nonzero_div-above-then-entry_among : goal.nonzero_div-above-then-entry_among
-nonzero_div-above-then-entry_among c =
-    omega (arith, c.requires.undoing.laid.some-radix)
-
-pub over_entries-requires : goal.over_entries-requires
-over_entries-requires c =
+pub over_entries-requires-clause-weight_nonzero : goal.over_entries-requires-clause-weight_nonzero
+over_entries-requires-clause-weight_nonzero c =
     let x = c.args in
     let among = c.entry_among.ensures c.if-entry_among.true in
-    record { undoing = c.requires.undoing; weight_nonzero = (omega (arith, c.requires.wants_same.low), among.some, entries-low x.plan x.undo x.home x.code among c.requires.in_states) }
+    (omega (arith, c.requires.wants_same.low), among.some, entries-low x.plan x.undo x.home x.code among c.requires.in_states)
 
 pub returns-then-entry_among : goal.returns-then-entry_among
 returns-then-entry_among c =

@@ -7,21 +7,17 @@ use Rattle.area.specs.Area.{found}
 use Rattle.states.specs.Spots.{boats_in}
 use Rattle.states.proofs.Bounds.{boats-front}
 use Rattle.sorted.specs.Sorting.{pack_by}
-use Rattle.area.proofs.Anyhow.{under-start, step-as, loop-turn, loop-end, under-front, under_back}
+use Rattle.area.proofs.Anyhow.{step-as, loop-turn, loop-end, under-front, under_back}
 use Rattle.ways.proofs.Lanes.{back-word}
 use Rattle.expanding.specs.Undoing.{word_undone}
-use Rattle.expanding.proofs.Undone.{undoing-under}
 use Rattle.expanding.proofs.over_stacked.Goals as goal
 
-pub loop-p-init : goal.loop-p-init
-loop-p-init c = (omega arith, c.requires.words.rising, under-start _ c.requires.undoing.ready)
-
-pub one_stacked-t-requires : goal.one_stacked-t-requires
-one_stacked-t-requires c =
+pub one_stacked-t-requires-clause-p_in_bounds : goal.one_stacked-t-requires-clause-p_in_bounds
+one_stacked-t-requires-clause-p_in_bounds c =
     let (from, up_to_lem, u) = c.loop-p.invariant in
     let same = back-word c.loop-p.p c.loop-p.work c.args.work.now (under_back u c.loop-p.p (omega (arith, u.ready.fits, c.requires.words.behind, from))) in
     let placed = subst (λ e. e / pack_by < c.args.plan.places) (sym same) (c.requires.words.starts c.loop-p.p from (omega arith)) in
-    record { undoing = undoing-under u c.requires.undoing; p_in_bounds = (omega (arith, u.long, c.requires.words.inside), placed); leads_to = c.requires.leads_to }
+    (omega (arith, u.long, c.requires.words.inside), placed)
 
 pub loop-p-preserved : goal.loop-p-preserved
 loop-p-preserved c =

@@ -12,6 +12,3 @@ invariant-loop-p l =
     (l.lo ≤ l.p)
     × (l.p ≤ l.hi)
     × UnderAny l.plan.base l.plan.size (turns (λ q. word_undone l.plan l.undo (boats_in l.plan l.initial.work) l.c (get_or l.initial.work q 0)) l.lo (l.hi - l.lo)) l.tail l.initial.work (turns (λ q. word_undone l.plan l.undo (boats_in l.plan l.initial.work) l.c (get_or l.initial.work q 0)) l.p (l.hi - l.p)) l.t l.work
-
-abbrev pub decreases-loop-p : goal.decreases-loop-p
-decreases-loop-p l = l.hi - l.p

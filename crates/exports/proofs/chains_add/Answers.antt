@@ -1,19 +1,12 @@
 -- `exports::chains_add` meets its contract: the reply of the record's function, as a number. Assumes nothing.
-use mathlib.Core.Path.{◌≡◌, sym, ap, ◌∙◌, subst}
+use mathlib.Core.Path.{◌≡◌, ap, ◌∙◌}
 use mathlib.Core.Option.{none}
 use Rattle.meaning.specs.Record.{Line}
 use Rattle.meaning.specs.Outcome.{told}
 use Rattle.meaning.specs.Writing.{add_of, add_after}
 use Rattle.record.specs.Promise.{line_shown}
 use Rattle.exports.specs.Promise.{number_of}
-use Rattle.exports.specs.Fits.{Fits32}
-use Rattle.exports.proofs.Numbers.{add-fits}
 use Rattle.exports.proofs.chains_add.Goals as goal
-
-pub write_number-requires : goal.write_number-requires
-write_number-requires c =
-    let a = c.args in
-    subst Fits32 (sym c.add_line.ensures.reply) (add-fits a.buf.now a.len _)
 
 pub returns : goal.returns
 returns c =

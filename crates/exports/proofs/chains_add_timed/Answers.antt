@@ -1,19 +1,12 @@
 -- `exports::chains_add_timed` meets its contract: the reply of the record's function, as a number. Assumes nothing.
-use mathlib.Core.Path.{◌≡◌, sym, ap, ◌∙◌, subst}
+use mathlib.Core.Path.{◌≡◌, ap, ◌∙◌}
 use mathlib.Core.Option.{some}
 use Rattle.meaning.specs.Record.{Line}
 use Rattle.meaning.specs.Outcome.{told}
 use Rattle.meaning.specs.Writing.{add_of, add_after}
 use Rattle.record.specs.Promise.{timed_shown}
 use Rattle.exports.specs.Promise.{number_of}
-use Rattle.exports.specs.Fits.{Fits32}
-use Rattle.exports.proofs.Numbers.{add-fits}
 use Rattle.exports.proofs.chains_add_timed.Goals as goal
-
-pub write_number-requires : goal.write_number-requires
-write_number-requires c =
-    let a = c.args in
-    subst Fits32 (sym c.add_timed.ensures.reply) (add-fits a.buf.now a.len _)
 
 pub returns : goal.returns
 returns c =
@@ -21,4 +14,4 @@ returns c =
     let (from, kind, class, sail, to) = c.line_with-line.ensures in
     λ i. record { from = from i; kind = kind i; boat = record { class = class i; sail = sail i }; to = to i; time = some x.time } in
     let x = c.args in
-    record { reply = c.write_number.ensures ∙ ap number_of (c.add_timed.ensures.reply ∙ ap (λ (l : Line). told (add_of x.buf.now x.len l)) made); buffer = c.add_timed.ensures.buffer ∙ ap (λ (l : Line). add_after x.buf.now x.len l) made }
+    record { reply = c.write_number.ensures ∙ ap number_of (c.add_line.ensures.reply ∙ ap (λ (l : Line). told (add_of x.buf.now x.len l)) made); buffer = c.add_line.ensures.buffer ∙ ap (λ (l : Line). add_after x.buf.now x.len l) made }

@@ -1,18 +1,10 @@
 -- `exports::chains_check` meets its contract: the reply of `check_chain`, as a number, and demand 2 of it (`check-number`). Assumes nothing.
-use mathlib.Core.Path.{sym, ap, ◌∙◌, subst}
+use mathlib.Core.Path.{ap, ◌∙◌}
 use lib.ListN.{length}
 use Rattle.meaning.specs.Windows.{plain}
-use Rattle.checker.specs.Promise.{check_of}
 use Rattle.exports.specs.Promise.{check_number}
-use Rattle.exports.specs.Fits.{SecondFits}
-use Rattle.exports.proofs.Numbers.{told-second}
 use Rattle.exports.proofs.Demands.{check-number}
 use Rattle.exports.proofs.chains_check.Goals as goal
-
-pub check_number-requires : goal.check_number-requires
-check_number-requires c =
-    let x = c.args in
-    subst SecondFits (sym c.check_chain.ensures.reply) (told-second (check_of x.rec.now x.pat.now x.from x.to x.chain.now plain (length x.work.now)))
 
 pub returns : goal.returns
 returns c =

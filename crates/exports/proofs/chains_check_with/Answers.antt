@@ -1,5 +1,5 @@
 -- `exports::chains_check_with` meets its contract: the reply of `check_chain_with`, as a number, and demand 2 of it (`check-number`). Assumes nothing.
-use mathlib.Core.Path.{◌≡◌, sym, ap, ◌∙◌, subst}
+use mathlib.Core.Path.{◌≡◌, ap, ◌∙◌, subst}
 use Prim.Native.Nat.{ℕ}
 use lib.ListN.{length}
 use Rattle.meaning.specs.Outcome.{told}
@@ -8,18 +8,8 @@ use Rattle.meaning.specs.Request.{ask_request, work_after}
 use Rattle.windows.specs.Promise.{options_of}
 use Rattle.checker.specs.Promise.{check_reply, check_of, Demand2}
 use Rattle.exports.specs.Promise.{check_number, Membership}
-use Rattle.exports.specs.Fits.{SecondFits}
-use Rattle.exports.proofs.Numbers.{told-second}
 use Rattle.exports.proofs.Demands.{check-number}
 use Rattle.exports.proofs.chains_check_with.Goals as goal
-
-pub check_number-requires : goal.check_number-requires
-check_number-requires c =
-    let replied : let x = c.args in
-    check_reply c.check_chain_with.result ≡ told (check_of x.rec.now x.pat.now x.from x.to x.chain.now ((options_of c.args.options.now)) (length x.work.now)) = let x = c.args in
-    c.check_chain_with.ensures.reply ∙ ap (λ (o : Options). told (check_of x.rec.now x.pat.now x.from x.to x.chain.now o (length x.work.now))) c.options_of.ensures in
-    let x = c.args in
-    subst SecondFits (sym replied) (told-second (check_of x.rec.now x.pat.now x.from x.to x.chain.now ((options_of c.args.options.now)) (length x.work.now)))
 
 pub returns : goal.returns
 returns c =

@@ -6,13 +6,10 @@ use Rattle.states.specs.Pairs.{seen}
 use Rattle.states.specs.Spots.{From, next_turn}
 use Rattle.forward.proofs.over_next.Given as goal
 
-abbrev pub invariant-loop-rest : goal.invariant-loop-rest
-invariant-loop-rest l =
+abbrev pub invariant-loop-k : goal.invariant-loop-k
+invariant-loop-k l =
     let turn = next_turn l.plan l.program l.mask (seen l.plan l.initial.work l.want) l.to l.v in
     (j : ℕ)
     × (j ≤ l.plan.done + 1)
-    × From l.mask j l.rest
+    × From l.mask j l.k-iterator.0
     × Under l.plan.marks l.plan.size (turns turn 0 (l.plan.done + 1)) l.tail l.initial.work (turns turn j (l.plan.done + 1 - j)) l.t l.work
-
-abbrev pub decreases-loop-rest : goal.decreases-loop-rest
-decreases-loop-rest l = l.rest

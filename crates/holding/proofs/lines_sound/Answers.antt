@@ -1,23 +1,27 @@
--- `holding::lines_sound`: a sound line adds to those below it, one that is not refutes all, and at the end none is left.
-use Rattle.std.proofs.Common.{refl, sym, ◌∙◌, subst, ℕ, ◌+◌, ◌<◌, arith}
+-- `holding::lines_sound`: every line gives true, or one gives false.
+use Rattle.std.proofs.Common.{◌≡◌, refl, sym, ◌∙◌, subst, ℕ, ◌<◌, Bool, true, false, length, get_or, zero-add, arith, rules}
 use mathlib.Core.Bool.{false≢true}
-use native.Mathlib.Decide.{ℕ_discrete}
+use Rattle.std.specs.Bool.{MatchBool}
+use Rattle.std.specs.List.{range_with_len, AllWithin, HoldsAt}
+use Rattle.std.proofs.lemmas.Iterator.{cases_from_all, YieldsList-from_range}
+use Rattle.std.proofs.lemmas.List.FromFn.{length-range_with_len, get_or-range_with_len}
+use Rattle.states.specs.Spots.{front}
+use Rattle.holding.specs.Holding.{LineSound}
 use Rattle.holding.proofs.lines_sound.Goals as goal
 
--- what holds of the numbers below i, and of i
-below_next : (P : ℕ → Type 0) (i : ℕ) → ((j : ℕ) → j < i → P j) → P i → (j : ℕ) → j < i + 1 → P j
-below_next P i h p j less = elim (ℕ_discrete j i) [ yes e ↦ subst P (sym e) p | no e ↦ h j (omega arith) ]
+number : (n i : ℕ) → i < n → get_or (range_with_len 0 n) i 0 ≡ i
+number n i h = get_or-range_with_len 0 n i 0 h ∙ zero-add i
 
-pub loop-i-init : goal.loop-i-init
-loop-i-init c = (omega arith, λ j l. absurd (omega arith))
-
-pub loop-i-preserved : goal.loop-i-preserved
-loop-i-preserved c =
-    (omega (arith, c.loop-i-test.true), below_next _ _ c.loop-i.invariant.1 (c.line_sound.ensures.0 c.if-line_sound.true))
-
-pub returns-else-line_sound : goal.returns-else-line_sound
-returns-else-line_sound c =
-    (λ e. absurd (false≢true e), λ o. absurd (false≢true (sym c.if-line_sound.false ∙ c.line_sound.ensures.1 (o _ c.loop-i-test.true))))
+-- of the numbers below n all are P, or one is not
+below : (P : ℕ → Type 0) (n : ℕ) (r : Bool) → (let xs = range_with_len 0 n in MatchBool r (AllWithin P xs 0 (length xs)) ((k : ℕ) × (k < length xs) × HoldsAt (λ i. P i → ⊥) xs k))
+    → (r ≡ true → (i : ℕ) → i < n → P i) × (((i : ℕ) → i < n → P i) → r ≡ true)
+below P n true all = (λ e i h. subst P (number n i h) (all i 0 (omega arith) (omega (arith, length-range_with_len 0 n, h))), λ _. refl)
+below P n false (k, low, here) =
+    let less : k < n = omega (arith, length-range_with_len 0 n, low) in
+    (λ e. absurd (false≢true e), λ all. absurd (here 0 (subst P (sym (number n k less)) (all k less))))
 
 pub returns : goal.returns
-returns c = (λ e i h. c.loop-i.invariant.1 i (omega (arith, h, c.loop-i-test.false)), λ o. refl)
+returns c =
+    let P : ℕ → Type 0 = LineSound c.args.plan (front c.args.plan c.args.work.now) in
+    let n = c.args.plan.lines in
+    below P n c.all.result (cases_from_all _ _ _ P (λ i. P i → ⊥) c.all.ensures.ran (YieldsList-from_range 0 n n refl (omega arith)) (λ x q k. search rules) (λ x q k. search rules))

@@ -1,148 +1,102 @@
 -- `pattern::read_at`: the command at the place has passed its questions (`ok`), so the next place is later and not past the end;
 -- each way through the reader is then one law of `Extents`.
 use Rattle.std.proofs.Common.{◌≡◌, ℕ, ◌+◌, ◌-◌, ◌<◌, ◌≤◌, List, length, sym, ap, subst, ◌∙◌, arith, rules}
-use Rattle.meaning.specs.Outcome.{refused, passed}
-use Rattle.meaning.specs.Pattern.{Command, Outside, inside}
-use Rattle.pattern.specs.declared.Reading.TheVariants.{Read}
-use Rattle.pattern.specs.Reading.{outside_shown, command_shown, reading_shown, number_of, extent_at, joined_extent, around_extent}
-use Rattle.pattern.specs.Passed.{Passed, command-passed, next-later, next-inside, keep-slot, inside-small}
-use Rattle.pattern.proofs.Extents.{refused-command, no-pattern, one_more, first_stops, two-more, Bounded, bounded, few}
+use Rattle.meaning.specs.Outcome.{passed, and_then}
+use Rattle.meaning.specs.Pattern.{Outside}
+use Rattle.refusals.specs.Refusal.{mapped}
+use Rattle.refusals.proofs.Handed.{handed}
+use Rattle.pattern.specs.Reading.{byte_of, extent_at, joined_extent, around_extent}
+use Rattle.pattern.specs.Passed.{command-passed, next-later, next-inside, keep-slot, inside-small}
+use Rattle.pattern.proofs.Extents.{refused-command, no-pattern, one_more, extent-after, two-more, bounded, few}
 use Rattle.pattern.proofs.+read_at.Goals as goal
 
 -- a later place that is not past the end has fewer bytes left
 fewer : (s : List ℕ) (at next t : ℕ) → length s - at ≡ t → at < next → next ≤ length s → length s - next < t
 fewer s at next t measure later inside = omega arith
 
-pub returns-in_default : goal.returns-in_default
-returns-in_default t c =
-    let told = c.in_default.is in
-    let number = c.command_number.ensures ∙ ap (λ x. number_of (command_shown x)) told in
-    refused-command c.args.src.now c.args.at c.args.before (outside_shown c.args.o) c.command_number.result (sym c.command_from-c.ensures ∙ (ap command_shown told ∙ ap refused (sym number)))
+pub returns-in_err-c : goal.returns-in_err-c
+returns-in_err-c t c = handed _ _ c.from_residual.ensures.1 ∙ refused-command _ _ _ _ _ (sym c.in_err-c.ensures)
 
-pub returns-then-patterns-eq0 : goal.returns-then-patterns-eq0
-returns-then-patterns-eq0 t c =
-    let s = c.args.src.now in
-    let o = outside_shown c.args.o in
-    let k : Command = record { code = c.in-Is.code; first = c.in-Is.first; second = c.in-Is.second; patterns = c.in-Is.patterns; next = c.in-Is.next } in
-    let ok : Passed s c.args.at c.args.before o k = command-passed s c.args.at c.args.before o k (sym c.command_from-c.ensures ∙ ap command_shown c.in-Is.is) in
-    no-pattern ok c.if-patterns-eq0.true
+-- ---- no pattern after the command
+
+pub returns-then-c-eq0 : goal.returns-then-c-eq0
+returns-then-c-eq0 t c = no-pattern (command-passed _ _ _ _ _ (sym c.in_ok-c.ensures)) c.if-c-eq0.true
+
+-- ---- one pattern after it
 
 pub overflow_add-before : goal.overflow_add-before
-overflow_add-before t c =
-    let s = c.args.src.now in
-    let o = outside_shown c.args.o in
-    let k : Command = record { code = c.in-Is.code; first = c.in-Is.first; second = c.in-Is.second; patterns = c.in-Is.patterns; next = c.in-Is.next } in
-    let ok : Passed s c.args.at c.args.before o k = command-passed s c.args.at c.args.before o k (sym c.command_from-c.ensures ∙ ap command_shown c.in-Is.is) in
-    search (rules, ok.few)
+overflow_add-before t c = let ok = command-passed _ _ _ _ _ (sym c.in_ok-c.ensures) in search (rules, ok.few)
 
 pub inside-requires : goal.inside-requires
-inside-requires t c =
-    let s = c.args.src.now in
-    let o = outside_shown c.args.o in
-    let k : Command = record { code = c.in-Is.code; first = c.in-Is.first; second = c.in-Is.second; patterns = c.in-Is.patterns; next = c.in-Is.next } in
-    let ok : Passed s c.args.at c.args.before o k = command-passed s c.args.at c.args.before o k (sym c.command_from-c.ensures ∙ ap command_shown c.in-Is.is) in
-    (keep-slot ok, c.requires)
+inside-requires t c = let ok = command-passed _ _ _ _ _ (sym c.in_ok-c.ensures) in (keep-slot ok, c.requires)
 
-pub read_at-p-requires : goal.read_at-p-requires
-read_at-p-requires t c =
-    let s = c.args.src.now in
-    let o = outside_shown c.args.o in
-    let k : Command = record { code = c.in-Is.code; first = c.in-Is.first; second = c.in-Is.second; patterns = c.in-Is.patterns; next = c.in-Is.next } in
-    let ok : Passed s c.args.at c.args.before o k = command-passed s c.args.at c.args.before o k (sym c.command_from-c.ensures ∙ ap command_shown c.in-Is.is) in
-    let there = fewer s c.args.at k.next t c.decreases (next-later ok) (next-inside ok) in
+pub read_at-requires : goal.read_at-requires
+read_at-requires t c =
+    let ok = command-passed _ _ _ _ _ (sym c.in_ok-c.ensures) in
+    let there = fewer _ _ _ t c.decreases (next-later ok) (next-inside ok) in
     (there, subst (λ (o : Outside). o.depth ≤ 3) (sym c.inside.ensures) (inside-small ok c.requires))
+
+pub returns-in_err-p : goal.returns-in_err-p
+returns-in_err-p t c =
+    let ok = command-passed _ _ _ _ _ (sym c.in_ok-c.ensures) in
+    let k = c.in_ok-c.c in
+    let inner = c.in_err-p.ensures ∙ ap (extent_at c.args.src.now k.next (c.args.before + 1)) c.inside.ensures in
+    handed _ _ c.from_residual-in_err-p.ensures.1 ∙ (ap (mapped (around_extent (byte_of k.op) k.second)) inner ∙ one_more ok c.if-c-eq1.true)
 
 pub around-requires : goal.around-requires
 around-requires t c =
-    let s = c.args.src.now in
-    let o = outside_shown c.args.o in
-    let k : Command = record { code = c.in-Is.code; first = c.in-Is.first; second = c.in-Is.second; patterns = c.in-Is.patterns; next = c.in-Is.next } in
-    let ok : Passed s c.args.at c.args.before o k = command-passed s c.args.at c.args.before o k (sym c.command_from-c.ensures ∙ ap command_shown c.in-Is.is) in
-    let read : reading_shown c.read_at-p.result ≡ extent_at s k.next (c.args.before + 1) (inside k.code k.second o) = c.read_at-p.ensures ∙ ap (extent_at s k.next (c.args.before + 1)) c.inside.ensures in
-    few s k.next (c.args.before + 1) _ c.read_at-p.result (inside-small ok c.requires) read
+    let ok = command-passed _ _ _ _ _ (sym c.in_ok-c.ensures) in
+    let inner = c.in_ok-p.ensures ∙ ap (extent_at c.args.src.now c.in_ok-c.c.next (c.args.before + 1)) c.inside.ensures in
+    few _ _ _ _ c.in_ok-p.p (inside-small ok c.requires) inner
 
-pub returns-then-patterns-eq1 : goal.returns-then-patterns-eq1
-returns-then-patterns-eq1 t c =
-    let s = c.args.src.now in
-    let o = outside_shown c.args.o in
-    let k : Command = record { code = c.in-Is.code; first = c.in-Is.first; second = c.in-Is.second; patterns = c.in-Is.patterns; next = c.in-Is.next } in
-    let ok : Passed s c.args.at c.args.before o k = command-passed s c.args.at c.args.before o k (sym c.command_from-c.ensures ∙ ap command_shown c.in-Is.is) in
-    let read : reading_shown c.read_at-p.result ≡ extent_at s k.next (c.args.before + 1) (inside k.code k.second o) = c.read_at-p.ensures ∙ ap (extent_at s k.next (c.args.before + 1)) c.inside.ensures in
-    c.around.ensures ∙ (ap (around_extent k.code k.second) read ∙ one_more ok c.if-patterns-eq1.true)
+pub returns-then-c-eq1 : goal.returns-then-c-eq1
+returns-then-c-eq1 t c =
+    let ok = command-passed _ _ _ _ _ (sym c.in_ok-c.ensures) in
+    let k = c.in_ok-c.c in
+    let inner = c.in_ok-p.ensures ∙ ap (extent_at c.args.src.now k.next (c.args.before + 1)) c.inside.ensures in
+    ap passed c.around.ensures ∙ (ap (mapped (around_extent (byte_of k.op) k.second)) inner ∙ one_more ok c.if-c-eq1.true)
+
+-- ---- two patterns after it
 
 pub overflow_add-before-2 : goal.overflow_add-before-2
-overflow_add-before-2 t c =
-    let s = c.args.src.now in
-    let o = outside_shown c.args.o in
-    let k : Command = record { code = c.in-Is.code; first = c.in-Is.first; second = c.in-Is.second; patterns = c.in-Is.patterns; next = c.in-Is.next } in
-    let ok : Passed s c.args.at c.args.before o k = command-passed s c.args.at c.args.before o k (sym c.command_from-c.ensures ∙ ap command_shown c.in-Is.is) in
-    search (rules, ok.few)
+overflow_add-before-2 t c = let ok = command-passed _ _ _ _ _ (sym c.in_ok-c.ensures) in search (rules, ok.few)
 
-pub read_at-p-requires-2 : goal.read_at-p-requires-2
-read_at-p-requires-2 t c =
-    let s = c.args.src.now in
-    let o = outside_shown c.args.o in
-    let k : Command = record { code = c.in-Is.code; first = c.in-Is.first; second = c.in-Is.second; patterns = c.in-Is.patterns; next = c.in-Is.next } in
-    let ok : Passed s c.args.at c.args.before o k = command-passed s c.args.at c.args.before o k (sym c.command_from-c.ensures ∙ ap command_shown c.in-Is.is) in
-    let there = fewer s c.args.at k.next t c.decreases (next-later ok) (next-inside ok) in
-    (there, c.requires)
+pub read_at-requires-2 : goal.read_at-requires-2
+read_at-requires-2 t c =
+    let ok = command-passed _ _ _ _ _ (sym c.in_ok-c.ensures) in
+    (fewer _ _ _ t c.decreases (next-later ok) (next-inside ok), c.requires)
 
-pub returns-in_default-p : goal.returns-in_default-p
-returns-in_default-p t c =
-    let s = c.args.src.now in
-    let o = outside_shown c.args.o in
-    let k : Command = record { code = c.in-Is.code; first = c.in-Is.first; second = c.in-Is.second; patterns = c.in-Is.patterns; next = c.in-Is.next } in
-    let ok : Passed s c.args.at c.args.before o k = command-passed s c.args.at c.args.before o k (sym c.command_from-c.ensures ∙ ap command_shown c.in-Is.is) in
-    let told = c.in_default-p.is in
-    let first = sym (ap reading_shown told) ∙ c.read_at-p-2.ensures in
-    ap reading_shown told ∙ first_stops ok c.if-patterns-eq0.false c.if-patterns-eq1.false c.in_default-p.field-0 first
+pub returns-in_err-p-2 : goal.returns-in_err-p-2
+returns-in_err-p-2 t c =
+    let ok = command-passed _ _ _ _ _ (sym c.in_ok-c.ensures) in
+    handed _ _ c.from_residual-in_err-p-2.ensures.1
+    ∙ (ap (λ x. and_then x (extent-after ok c.if-c-eq0.false c.if-c-eq1.false)) c.in_err-p-2.ensures ∙ two-more ok c.if-c-eq0.false c.if-c-eq1.false)
 
 pub overflow_add-before-3 : goal.overflow_add-before-3
-overflow_add-before-3 t c =
-    let s = c.args.src.now in
-    let o = outside_shown c.args.o in
-    let k : Command = record { code = c.in-Is.code; first = c.in-Is.first; second = c.in-Is.second; patterns = c.in-Is.patterns; next = c.in-Is.next } in
-    let ok : Passed s c.args.at c.args.before o k = command-passed s c.args.at c.args.before o k (sym c.command_from-c.ensures ∙ ap command_shown c.in-Is.is) in
-    search (rules, ok.few)
+overflow_add-before-3 t c = let ok = command-passed _ _ _ _ _ (sym c.in_ok-c.ensures) in search (rules, ok.few)
 
 pub overflow_add-before-4 : goal.overflow_add-before-4
-overflow_add-before-4 t c =
-    let s = c.args.src.now in
-    let o = outside_shown c.args.o in
-    let k : Command = record { code = c.in-Is.code; first = c.in-Is.first; second = c.in-Is.second; patterns = c.in-Is.patterns; next = c.in-Is.next } in
-    let ok : Passed s c.args.at c.args.before o k = command-passed s c.args.at c.args.before o k (sym c.command_from-c.ensures ∙ ap command_shown c.in-Is.is) in
-    let e = c.in-Read.e in
-    let first : passed e ≡ extent_at s k.next (c.args.before + 1) o = sym (ap reading_shown c.in-Read.is) ∙ c.read_at-p-2.ensures in
-    let b : Bounded s k.next (c.args.before + 1) o e = bounded s k.next (c.args.before + 1) o e c.requires first in
-    search (rules, b.few)
+overflow_add-before-4 t c = let b = bounded _ _ _ _ c.in_ok-p-2.p c.requires c.in_ok-p-2.ensures in search (rules, b.few)
 
-pub read_at-q-requires : goal.read_at-q-requires
-read_at-q-requires t c =
-    let s = c.args.src.now in
-    let o = outside_shown c.args.o in
-    let k : Command = record { code = c.in-Is.code; first = c.in-Is.first; second = c.in-Is.second; patterns = c.in-Is.patterns; next = c.in-Is.next } in
-    let ok : Passed s c.args.at c.args.before o k = command-passed s c.args.at c.args.before o k (sym c.command_from-c.ensures ∙ ap command_shown c.in-Is.is) in
-    let e = c.in-Read.e in
-    let first : passed e ≡ extent_at s k.next (c.args.before + 1) o = sym (ap reading_shown c.in-Read.is) ∙ c.read_at-p-2.ensures in
-    let b : Bounded s k.next (c.args.before + 1) o e = bounded s k.next (c.args.before + 1) o e c.requires first in
-    (fewer s c.args.at e.next t c.decreases (omega (arith, next-later ok, b.later)) b.inside, c.requires)
+pub read_at-requires-3 : goal.read_at-requires-3
+read_at-requires-3 t c =
+    let ok = command-passed _ _ _ _ _ (sym c.in_ok-c.ensures) in
+    let b = bounded _ _ _ _ c.in_ok-p-2.p c.requires c.in_ok-p-2.ensures in
+    (fewer _ _ _ t c.decreases (omega (arith, next-later ok, b.later)) b.inside, c.requires)
+
+pub returns-in_err-q : goal.returns-in_err-q
+returns-in_err-q t c =
+    let ok = command-passed _ _ _ _ _ (sym c.in_ok-c.ensures) in
+    handed _ _ c.from_residual-in_err-q.ensures.1
+    ∙ (ap (mapped (joined_extent c.in_ok-p-2.p)) c.in_err-q.ensures
+    ∙ (ap (λ x. and_then x (extent-after ok c.if-c-eq0.false c.if-c-eq1.false)) c.in_ok-p-2.ensures ∙ two-more ok c.if-c-eq0.false c.if-c-eq1.false))
 
 pub joined-requires : goal.joined-requires
-joined-requires t c =
-    let s = c.args.src.now in
-    let o = outside_shown c.args.o in
-    let k : Command = record { code = c.in-Is.code; first = c.in-Is.first; second = c.in-Is.second; patterns = c.in-Is.patterns; next = c.in-Is.next } in
-    let ok : Passed s c.args.at c.args.before o k = command-passed s c.args.at c.args.before o k (sym c.command_from-c.ensures ∙ ap command_shown c.in-Is.is) in
-    let e = c.in-Read.e in
-    let first : passed e ≡ extent_at s k.next (c.args.before + 1) o = sym (ap reading_shown c.in-Read.is) ∙ c.read_at-p-2.ensures in
-    (few s k.next (c.args.before + 1) o (Read e) c.requires first, few s _ _ o c.read_at-q.result c.requires c.read_at-q.ensures)
+joined-requires t c = (few _ _ _ _ c.in_ok-p-2.p c.requires c.in_ok-p-2.ensures, few _ _ _ _ c.in_ok-q.q c.requires c.in_ok-q.ensures)
 
 pub returns : goal.returns
 returns t c =
-    let s = c.args.src.now in
-    let o = outside_shown c.args.o in
-    let k : Command = record { code = c.in-Is.code; first = c.in-Is.first; second = c.in-Is.second; patterns = c.in-Is.patterns; next = c.in-Is.next } in
-    let ok : Passed s c.args.at c.args.before o k = command-passed s c.args.at c.args.before o k (sym c.command_from-c.ensures ∙ ap command_shown c.in-Is.is) in
-    let e = c.in-Read.e in
-    let first : passed e ≡ extent_at s k.next (c.args.before + 1) o = sym (ap reading_shown c.in-Read.is) ∙ c.read_at-p-2.ensures in
-    c.joined.ensures ∙ (ap (joined_extent (passed e)) c.read_at-q.ensures ∙ two-more ok c.if-patterns-eq0.false c.if-patterns-eq1.false e first)
+    let ok = command-passed _ _ _ _ _ (sym c.in_ok-c.ensures) in
+    ap passed c.joined.ensures
+    ∙ (ap (mapped (joined_extent c.in_ok-p-2.p)) c.in_ok-q.ensures
+    ∙ (ap (λ x. and_then x (extent-after ok c.if-c-eq0.false c.if-c-eq1.false)) c.in_ok-p-2.ensures ∙ two-more ok c.if-c-eq0.false c.if-c-eq1.false))

@@ -1,53 +1,36 @@
--- `pattern::read_given`: what `read_at` promises at the first byte, and questions 14 and 25.
-use Rattle.std.proofs.Common.{◌≡◌, sym, ap, ◌∙◌, arith}
-use Rattle.meaning.specs.Outcome.{refusal, passed}
-use Rattle.meaning.specs.Pattern.{outermost}
-use Rattle.pattern.specs.Reading.{reading_shown, number_of, extent_at}
-use Rattle.pattern.proofs.Extents.{Bounded, bounded, reply-refused, reply-more, reply-many, reply-pattern}
+-- `pattern::read_given`: what `read_at` promises at the first byte, and questions 14 and 25 (`told-read`).
+use Rattle.std.proofs.Common.{length, ap, ◌∙◌, arith, eq-eqb, ne_eqb, le-leb}
+use Rattle.std.proofs.lemmas.Bool.{lt-leb}
+use Rattle.refusals.specs.Refusal.{reply_mapped}
+use Rattle.refusals.proofs.Handed.{reply-handed}
+use Rattle.pattern.specs.Reading.{extent_at}
+use Rattle.pattern.specs.Promise.{counts_shown}
+use Rattle.pattern.proofs.Extents.{bounded, told-read}
 use Rattle.pattern.proofs.read_given.Goals as goal
 
-pub returns-in_default-clause-reply : goal.returns-in_default-clause-reply
-returns-in_default-clause-reply c =
-    let s = c.args.pattern.now in
-    let o = outermost c.args.given in
-    let read : reading_shown c.read_at-whole.result ≡ extent_at s 0 0 o = c.read_at-whole.ensures ∙ ap (extent_at s 0 0) c.outermost.ensures in
-    let told = c.in_default.is in
-    let number = c.reading_number.ensures ∙ ap (λ x. number_of (reading_shown x)) told in
-    ap (λ x. refusal x 0) number ∙ reply-refused s c.args.given c.in_default.field-0 (sym (ap reading_shown told) ∙ read)
+pub returns-in_err-e-clause-reply : goal.returns-in_err-e-clause-reply
+returns-in_err-e-clause-reply c =
+    ap (reply_mapped counts_shown) (reply-handed _ _ c.from_residual.ensures.1) ∙ told-read c.args.pattern.now c.args.given _ c.in_err-e.ensures c.outermost.ensures
 
 pub returns-then-e-pattern-clause-reply : goal.returns-then-e-pattern-clause-reply
 returns-then-e-pattern-clause-reply c =
     let s = c.args.pattern.now in
-    let o = outermost c.args.given in
-    let read : reading_shown c.read_at-whole.result ≡ extent_at s 0 0 o = c.read_at-whole.ensures ∙ ap (extent_at s 0 0) c.outermost.ensures in
-    let e = c.in-Read.e in
-    let passes : passed e ≡ extent_at s 0 0 o = sym (ap reading_shown c.in-Read.is) ∙ read in
-    reply-more s c.args.given e passes c.if-e-pattern.true
+    rw (ne_eqb c.in_ok-e.e.next (length s) c.if-e-pattern.true) at (told-read s c.args.given _ c.in_ok-e.ensures c.outermost.ensures)
 
 pub returns-then-e-gt63-clause-reply : goal.returns-then-e-gt63-clause-reply
 returns-then-e-gt63-clause-reply c =
     let s = c.args.pattern.now in
-    let o = outermost c.args.given in
-    let read : reading_shown c.read_at-whole.result ≡ extent_at s 0 0 o = c.read_at-whole.ensures ∙ ap (extent_at s 0 0) c.outermost.ensures in
-    let e = c.in-Read.e in
-    let passes : passed e ≡ extent_at s 0 0 o = sym (ap reading_shown c.in-Read.is) ∙ read in
-    reply-many s c.args.given e passes c.if-e-pattern.false c.if-e-gt63.true
+    let e = c.in_ok-e.e in
+    rw (eq-eqb e.next (length s) c.if-e-pattern.false, lt-leb e.unfolded 63 c.if-e-gt63.true) at (told-read s c.args.given _ c.in_ok-e.ensures c.outermost.ensures)
 
 pub returns-clause-reply : goal.returns-clause-reply
 returns-clause-reply c =
     let s = c.args.pattern.now in
-    let o = outermost c.args.given in
-    let read : reading_shown c.read_at-whole.result ≡ extent_at s 0 0 o = c.read_at-whole.ensures ∙ ap (extent_at s 0 0) c.outermost.ensures in
-    let e = c.in-Read.e in
-    let passes : passed e ≡ extent_at s 0 0 o = sym (ap reading_shown c.in-Read.is) ∙ read in
-    reply-pattern s c.args.given e passes c.if-e-pattern.false c.if-e-gt63.false
+    let e = c.in_ok-e.e in
+    rw (eq-eqb e.next (length s) c.if-e-pattern.false, le-leb e.unfolded 63 c.if-e-gt63.false) at (told-read s c.args.given _ c.in_ok-e.ensures c.outermost.ensures)
 
 pub returns-clause-small : goal.returns-clause-small
 returns-clause-small c =
     let s = c.args.pattern.now in
-    let o = outermost c.args.given in
-    let read : reading_shown c.read_at-whole.result ≡ extent_at s 0 0 o = c.read_at-whole.ensures ∙ ap (extent_at s 0 0) c.outermost.ensures in
-    let e = c.in-Read.e in
-    let passes : passed e ≡ extent_at s 0 0 o = sym (ap reading_shown c.in-Read.is) ∙ read in
-    let b : Bounded s 0 0 o e = bounded s 0 0 o e (omega arith) passes in
+    let b = bounded s 0 0 _ c.in_ok-e.e (omega arith) (c.in_ok-e.ensures ∙ ap (extent_at s 0 0) c.outermost.ensures) in
     (omega (arith, b.few), c.if-e-gt63.false, omega (arith, b.shallow))

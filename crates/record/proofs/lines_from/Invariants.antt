@@ -2,13 +2,13 @@
 -- there was to count at the start. The measure is the bytes left.
 use Rattle.std.proofs.Common.{◌≡◌, ◌+◌, ◌*◌, ◌-◌, ◌≤◌, length, drop}
 use Rattle.meaning.specs.Record.{lines_from}
-use Rattle.record.specs.Reading.{counted_with}
+use Rattle.record.proofs.Loop.{counted}
 use Rattle.record.proofs.lines_from.Given as goal
 
 abbrev pub invariant-loop-width : goal.invariant-loop-width
 invariant-loop-width l =
     (3 + 10 * l.lines ≤ l.at) × (l.at ≤ length l.day) × (length l.day ≤ 57348)
-    × (counted_with l.places l.lines (lines_from (length l.day - l.lines) l.places l.lines (drop l.at l.day)) ≡ counted_with l.places 0 (lines_from (length l.day) l.places 0 (drop 3 l.day)))
+    × (counted l.lines (lines_from (length l.day - l.lines) l.places l.lines (drop l.at l.day)) ≡ counted 0 (lines_from (length l.day) l.places 0 (drop 3 l.day)))
 
 abbrev pub decreases-loop-width : goal.decreases-loop-width
 decreases-loop-width l = length l.day - l.at

@@ -1,54 +1,39 @@
--- `request::ask_search` meets its contract: all questions up to 16 by what asking them ensures, 17 by its test; the plan is laid out in the
--- area, after the words that the search keeps of itself, with room for the lines by place. Assumes nothing.
-use mathlib.Core.Path.{refl, ap, ◌∙◌, subst}
-use Prim.Native.Nat.{◌+◌, ◌*◌, ◌≤◌}
-use native.Mathlib.Omega.{arith}
-use lib.ListN.{take}
-use Rattle.meaning.specs.Request.{need, search_need}
-use Rattle.record.specs.Whole.{lines_of}
+-- `request::ask_search`: all questions up to 16 by what asking them ensures, 17 by its test; the plan is laid out in the area, after the words
+-- that the search keeps of itself, with room for the lines by place.
+use Rattle.std.proofs.Common.{refl, arith}
+use Rattle.meaning.specs.Request.{search_need}
+use Rattle.refusals.proofs.Handed.{handed}
 use Rattle.windows.specs.Promise.{options_shown}
-use Rattle.request.specs.Asking.{ask_sized, CountsNumbers, counting_number}
+use Rattle.request.specs.Asking.{ask_sized}
 use Rattle.request.specs.Told.{search-sized}
-use Rattle.request.specs.declared.Request.TheVariants as Request
-use Rattle.request.proofs.Asking.{counts-refused, Sized, counts-passed, room-refused, room-short, room-all, few-boats, counts-fit, counts-planned, counts-room}
+use Rattle.request.proofs.Asking.{counts-refused, counts-passed, room-refused, room-short, room-all, few-boats, counts-fit, counts-planned, counts-room}
 use Rattle.request.proofs.ask_search.Goals as goal
 
-pub returns-in_default : goal.returns-in_default
-returns-in_default c =
+pub returns-in_err-counts-clause-answer : goal.returns-in_err-counts-clause-answer
+returns-in_err-counts-clause-answer c =
     let a = c.args in
     let o = ask_sized a.day.now a.pattern.now a.from a.to (options_shown a.options) in
-    let e = counts-refused o _ _ c.ask_counts-counting.ensures.counts c.in_default.is in
-    rw (search-sized a.day.now a.pattern.now a.from a.to (options_shown a.options) a.area, room-refused o search_need a.area _ e) (record { answer = ap Request.Refused (c.number.ensures ∙ ap counting_number c.in_default.is); numbered = tt })
+    let e = counts-refused o _ c.in_err-counts.ensures.counts in
+    rw (search-sized a.day.now a.pattern.now a.from a.to (options_shown a.options) a.area, room-refused o search_need a.area _ e) (handed _ _ c.from_residual.ensures.1)
 
-pub search_words_for-requires : goal.search_words_for-requires
-search_words_for-requires c =
-    let passes : let a = (c).args in Sized (ask_sized a.day.now a.pattern.now a.from a.to (options_shown a.options)) (c.in-Counted.counts) = let a = (c).args in
-    counts-passed (ask_sized a.day.now a.pattern.now a.from a.to (options_shown a.options)) _ _ c.ask_counts-counting.ensures.counts c.in-Counted.is in
-    let s = passes.counts in (s.small, s.few-lines)
-
-pub returns-then-area-search_words_for : goal.returns-then-area-search_words_for
-returns-then-area-search_words_for c =
-    let passes : let a = (c).args in Sized (ask_sized a.day.now a.pattern.now a.from a.to (options_shown a.options)) (c.in-Counted.counts) = let a = (c).args in
-    counts-passed (ask_sized a.day.now a.pattern.now a.from a.to (options_shown a.options)) _ _ c.ask_counts-counting.ensures.counts c.in-Counted.is in
-    let a = (c).args in
-    let s = passes in
+pub returns-then-area-search_words_for-clause-answer : goal.returns-then-area-search_words_for-clause-answer
+returns-then-area-search_words_for-clause-answer c =
+    let a = c.args in
     let o = ask_sized a.day.now a.pattern.now a.from a.to (options_shown a.options) in
-    rw (search-sized a.day.now a.pattern.now a.from a.to (options_shown a.options) a.area, room-short o search_need a.area s.asked s.is (omega (arith, s.counts.size_is, s.counts.lines_are, c.search_words_for.ensures, c.if-area-search_words_for.true))) (record { answer = refl; numbered = tt })
+    let s = counts-passed o c.in_ok-counts.counts c.in_ok-counts.ensures.counts in
+    rw (search-sized a.day.now a.pattern.now a.from a.to (options_shown a.options) a.area, room-short o search_need a.area s.asked s.is (omega (arith, s.counts.size_is, s.counts.lines_are))) refl
 
-pub plan_at-plan-requires : goal.plan_at-plan-requires
-plan_at-plan-requires c =
-    let passes : let a = (c).args in Sized (ask_sized a.day.now a.pattern.now a.from a.to (options_shown a.options)) (c.in-Counted.counts) = let a = (c).args in
-    counts-passed (ask_sized a.day.now a.pattern.now a.from a.to (options_shown a.options)) _ _ c.ask_counts-counting.ensures.counts c.in-Counted.is in
-    let room : let n = c.in-Counted.counts in need n.size + 3 * n.lines ≤ ((c).args.area) = omega (arith, c.search_words_for.ensures, c.if-area-search_words_for.false) in
-    let s = passes.counts in
-    counts-fit s _ _ (omega arith) (omega (arith, room, (few-boats s).1))
+pub plan_at-requires : goal.plan_at-requires
+plan_at-requires c =
+    let a = c.args in
+    let s = (counts-passed (ask_sized a.day.now a.pattern.now a.from a.to (options_shown a.options)) c.in_ok-counts.counts c.in_ok-counts.ensures.counts).counts in
+    counts-fit s _ _ (omega arith) (omega (arith, (few-boats s).1))
 
-pub returns : goal.returns
-returns c =
-    let passes : let a = (c).args in Sized (ask_sized a.day.now a.pattern.now a.from a.to (options_shown a.options)) (c.in-Counted.counts) = let a = (c).args in
-    counts-passed (ask_sized a.day.now a.pattern.now a.from a.to (options_shown a.options)) _ _ c.ask_counts-counting.ensures.counts c.in-Counted.is in
-    let room : let n = c.in-Counted.counts in need n.size + 3 * n.lines ≤ ((c).args.area) = omega (arith, c.search_words_for.ensures, c.if-area-search_words_for.false) in
-    let a = (c).args in
-    let s = passes in
+pub returns-clause-answer : goal.returns-clause-answer
+returns-clause-answer c =
+    let a = c.args in
     let o = ask_sized a.day.now a.pattern.now a.from a.to (options_shown a.options) in
-    rw (search-sized a.day.now a.pattern.now a.from a.to (options_shown a.options) a.area, room-all o search_need a.area s.asked s.is (omega (arith, s.counts.size_is, s.counts.lines_are, room))) (record { answer = (c.plan_at-plan.result, refl, counts-planned s.counts c.plan_at-plan.ensures.numbers, c.plan_at-plan.ensures.laid, c.plan_at-plan.ensures.numbers.5, counts-room s.counts c.plan_at-plan.ensures.numbers c.plan_at-plan.ensures.laid (omega arith) room); numbered = ap (λ n. take n c.ask_counts-counting.new.numbers) c.plan_at-plan.ensures.numbers.1 ∙ subst (CountsNumbers (lines_of a.day.now) c.ask_counts-counting.new.numbers) c.in-Counted.is c.ask_counts-counting.ensures.numbered })
+    let s = counts-passed o c.in_ok-counts.counts c.in_ok-counts.ensures.counts in
+    let plan = c.plan_at.ensures in
+    rw (search-sized a.day.now a.pattern.now a.from a.to (options_shown a.options) a.area, room-all o search_need a.area s.asked s.is (omega (arith, s.counts.size_is, s.counts.lines_are)))
+    (c.plan_at.result, refl, counts-planned s.counts plan.numbers, plan.laid, plan.numbers.5, counts-room s.counts plan.numbers plan.laid (omega arith) (omega arith))

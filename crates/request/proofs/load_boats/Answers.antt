@@ -1,5 +1,5 @@
 -- `request::load_boats`: each line's boat goes to its number if that is the next one, so after the last line all boats stand.
-use Rattle.std.proofs.Common.{◌≡◌, refl, sym, ap, ◌∙◌, subst, ◌∷◌, map, suc, ◌<◌, ◌≤◌, add-one, arith, length, get_or, take, length-set, take-suc-set, get_or-take}
+use Rattle.std.proofs.Common.{◌≡◌, refl, sym, ap, ◌∙◌, subst, ◌∷◌, map, suc, add-one, arith, length, get_or, take, length-set, take-suc-set, get_or-take}
 use lib.Seq.{take-length}
 use borrow.Table.Elements.{take-le}
 use Rattle.meaning.specs.Record.{Line, boats, boats_after}
@@ -16,34 +16,30 @@ pub loop-i-init : goal.loop-i-init
 unfolding boats_after
 loop-i-init c =
     let part = c.args.part.now in
-    (omega arith, record { next-is = refl; noted = take-suc-set part 0 0 (omega (arith, c.requires.part_len)); room = length-set part 0 0 ∙ c.requires.part_len }, sym (start_first (lines_of c.args.day.now)))
+    (record { next-is = refl; noted = take-suc-set part 0 0 (omega (arith, c.requires.part_len)); room = length-set part 0 0 ∙ c.requires.part_len }, sym (start_first (lines_of c.args.day.now)))
 
 pub offset_bounds-numbers-i : goal.offset_bounds-numbers-i
-offset_bounds-numbers-i c = omega (arith, c.loop-i-test.true, c.requires.lines_value.0, lines-short c.args.day.now)
+offset_bounds-numbers-i c = omega (arith, lines-short c.args.day.now)
 
 pub bounds-numbers-i : goal.bounds-numbers-i
-bounds-numbers-i c =
-    let long : c.args.lines ≤ length c.args.numbers.now = omega (arith, take-le c.args.lines c.args.numbers.now, ap length c.requires.lines_value.1, codes-length (lines_of c.args.day.now), c.requires.lines_value.0) in
-    omega (arith, long, c.loop-i-test.true)
+bounds-numbers-i c = omega (arith, take-le c.args.lines c.args.numbers.now, ap length c.requires.lines_value.1, codes-length (lines_of c.args.day.now))
 
 pub load_boat-next-requires : goal.load_boat-next-requires
 load_boat-next-requires c =
-    let inside : c.loop-i.i < length (lines_of c.args.day.now) = omega (arith, c.loop-i-test.true, c.requires.lines_value.0) in
-    let numbered : get_or c.args.numbers.now c.loop-i.i 0 ≡ get_or (codes (lines_of c.args.day.now)) c.loop-i.i 0 = sym (get_or-take c.args.lines c.args.numbers.now c.loop-i.i 0 c.loop-i-test.true) ∙ ap (λ ns. get_or ns c.loop-i.i 0) c.requires.lines_value.1 in
     let l = c.loop-i in
-    number-low (lines_of c.args.day.now) l.i l.next l.part inside l.invariant.1 _ numbered
+    let lines = lines_of c.args.day.now in
+    let numbered : get_or c.args.numbers.now l.i 0 ≡ get_or (codes lines) l.i 0 = sym (get_or-take c.args.lines c.args.numbers.now l.i 0 c.loop-i-test.true) ∙ ap (λ ns. get_or ns l.i 0) c.requires.lines_value.1 in
+    number-low lines l.i l.next l.part (omega arith) l.invariant.0 _ numbered
 
 pub loop-i-preserved : goal.loop-i-preserved
 loop-i-preserved c =
-    let inside : c.loop-i.i < length (lines_of c.args.day.now) = omega (arith, c.loop-i-test.true, c.requires.lines_value.0) in
-    let numbered : get_or c.args.numbers.now c.loop-i.i 0 ≡ get_or (codes (lines_of c.args.day.now)) c.loop-i.i 0 = sym (get_or-take c.args.lines c.args.numbers.now c.loop-i.i 0 c.loop-i-test.true) ∙ ap (λ ns. get_or ns c.loop-i.i 0) c.requires.lines_value.1 in
     let l = c.loop-i in
     let lines = lines_of c.args.day.now in
+    let numbered : get_or c.args.numbers.now l.i 0 ≡ get_or (codes lines) l.i 0 = sym (get_or-take c.args.lines c.args.numbers.now l.i 0 c.loop-i-test.true) ∙ ap (λ ns. get_or ns l.i 0) c.requires.lines_value.1 in
     let met = c.pass_line-passed.ensures in
     let boat = c.boat_of in
     let is = subst (λ (x : Line). BoatIs x.boat boat.result) met.line.0 boat.ensures in (
-      omega (arith, c.loop-i-test.true),
-      noted-next lines l.i l.next l.part inside l.invariant.1 _ numbered boat.result is _ _ c.load_boat-next.ensures.0 c.load_boat-next.ensures.1,
+      noted-next lines l.i l.next l.part (omega arith) l.invariant.0 _ numbered boat.result is _ _ c.load_boat-next.ensures.0 c.load_boat-next.ensures.1,
       met.next ∙ ap (start_of lines) (sym (add-one l.i)),
     )
 
@@ -51,8 +47,8 @@ pub returns : goal.returns
 unfolding boat_table
 returns c =
     let lines = lines_of c.args.day.now in
-    let inv = c.loop-i.invariant in
-    let last : c.loop-i.i ≡ length lines = omega (arith, inv.0, c.loop-i-test.false, c.requires.lines_value.0) in
+    let inv = c.loop-i.invariant.0 in
+    let last : c.loop-i.i ≡ length lines = omega arith in
     let all : take c.loop-i.i lines ≡ lines = ap (λ n. take n lines) last ∙ take-length lines in
-    let whole : c.loop-i.next ≡ length c.loop-i.part = inv.1.next-is ∙ (ap (λ ls. suc (length (boats ls))) all ∙ sym inv.1.room) in
-    sym (ap (λ n. take n c.loop-i.part) whole ∙ take-length c.loop-i.part) ∙ (inv.1.noted ∙ ap (λ ls. 0 ∷ map as_number (boats ls)) all)
+    let whole : c.loop-i.next ≡ length c.loop-i.part = inv.next-is ∙ (ap (λ ls. suc (length (boats ls))) all ∙ sym inv.room) in
+    sym (ap (λ n. take n c.loop-i.part) whole ∙ take-length c.loop-i.part) ∙ (inv.noted ∙ ap (λ ls. 0 ∷ map as_number (boats ls)) all)

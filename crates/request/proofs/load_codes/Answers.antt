@@ -1,5 +1,5 @@
 -- `request::load_codes`: each turn writes the next number after those that stand.
-use Rattle.std.proofs.Common.{◌≡◌, sym, ◌∙◌, ◌<◌, arith, length, get_or, take, length-set, length-take-le, get_or-take}
+use Rattle.std.proofs.Common.{sym, ◌∙◌, arith, length, take, length-set, length-take-le, get_or-take}
 use Rattle.lists.specs.Filled.{fill-next}
 use Rattle.request.proofs.load_codes.Goals as goal
 
@@ -8,10 +8,9 @@ loop-i-preserved c =
     let a = c.args in
     let inv = c.loop-i.invariant in
     let i = c.loop-i.i in
-    let here : i < length a.part.now = omega (arith, inv.1, c.loop-i-test.true) in
-    let word : c.number_word.result ≡ get_or (take (length a.part.now) a.numbers.now) i 0 = c.number_word.ensures ∙ sym (get_or-take (length a.part.now) a.numbers.now i 0 here) in (
-      omega (arith, here),
-      simp length-set inv.1,
-      rw (inv.2, word) (fill-next (take (length a.part.now) a.numbers.now) _ i (omega (arith, here, length-take-le (length a.part.now) a.numbers.now inv.3)) here),
-      inv.3,
+    let m = length a.part.now in
+    let word = c.from.ensures ∙ sym (get_or-take m a.numbers.now i 0 (omega arith)) in (
+      simp length-set inv.0,
+      rw (inv.1, word) (fill-next (take m a.numbers.now) _ i (omega (arith, length-take-le m a.numbers.now inv.2)) (omega arith)),
+      inv.2,
     )

@@ -11,15 +11,14 @@ use Rattle.request.specs.Met.{met-long, met-word}
 use Rattle.request.proofs.load_lines.Goals as goal
 
 pub loop-i-init : goal.loop-i-init
-loop-i-init c = (omega arith, refl, refl, c.requires, sym (start_first (lines_of c.args.day.now)))
+loop-i-init c = (refl, refl, c.requires, sym (start_first (lines_of c.args.day.now)))
 
 -- a line of the record has a kind of the fifteen
 pub word_met-requires : goal.word_met-requires
 word_met-requires c =
-    let s = c.args.day.now in
     let inv = c.loop-i.invariant in
     let kind = ap (λ (l : Line). l.kind) c.pass_line-met.ensures.line.0 in
-    let (low, high) = kind-read s c.loop-i.i (omega (arith, inv.3, inv.1, c.loop-i-test.true)) in
+    let (low, high) = kind-read c.args.day.now c.loop-i.i (omega arith) in
     (omega (arith, kind, low), omega (arith, kind, high))
 
 pub loop-i-preserved : goal.loop-i-preserved
@@ -29,14 +28,13 @@ loop-i-preserved c =
     let w = (options_shown a.options).windows in
     let inv = c.loop-i.invariant in
     let met = c.pass_line-met.ensures in
-    let here : c.loop-i.i < length a.part.now = omega (arith, inv.1, c.loop-i-test.true) in
-    let less : c.loop-i.i < length lines = omega (arith, here, inv.3) in
-    let word : c.word_met.result ≡ get_or (map line_word (met_by w lines)) c.loop-i.i 0 = c.word_met.ensures ∙ (ap (word_met w) met.line.0 ∙ met-word w lines c.loop-i.i less) in (
-      omega (arith, here),
-      simp length-set inv.1,
-      rw (inv.2, word) (fill-next (map line_word (met_by w lines)) _ c.loop-i.i (omega (arith, less, length-map (met_by w lines) line_word, met-long w lines)) here),
-      inv.3,
-      met.next ∙ ap (start_of lines) (sym (add-one c.loop-i.i)),
+    let i = c.loop-i.i in
+    let less : i < length lines = omega arith in
+    let word : c.word_met.result ≡ get_or (map line_word (met_by w lines)) i 0 = c.word_met.ensures ∙ (ap (word_met w) met.line.0 ∙ met-word w lines i less) in (
+      simp length-set inv.0,
+      rw (inv.1, word) (fill-next (map line_word (met_by w lines)) _ i (omega (arith, length-map (met_by w lines) line_word, met-long w lines)) (omega arith)),
+      inv.2,
+      met.next ∙ ap (start_of lines) (sym (add-one i)),
     )
 
 pub returns : goal.returns
@@ -45,4 +43,4 @@ returns c =
     let lines = lines_of a.day.now in
     let w = (options_shown a.options).windows in
     let inv = c.loop-i.invariant in
-    inv.2 ∙ fill-all (map line_word (met_by w lines)) _ c.loop-i.i (length-map (met_by w lines) line_word ∙ (met-long w lines ∙ sym inv.3)) (omega (arith, inv.0, inv.1, c.loop-i-test.false))
+    inv.1 ∙ fill-all (map line_word (met_by w lines)) _ c.loop-i.i (length-map (met_by w lines) line_word ∙ (met-long w lines ∙ sym inv.2)) (omega arith)

@@ -1,11 +1,7 @@
--- `request::size_of` meets its contract. The invariant: the size with k of the keeps counted, at most the limit. Assumes nothing.
-use mathlib.Core.Path.{◌≡◌}
-use Prim.Native.Nat.{suc, ◌*◌, ◌-◌, ◌^◌, ◌≤◌}
+-- `request::size_of`: the size with so many of the keeps counted is at most the limit.
+use Rattle.std.proofs.Common.{◌≡◌, suc, ◌*◌, ◌^◌, ◌≤◌}
 use Rattle.request.specs.Layout.{largest}
 use Rattle.request.proofs.size_of.Given as goal
 
-abbrev pub invariant-loop-k : goal.invariant-loop-k
-invariant-loop-k l = (l.k ≤ l.keeps) × (l.size ≡ l.places * suc l.unfolded * l.radix ^ l.k) × (l.size ≤ largest)
-
-abbrev pub decreases-loop-k : goal.decreases-loop-k
-decreases-loop-k l = l.keeps - l.k
+abbrev pub invariant-loop : goal.invariant-loop
+invariant-loop l = (l.size ≡ l.places * suc l.unfolded * l.radix ^ l.counter) × (l.size ≤ largest)

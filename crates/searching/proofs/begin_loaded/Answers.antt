@@ -3,61 +3,17 @@
 use mathlib.Core.Path.{◌∙◌, ap, subst, sym}
 use Prim.Native.Nat.{◌<◌}
 use native.Mathlib.Omega.{arith}
-use lib.ListN.{length}
-use Rattle.area.proofs.Anyhow.{room_of}
 use Rattle.states.proofs.Bounds.{stacks-pos}
 use Rattle.searching.specs.Promise.{held_in}
 use Rattle.searching.specs.Words.{stretched-held}
 use Rattle.searching.specs.Searching.{ReadyToBegin}
-use Rattle.searching.proofs.Beginning.{begin-ready, begin-small, begun-standing, front-room, front_long, begun-long, begun-room, begun-at}
+use Rattle.searching.proofs.Beginning.{begin-ready, begun-long, begun-room, begun-at}
 use Rattle.searching.proofs.begin_loaded.Goals as goal
 
-pub compile-begin-requires : goal.compile-begin-requires
-compile-begin-requires c =
-    let ready : ReadyToBegin c.args.pattern.now c.args.plan c.args.from c.args.to c.args.work.now = c.requires in
-    let r = ready in record { tree = r.asked.pattern; is = r.posed.reads }
-
-pub state_at-goal-requires : goal.state_at-goal-requires
-state_at-goal-requires c =
-    let ready : ReadyToBegin c.args.pattern.now c.args.plan c.args.from c.args.to c.args.work.now = c.requires in
-    let posed = ready.posed in
-    let laid = posed.laid in
-    record { size_value = (laid.size_is, laid.small, laid.few-positions); place_lt_places = (subst (c.args.to <◌) (sym posed.planned.places-are) posed.to_low, omega arith, stacks-pos laid) }
-
-pub push_if_new-found-requires : goal.push_if_new-found-requires
-push_if_new-found-requires c =
-    let ready : ReadyToBegin c.args.pattern.now c.args.plan c.args.from c.args.to c.args.work.now = c.requires in
-    record { room = room_of (begin-ready ready); s_lt_size = (c.state_at-goal.ensures.1, omega arith, omega arith) }
-
-pub overflow_cast-at : goal.overflow_cast-at
-overflow_cast-at c =
-    let ready : ReadyToBegin c.args.pattern.now c.args.plan c.args.from c.args.to c.args.work.now = c.requires in
-    omega (arith, c.push_if_new-found.ensures.ready.fits, ready.posed.laid.small)
-
-pub settle-begun-requires : goal.settle-begun-requires
-settle-begun-requires c =
-    let ready : ReadyToBegin c.args.pattern.now c.args.plan c.args.from c.args.to c.args.work.now = c.requires in
-    begun-standing ready _ (c.push_if_new-found.ensures.sound (begin-ready ready).good)
-
-pub put_front-requires : goal.put_front-requires
-put_front-requires c =
-    let ready : ReadyToBegin c.args.pattern.now c.args.plan c.args.from c.args.to c.args.work.now = c.requires in
-    let step = c.push_if_new-found.ensures.sound (begin-ready ready).good in
-    record { tables_at_in_bounds = (front-room ready _ step _ c.settle-begun.ensures, ready.short); radix_bound = begin-small ready }
-
-pub put_back-requires : goal.put_back-requires
-put_back-requires c =
-    let ready : ReadyToBegin c.args.pattern.now c.args.plan c.args.from c.args.to c.args.work.now = c.requires in
-    let step = c.push_if_new-found.ensures.sound (begin-ready ready).good in
-    let room = front-room ready _ step _ c.settle-begun.ensures in
-    omega (
-      arith,
-      room,
-      ap length c.put_front.ensures,
-      front_long ready _ step _ c.settle-begun.ensures,
-      step.long,
-      c.settle-begun.ensures.long,
-    )
+pub state_at-goal-requires-clause-place_lt_places : goal.state_at-goal-requires-clause-place_lt_places
+state_at-goal-requires-clause-place_lt_places c =
+    let posed = c.requires.posed in
+    (subst (c.args.to <◌) (sym posed.planned.places-are) posed.to_low, omega arith, stacks-pos posed.laid)
 
 pub returns : goal.returns
 returns c q posed =

@@ -1,12 +1,8 @@
 -- `states::lowest` meets its contract: the zeros below the lowest position are counted. Assumes nothing.
 use Prim.Native.Nat.{◌<◌}
 use native.Mathlib.Omega.{arith}
-use lib.Count.{trailing_le}
 use Rattle.states.proofs.Masks.{trailing-lowest}
 use Rattle.states.proofs.lowest.Goals as goal
-
-pub overflow_cast-result : goal.overflow_cast-result
-overflow_cast-result c = omega (arith, trailing_le 64 c.args.mask)
 
 pub returns : goal.returns
 returns c =

@@ -3,11 +3,11 @@ use mathlib.Core.Path.{sym, ap, ◌∙◌}
 use Rattle.boats.specs.Table.{told_by}
 use Rattle.search.specs.Loaded.{boat_at}
 use Rattle.states.specs.Spots.{front}
-use Rattle.states.proofs.Comparing.{okay-any, okay-told}
+use Rattle.states.proofs.Comparing.{same_rule, okay-any, okay-told}
 use Rattle.states.proofs.passes.Goals as goal
 
-pub returns-in-Always : goal.returns-in-Always
-returns-in-Always c = sym (okay-any _ _ _ _ _ c.in-Always.is)
+pub returns-then-eq : goal.returns-then-eq
+returns-then-eq c = sym (okay-any _ _ _ _ _ (same_rule _ _ _ c.eq.ensures c.if-eq.true))
 
 pub returns : goal.returns
 returns c =

@@ -10,24 +10,21 @@ use Rattle.states.proofs.Bounds.{product_small}
 use Rattle.states.proofs.put_on_at.Goals as goal
 
 weight-low : (c : goal.After-power) → c.power.result ≤ largest
-weight-low c = rw (c.power.ensures, c.wide.ensures.0, c.row_at-row.ensures) c.requires.2
+weight-low c = rw (c.power.ensures, c.from.ensures, c.row_at-row.ensures) c.requires.2
 
 times-small : (c : goal.After-power) → c.args.code * c.power.result ≤ 4503599626321920
 times-small c = product_small c.args.code c.power.result (omega arith) (weight-low c)
 
 pub power-requires : goal.power-requires
-power-requires c = let a = c in rw (c.wide.ensures.0, c.row_at-row.ensures) (a.requires.1, depth-few _ _, a.requires.2)
+power-requires c = let a = c in rw (c.from.ensures, c.row_at-row.ensures) (a.requires.1, depth-few _ _, a.requires.2)
 
 pub overflow_mul-result : goal.overflow_mul-result
 overflow_mul-result c = omega (arith, times-small c)
 
-pub overflow_add-result : goal.overflow_add-result
-overflow_add-result c = omega (arith, times-small c, c.requires.3)
-
 pub returns-then-row : goal.returns-then-row
 unfolding on spot_in
 returns-then-row c =
-    rw (ap (λ (x : Row). x.push) (sym c.row_at-row.ensures) ∙ c.if-row.true, c.power.ensures, c.wide.ensures.0, c.row_at-row.ensures)
+    rw (ap (λ (x : Row). x.push) (sym c.row_at-row.ensures) ∙ c.if-row.true, c.power.ensures, c.from.ensures, c.row_at-row.ensures)
 
 pub returns : goal.returns
 unfolding on spot_in

@@ -1,21 +1,18 @@
 -- `states::stands_at` meets its contract: the states at a place are one block of numbers. Assumes nothing.
-use mathlib.Core.Path.{refl}
+use mathlib.Core.Path.{refl, ◌∙◌}
 use Prim.Native.Nat.{◌+◌, ◌*◌, ◌<◌}
 use native.Mathlib.Omega.{arith}
 use native.Mathlib.Nat.{le-mul_of_pos_right}
-use Rattle.states.proofs.Bounds.{product_small}
+use borrow.Author.Tests.{lt-leb}
 use Rattle.states.proofs.Standing.{stands-before, stands-within}
 use Rattle.states.proofs.stands_at.Goals as goal
+use Rattle.states.proofs.stands_at.Goals.{Start}
 
-pub overflow_mul-low : goal.overflow_mul-low
-overflow_mul-low c = let a = c in omega (arith, product_small a.args.q ((a.args.plan.done + 1) * a.args.plan.stacks) (omega arith) a.requires.1)
+some_block : (c : Start) → 0 < (c.args.plan.done + 1) * c.args.plan.stacks
+some_block c = omega (arith, c.requires.0, le-mul_of_pos_right (c.args.plan.done + 1) c.requires.0)
 
-pub returns-then-s-low : goal.returns-then-s-low
-returns-then-s-low c =
-    let some_block : 0 < (c.args.plan.done + 1) * c.args.plan.stacks = omega (arith, c.requires.0, le-mul_of_pos_right (c.args.plan.done + 1) c.requires.0) in
-    stands-before c.args.plan.stacks (c.args.plan.done + 1) _ _ _ refl some_block c.if-s-low.true
+pub returns-then-low-s : goal.returns-then-low-s
+returns-then-low-s c = stands-within c.args.plan.stacks (c.args.plan.done + 1) _ _ _ refl (some_block (goal.at.returns-then-low-s c).Start) c.if-low-s.true
 
-pub returns : goal.returns
-returns c =
-    let some_block : 0 < (c.args.plan.done + 1) * c.args.plan.stacks = omega (arith, c.requires.0, le-mul_of_pos_right (c.args.plan.done + 1) c.requires.0) in
-    stands-within c.args.plan.stacks (c.args.plan.done + 1) _ _ _ refl some_block (omega (arith, c.if-s-low.false))
+pub returns-else-low-s : goal.returns-else-low-s
+returns-else-low-s c = lt-leb _ _ c.if-low-s.false ∙ stands-before c.args.plan.stacks (c.args.plan.done + 1) _ _ _ refl (some_block (goal.at.returns-else-low-s c).Start) c.if-low-s.false

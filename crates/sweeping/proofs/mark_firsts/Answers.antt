@@ -5,18 +5,18 @@ use Rattle.sweeping.proofs.Led.{firsts-marked}
 use Rattle.sweeping.proofs.mark_firsts.Goals as goal
 
 pub loop-k-init : goal.loop-k-init
-loop-k-init c = (omega arith, amid-start _ _)
+loop-k-init c = amid-start _ _
 
 pub mark_first-led-requires : goal.mark_first-led-requires
 mark_first-led-requires c =
-    let only = c.loop-k.invariant.1.only in
+    let only = c.loop-k.invariant.only in
     record { laid = (only-laid only c.requires.laid.0, only-room only c.requires.laid.1); from_lt_places = (c.requires.from_lt_places, omega arith) }
 
 pub loop-k-preserved : goal.loop-k-preserved
 loop-k-preserved c =
-    let u = c.loop-k.invariant.1 in
+    let u = c.loop-k.invariant in
     let step = rw (only-dist u.only c.requires.laid.0) at c.mark_first-led.ensures in
-    (omega arith, amid-turn _ _ _ u (omega arith) step)
+    amid-turn _ _ _ u (omega arith) step
 
 pub returns : goal.returns
-returns c = firsts-marked (amid-over _ _ _ c.loop-k.invariant.1 (omega arith)) (omega arith)
+returns c = firsts-marked (amid-over _ _ _ c.loop-k.invariant (omega arith)) (omega arith)

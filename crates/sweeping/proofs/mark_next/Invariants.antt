@@ -7,13 +7,10 @@ use Rattle.sweeping.specs.Sweeping.{mark_turn}
 use Rattle.sweeping.proofs.Marks.{Amid}
 use Rattle.sweeping.proofs.mark_next.Given as goal
 
-abbrev pub invariant-loop-rest : goal.invariant-loop-rest
-invariant-loop-rest l =
+abbrev pub invariant-loop-k : goal.invariant-loop-k
+invariant-loop-k l =
     let turn = next_turn l.plan l.program l.mask (mark_turn (distances l.plan l.initial.work) l.marking.want l.marking.with) l.to l.v in
     (j : ℕ)
     × (j ≤ l.plan.done + 1)
-    × From l.mask j l.rest
+    × From l.mask j l.k-iterator.0
     × Amid l.plan (turns turn 0 (l.plan.done + 1)) l.initial.led l.initial.work (turns turn j (l.plan.done + 1 - j)) l.led l.work
-
-abbrev pub decreases-loop-rest : goal.decreases-loop-rest
-decreases-loop-rest l = l.rest

@@ -6,7 +6,7 @@ use Rattle.sweeping.proofs.take_up.Goals as goal
 
 pub returns-then-word-at : goal.returns-then-word-at
 returns-then-word-at c =
-    let led = rw c.nearer.ensures at c.lead_on.ensures in
+    let led = rw c.saturating_sub.ensures at c.lead_on.ensures in
     let own = c.word.ensures ∙ mark_of c.args.plan c.args.work.now c.args.s c.requires.s_lt_size.0 in
     record { now-noted = led.now-noted ∙ sym (taken-front _ _ _ _ _ _ _ (omega (arith, own, c.if-word-at.true))); low = led.low; only = led.only }
 

@@ -1,5 +1,4 @@
 -- `thinned::thin_lines` meets its contract: the keys below k are done. Assumes nothing.
-use Prim.Native.Nat.{◌-◌, ◌≤◌}
 use Rattle.sorted.specs.Sorting.{Kept}
 use Rattle.thinned.specs.Thinning.{thin_end}
 use Rattle.thinned.specs.Marks.{Made}
@@ -8,7 +7,7 @@ use Rattle.thinned.proofs.thin_lines.Given as goal
 
 abbrev pub invariant-loop-k : goal.invariant-loop-k
 invariant-loop-k l =
-    (l.k ≤ l.all) × Kept l.table.at (thin_end l.table.sieve l.plan l.table.at) l.initial.work l.work × Made l.table.sieve l.plan l.plan.bykind l.table.at (boats_in l.plan l.work) l.k l.work
-
-abbrev pub decreases-loop-k : goal.decreases-loop-k
-decreases-loop-k l = l.all - l.k
+    record {
+      kept : Kept l.table.at (thin_end l.table.sieve l.plan l.table.at) l.fn.work l.work;
+      made : Made l.table.sieve l.plan l.plan.bykind l.table.at (boats_in l.plan l.work) l.k l.work;
+    }

@@ -20,8 +20,8 @@ step_of c =
     let plan = c.args.plan in
     let turn = spot_traced (c.args.program.now) plan (front plan c.args.work.now) c.target_of-target.result c.args.d c.args.t c.loop-c.c in
     elim c.if-follow_at-target-eq1.branch [
-      | then-follow_at-target-eq1 m ↦ subst₂ (λ u w. StepTraced plan turn c.loop-c.u c.loop-c.work u w) (sym m.u-is) (sym m.work-is) (rw c.loop-c.invariant.1.front at m.spot_traced-u.ensures)
-      | else-follow_at-target-eq1 m ↦ subst₂ (λ u w. StepTraced plan turn c.loop-c.u c.loop-c.work u w) (sym m.u-is) (sym m.work-is) (traced-none turn c.loop-c.invariant.1.ready (spot_passed (c.args.program.now) plan _ _ _ _ _ _ (λ e. m.if-follow_at-target-eq1.false (ap (λ (k : ℕ). bit_of k c.target_of-target.result.position) c.follow_at.ensures ∙ e))))
+      | then-follow_at-target-eq1 m ↦ subst₂ (λ u w. StepTraced plan turn c.loop-c.u c.loop-c.work u w) (sym m.u-is) (sym m.work-is) (rw c.loop-c.invariant.front at m.spot_traced-u.ensures)
+      | else-follow_at-target-eq1 m ↦ subst₂ (λ u w. StepTraced plan turn c.loop-c.u c.loop-c.work u w) (sym m.u-is) (sym m.work-is) (traced-none turn c.loop-c.invariant.ready (spot_passed (c.args.program.now) plan _ _ _ _ _ _ (λ e. m.if-follow_at-target-eq1.false (ap (λ (k : ℕ). bit_of k c.target_of-target.result.position) c.follow_at.ensures ∙ e))))
     ]
 
 pub target_of-target-requires : goal.target_of-target-requires
@@ -39,7 +39,7 @@ loop-c-init c =
     let g = front plan c.args.work.now in
     let x = reached_in plan c.args.tail c.args.work.now in
     let aim = ap (λ z. turns (spot_traced (c.args.program.now) plan g z c.args.d c.args.t) 0 plan.done x) c.target_of-target.ensures in
-    (omega arith, rw sub-zero (loop-start _ _ c.requires.room_back (aim ∙ sym (trace-is (c.args.program.now) plan g laid.stacks-is laid.few-positions c.args.d c.args.t x))))
+    rw sub-zero (loop-start _ _ c.requires.room_back (aim ∙ sym (trace-is (c.args.program.now) plan g laid.stacks-is laid.few-positions c.args.d c.args.t x)))
 
 pub overflow_shr-follow_at : goal.overflow_shr-follow_at
 overflow_shr-follow_at c =
@@ -50,10 +50,10 @@ pub spot_traced-u-requires : goal.spot_traced-u-requires
 spot_traced-u-requires c =
     let fit : Fit c.args.plan (c.args.program.now) c.args.work.now = c.requires.fit.0 in
     let (some, near, less) = c.requires.d_nonzero in
-    let follows = ap (λ (m : ℕ). bit_of m c.target_of-target.result.position) (sym c.follow_at.ensures) ∙ c.if-follow_at-target-eq1.true in record { room_back = c.loop-c.invariant.1.ready; fit = (fit_same c.loop-c.invariant.1.long c.loop-c.invariant.1.front fit, indexed-traced c.loop-c.invariant.1 c.requires.fit.1); aimed = (aimed fit c.args.t less _ c.target_of-target.ensures, less); d_nonzero = (some, omega (arith, near, c.loop-c.invariant.1.grows), c.loop-c-test.true, follows) }
+    let follows = ap (λ (m : ℕ). bit_of m c.target_of-target.result.position) (sym c.follow_at.ensures) ∙ c.if-follow_at-target-eq1.true in record { room_back = c.loop-c.invariant.ready; fit = (fit_same c.loop-c.invariant.long c.loop-c.invariant.front fit, indexed-traced c.loop-c.invariant c.requires.fit.1); aimed = (aimed fit c.args.t less _ c.target_of-target.ensures, less); d_nonzero = (some, omega (arith, near, c.loop-c.invariant.grows), c.loop-c-test.true, follows) }
 
 pub loop-c-preserved : goal.loop-c-preserved
-loop-c-preserved c = (omega (arith, c.loop-c-test.true), loop-turn _ _ _ c.loop-c.invariant.1 c.loop-c-test.true (step_of c))
+loop-c-preserved c = loop-turn _ _ _ c.loop-c.invariant c.loop-c-test.true (step_of c)
 
 pub returns : goal.returns
-returns c = loop-end _ _ _ c.loop-c.invariant.1 (omega arith)
+returns c = loop-end _ _ _ c.loop-c.invariant (omega arith)

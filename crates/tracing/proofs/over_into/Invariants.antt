@@ -13,6 +13,3 @@ abbrev pub invariant-loop-k : goal.invariant-loop-k
 invariant-loop-k l =
     ((l.initial.k ≤ l.k) × (l.k ≤ l.k-end) × Lined l.plan l.initial.k l.k-end l.initial.work)
     × UnderTraced l.plan (into_traced l.plan l.undo (front l.plan l.initial.work) l.place l.c l.parent) l.tail l.initial.work (turns (λ p. line_traced l.plan l.undo (front l.plan l.initial.work) l.place l.c l.parent (get_or l.initial.work p 0)) l.k (l.k-end - l.k)) l.t l.work
-
-abbrev pub decreases-loop-k : goal.decreases-loop-k
-decreases-loop-k l = l.k-end - l.k

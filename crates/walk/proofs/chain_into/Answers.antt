@@ -11,13 +11,6 @@ use Rattle.walk.specs.Leading.{Leading}
 use Rattle.walk.proofs.Places.{ordered-front, ordered-dist, ordered-leading, leading-under, first-together}
 use Rattle.walk.proofs.chain_into.Goals as goal
 
-pub order_lines-requires : goal.order_lines-requires
-order_lines-requires c = record { laid = c.requires.fit.laid; starts = c.requires.fit.starts }
-
--- the pair stands in the area
-pub clear_stretch-requires : goal.clear_stretch-requires
-clear_stretch-requires c = omega (arith, c.requires.fit.laid.room, c.requires.fit.laid.marks-at, c.order_lines.ensures.work_unchanged.1)
-
 pub over_next-tail-requires : goal.over_next-tail-requires
 over_next-tail-requires c =
     let f = c.requires.fit in
@@ -29,9 +22,6 @@ over_next-tail-requires c =
     let u = cleared-under p.marks p.size v room small in
     rw c.clear_stretch.ensures
     (record { ready_forth = u.ready; laid = subst (Laid p) (sym long ∙ sym u.long) f.laid; to_lt_places = (c.requires.from_lt_places.0, f.depths-low) })
-
-pub overflow_sub-nearest : goal.overflow_sub-nearest
-overflow_sub-nearest c = omega (arith, c.requires.from_lt_places.1)
 
 pub walk_lines-requires : goal.walk_lines-requires
 walk_lines-requires c =

@@ -8,39 +8,26 @@ use Rattle.walk.proofs.Ahead.{gather-turns, gather-at}
 use Rattle.area.proofs.Changes.{under-as, loop-turn, loop-end, under-front, under-stretch, ready-long, step-as}
 use Rattle.walk.proofs.gather_line.Goals as goal
 
-pub lead_of-lead-requires : goal.lead_of-lead-requires
-lead_of-lead-requires c = (c.requires.fit.laid, c.requires.want_nonzero.1)
-
 pub loop-j-init : goal.loop-j-init
-loop-j-init c = (omega arith, c.requires.want_nonzero.2, under-as _ _ c.requires.ready_forth (gather-turns _ _ _ _ _ _ (ready-long c.requires.ready_forth)))
-
-pub waiting-s-requires : goal.waiting-s-requires
-waiting-s-requires c = let u = c.loop-j.invariant.2 in record { ready = u.ready; i_lt_tail = omega (arith, c.loop-j-test.true, u.grows) }
+loop-j-init c = under-as _ _ c.requires.ready_forth (gather-turns _ _ _ _ _ _ (ready-long c.requires.ready_forth))
 
 pub from_state-t-requires : goal.from_state-t-requires
 from_state-t-requires c =
-    let u = c.loop-j.invariant.2 in
+    let u = c.loop-j.invariant in
     let p = c.args.plan in
     let front_same = under-front u p.base (omega arith) in
     let lead_is : c.lead_of-lead.result ≡ lead_in p (front p c.loop-j.work) c.args.i = c.lead_of-lead.ensures ∙ ap (λ g. lead_in p g c.args.i) (sym front_same) in
     record { ready_forth = u.ready; fit = fit_same u.long front_same c.requires.fit; some_lead = ((c.args.i, c.requires.want_nonzero.1, lead_is), c.waiting-s.ensures.1) }
 
-pub overflow_add-j : goal.overflow_add-j
-overflow_add-j c = omega (arith, c.loop-j-test.true, c.requires.ready_forth.fits, c.requires.ready_forth.small)
-
-pub loop-j-smaller : goal.loop-j-smaller
-loop-j-smaller c = omega (arith, c.loop-j-test.true)
-
 pub loop-j-preserved : goal.loop-j-preserved
 loop-j-preserved c =
-    let u = c.loop-j.invariant.2 in
+    let u = c.loop-j.invariant in
     let p = c.args.plan in
-    let less = c.loop-j-test.true in
     let front_same = under-front u p.base (omega arith) in
     let lead_is : c.lead_of-lead.result ≡ lead_in p (front p c.loop-j.work) c.args.i = c.lead_of-lead.ensures ∙ ap (λ g. lead_in p g c.args.i) (sym front_same) in
     let step = rw (front_same, under-stretch u p.base p.size (omega arith)) at (c.from_state-t.ensures c.args.i c.requires.want_nonzero.1 lead_is) in
     let own = gather-at _ _ c.args.want c.args.i c.loop-j.j c.waiting-s.result _ c.requires.want_nonzero.0 c.waiting-s.ensures.0 in
-    (omega (arith, c.loop-j.invariant.0), omega (arith, less), loop-turn _ _ _ u less (step-as _ step own))
+    loop-turn _ _ _ u c.loop-j-test.true (step-as _ step own)
 
 pub returns : goal.returns
-returns c = loop-end _ _ _ c.loop-j.invariant.2 (omega (arith, c.loop-j-test.false))
+returns c = loop-end _ _ _ c.loop-j.invariant (omega (arith, c.loop-j-test.false))

@@ -2,12 +2,12 @@
 use mathlib.Core.Path.{refl}
 use native.Mathlib.Omega.{arith}
 use Rattle.search.specs.Loaded.{boat_at}
-use Rattle.ways.proofs.Chosen.{no-class, shallow, weight-small, left-single}
+use Rattle.ways.proofs.Chosen.{shallow, weight-small, left-single}
 use Rattle.ways.proofs.forgetting_way.Goals as goal
 
 pub kind_way-requires : goal.kind_way-requires
 kind_way-requires c =
-    (shallow c.requires, weight-small _ _ _ _ _ c.requires, omega arith, no-class _ (omega arith))
+    (shallow c.requires, weight-small _ _ _ _ _ c.requires, omega arith, refl)
 
 pub returns-then-wants_kept : goal.returns-then-wants_kept
 returns-then-wants_kept c =

@@ -4,27 +4,23 @@ use Prim.Native.Nat.{◌<◌}
 use native.Mathlib.Omega.{arith}
 use lib.ListN.{get_or}
 use Rattle.area.specs.Area.{found}
-use Rattle.area.proofs.Changes.{under-start, step-as, loop-turn, loop-end}
-use Rattle.request.specs.Layout.{Laid}
+use Rattle.area.proofs.Changes.{step-as, loop-turn, loop-end}
 use Rattle.states.specs.Spots.{boats_in}
 use Rattle.states.proofs.Bounds.{boats-under}
 use Rattle.ways.specs.Ways.{lane_state, lane_turn}
 use Rattle.ways.proofs.Lanes.{under-word}
 use Rattle.ways.proofs.over_words.Goals as goal
 
-pub loop-p-init : goal.loop-p-init
-loop-p-init c = (omega arith, c.requires.d_nonzero.3, under-start _ c.requires.ready_back)
-
-pub one_word-t-requires : goal.one_word-t-requires
-one_word-t-requires c =
+pub one_word-t-requires-clause-d_nonzero : goal.one_word-t-requires-clause-d_nonzero
+one_word-t-requires-clause-d_nonzero g c =
     let (from, up_to_lem, u) = c.loop-p.invariant in
     let (some, near, behind, ordered, inside) = c.requires.d_nonzero in
     let same = under-word u c.loop-p.p (omega (arith, u.ready.fits, behind, from)) in
     let low = subst (λ e. lane_state c.args.lane e < c.args.plan.size) (sym same) (c.requires.within c.loop-p.p from (omega arith)) in
-    record { ready_back = u.ready; laid = (subst (Laid c.args.plan) (sym u.long) c.requires.laid.0, c.requires.laid.1, c.requires.laid.2); d_nonzero = (some, omega (arith, near, u.grows), omega (arith, u.long, inside), low) }
+    (some, omega (arith, near, u.grows), omega (arith, u.long, inside), low)
 
 pub loop-p-preserved : goal.loop-p-preserved
-loop-p-preserved c =
+loop-p-preserved g c =
     let (from, up_to_lem, u) = c.loop-p.invariant in
     let same = under-word u c.loop-p.p (omega (arith, u.ready.fits, c.requires.d_nonzero.2, from)) in
     let plan = c.args.plan in
@@ -35,4 +31,4 @@ loop-p-preserved c =
     (omega arith, omega arith, loop-turn _ _ _ u (omega arith) step)
 
 pub returns : goal.returns
-returns c = loop-end _ _ _ c.loop-p.invariant.2 (omega arith)
+returns g c = loop-end _ _ _ c.loop-p.invariant.2 (omega arith)

@@ -4,7 +4,7 @@ use Prim.Native.Nat.{ℕ, ◌+◌, ◌*◌, ◌-◌, ◌^◌}
 use native.Mathlib.Nat.{pow-zero, pow-suc, one-mul}
 use native.Mathlib.Omega.{arith}
 use Rattle.states.specs.Spots.{front}
-use Rattle.ways.specs.Ways.{Right, Before}
+use Rattle.ways.specs.Ways.{Right}
 use Rattle.ways.proofs.way_of.Goals as goal
 
 -- no deeper, or by one
@@ -14,25 +14,10 @@ same-depth R a b e = let none : a - b ≡ 0 = omega (arith, e) in sym (ap (R ^�
 one_deeper : (R a b : ℕ) → a ≡ b + 1 → R ≡ R ^ (a - b)
 one_deeper R a b e = let one : a - b ≡ 1 = omega (arith, e) in sym (ap (R ^◌) one ∙ (pow-suc R 0 ∙ (ap (λ n. n * R) (pow-zero R) ∙ one-mul R)))
 
-pub exact_way-requires : goal.exact_way-requires
-exact_way-requires c =
-    record { before = subst (Before c.args.plan c.args.spot c.args.target c.args.c) c.if-leaves-target.true c.requires.before; laid = c.requires.laid }
-
 pub returns-then-leaves-target : goal.returns-then-leaves-target
 returns-then-leaves-target c =
     subst (λ n. Right c.args.plan (front c.args.plan c.args.work.now) c.args.spot c.args.target c.args.c n c.exact_way.result) (same-depth c.args.plan.radix _ _ c.if-leaves-target.true) c.exact_way.ensures
 
-pub overflow_add-target : goal.overflow_add-target
-overflow_add-target c =
-    omega (arith, c.requires.before.aimed.depth_low, c.requires.before.laid.few-keeps)
-
-pub forgetting_way-requires : goal.forgetting_way-requires
-forgetting_way-requires c =
-    subst (Before c.args.plan c.args.spot c.args.target c.args.c) (omega (arith, c.if-leaves-target-2.true)) c.requires.before
-
 pub returns-then-leaves-target-2 : goal.returns-then-leaves-target-2
 returns-then-leaves-target-2 c =
     subst (λ n. Right c.args.plan (front c.args.plan c.args.work.now) c.args.spot c.args.target c.args.c n c.forgetting_way.result) (one_deeper c.args.plan.radix _ _ c.if-leaves-target-2.true) (c.forgetting_way.ensures _ c.requires.laid.1)
-
-pub returns : goal.returns
-returns c = tt

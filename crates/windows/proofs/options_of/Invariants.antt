@@ -1,13 +1,8 @@
 -- `windows::options_of`: the windows of the first k kinds are those of the words.
-use Rattle.std.proofs.Common.{◌-◌, ◌≡◌, ◌≤◌, replicate}
-use Rattle.lists.specs.Filled.{filled}
-use Rattle.windows.specs.Promise.{open_of, close_of, each_of}
+use Rattle.std.proofs.Common.{ℕ, ◌≡◌, ◌<◌, length, get_or}
+use Rattle.windows.specs.declared.Window.{Window}
+use Rattle.windows.specs.Promise.{open_of, close_of}
 use Rattle.windows.proofs.options_of.Given as goal
 
 abbrev pub invariant-loop-k : goal.invariant-loop-k
-invariant-loop-k l =
-    (l.k ≤ 15) × (l.opens ≡ filled (each_of (open_of l.words) 0 15) l.k (replicate 15 0))
-    × (l.closes ≡ filled (each_of (close_of l.words) 0 15) l.k (replicate 15 86400))
-
-abbrev pub decreases-loop-k : goal.decreases-loop-k
-decreases-loop-k l = 15 - l.k
+invariant-loop-k l = (length l.window-items ≡ 15) × ((i : ℕ) → i < l.k → ◌≡◌ {A = Window} (get_or l.window-items i (record { opens = 0; closes = 0 })) (record { opens = open_of l.words i; closes = close_of l.words i }))

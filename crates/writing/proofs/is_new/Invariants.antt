@@ -1,5 +1,5 @@
 -- `writing::is_new`: i lines were passed, the next begins here, and none of those passed is the new line, so that the rest decides.
-use Rattle.std.proofs.Common.{◌-◌, ◌≡◌, ◌≤◌, length, drop}
+use Rattle.std.proofs.Common.{◌≡◌, ◌≤◌, length, drop}
 use Rattle.meaning.specs.Writing.{is_new}
 use Rattle.record.specs.Reading.{written_shown}
 use Rattle.record.specs.Whole.{lines_of}
@@ -10,6 +10,3 @@ abbrev pub invariant-loop-i : goal.invariant-loop-i
 invariant-loop-i l =
     (l.i ≤ l.lines) × (l.lines ≡ length (lines_of l.day)) × (l.at ≡ start_of (lines_of l.day) l.i)
     × (is_new (written_shown l.w) (lines_of l.day) ≡ is_new (written_shown l.w) (drop l.i (lines_of l.day)))
-
-abbrev pub decreases-loop-i : goal.decreases-loop-i
-decreases-loop-i l = l.lines - l.i

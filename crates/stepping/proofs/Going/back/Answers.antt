@@ -5,10 +5,10 @@ use Rattle.stepping.specs.Stepping.{underway_in}
 use Rattle.stepping.proofs.Moving.{held_none, held-fit, turned_none, turned_then, end-ground, end-held, end-indexed}
 use Rattle.stepping.proofs.Going.back.Goals as goal
 
-pub returns-then-s-ne0 : goal.returns-then-s-ne0
+pub returns-then-s : goal.returns-then-s
 unfolding underway_in
-returns-then-s-ne0 c =
-    turned_none (held_none (λ u. u) _ c.requires.0 refl) (λ _. c.if-s-ne0.true)
+returns-then-s c =
+    turned_none (held_none (λ u. u) _ c.requires.0 refl) (λ _. c.if-s.true)
 
 pub returns-then-self-eq0 : goal.returns-then-self-eq0
 returns-then-self-eq0 c =

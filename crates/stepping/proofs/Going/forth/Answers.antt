@@ -5,10 +5,10 @@ use Rattle.stepping.specs.Stepping.{underway_in}
 use Rattle.stepping.proofs.Moving.{held_none, held-fit, turned_none, turned_then, other-over, start-ground, start-held, start-ordered}
 use Rattle.stepping.proofs.Going.forth.Goals as goal
 
-pub returns-then-s-ne1 : goal.returns-then-s-ne1
+pub returns-then-s : goal.returns-then-s
 unfolding underway_in
-returns-then-s-ne1 c =
-    turned_none (held_none (λ u. u) _ c.requires.0 refl) (λ _ n. other-over _ n c.if-s-ne1.true)
+returns-then-s c =
+    turned_none (held_none (λ u. u) _ c.requires.0 refl) (λ _ n. other-over _ n c.if-s.true)
 
 pub returns-then-self-eq0 : goal.returns-then-self-eq0
 returns-then-self-eq0 c =
@@ -28,7 +28,7 @@ sort_at-requires c =
 pub forth_by-requires : goal.forth_by-requires
 forth_by-requires c =
     let h = start-held c.requires.0 c.sort_at.ensures.kept in
-    record { standing = (h.standing, record { fit = held-fit h c.requires.1; index = start-ordered h.standing c.sort_at.ensures.sorted }); phase_value = c.if-s-ne1.false }
+    record { standing = (h.standing, record { fit = held-fit h c.requires.1; index = start-ordered h.standing c.sort_at.ensures.sorted }); phase_value = c.if-s.false }
 
 pub returns : goal.returns
 returns c =

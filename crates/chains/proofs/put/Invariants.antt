@@ -1,9 +1,0 @@
--- `chains::put`: i goes up to the length of the text, which fits the line from the place on.
-use Rattle.std.proofs.Common.{◌-◌, ◌≤◌, length}
-use Rattle.chains.proofs.put.Given as goal
-
-abbrev pub invariant-loop-i : goal.invariant-loop-i
-invariant-loop-i l = l.i ≤ length l.text
-
-abbrev pub decreases-loop-i : goal.decreases-loop-i
-decreases-loop-i l = length l.text - l.i

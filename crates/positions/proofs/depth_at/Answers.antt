@@ -1,8 +1,0 @@
--- `positions::depth_at`: the depth alone is taken out of the packed word.
-use Rattle.std.proofs.Common.{refl}
-use Rattle.positions.specs.Program.{row_at, unpacked}
-use Rattle.positions.proofs.depth_at.Goals as goal
-
-pub returns : goal.returns
-unfolding row_at unpacked
-returns c = refl
