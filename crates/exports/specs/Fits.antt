@@ -1,4 +1,4 @@
--- A reply that has room in the low 32 bits: what `write_number`, `check_number`, `find_number` and `begin_number` ask of their callers. No open function's promise uses it.
+-- A reply that has room in the low 32 bits: `SaidFits` is what `find_number` asks of its callers; the others are laws of the replies. No open function's promise uses it.
 use Rattle.std.specs.Prelude.{ℕ, ◌<◌}
 use Rattle.meaning.specs.Outcome.{Reply, value, refusal}
 use Rattle.finder.specs.Promise as Find
