@@ -56,12 +56,14 @@ fn first_from(noted: &[u32], start: usize, boat: u32) -> usize
 }
 
 // The same from line 0 on. The lines are read one by one and none after the first with the boat; a turn of the loop has four of them, which
-// takes less time than a turn for each.
+// takes less time than a turn for each. The turns are counted: a loop that asks whether four lines are left is compiled so that one of its
+// jumps stands across 32 bytes of code, wherever it comes to lie, and takes up to twice as long.
 fn first_same(noted: &[u32], boat: u32) -> usize
     ensures { FirstAt noted.now boat result }
 {
-    let mut j: usize = 0;
-    while j + 3 < noted.len() {
+    let turns = noted.len() / 4;
+    for turn in 0..turns {
+        let j = 4 * turn;
         if noted[j] == boat {
             return j;
         }
@@ -77,9 +79,8 @@ fn first_same(noted: &[u32], boat: u32) -> usize
         if noted[m] == boat {
             return m;
         }
-        j = m + 1;
     }
-    first_from(noted, j, boat)
+    first_from(noted, 4 * turns, boat)
 }
 
 // Line i is gone over: its boat is noted, and numbered as the first line with it, else by the next number.

@@ -1,13 +1,13 @@
 -- One turn of the code's walk over a record: what is left to count after an entry, by what the code was told of it.
 -- Assumes nothing.
-use mathlib.Core.Path.{◌≡◌, refl, sym, ap, ◌∙◌, subst}
+use mathlib.Core.Path.{◌≡◌, refl, sym, ap, ◌∙◌}
 use mathlib.Core.Bool.{Bool, true, false}
 use mathlib.Core.List.{List, ◌∷◌}
 use Prim.Native.Nat.{ℕ, suc, ◌+◌, ◌*◌, ◌-◌, ◌<◌, ◌≤◌}
 use native.Mathlib.Nat.{add-zero, zero-add}
 use native.Mathlib.Omega.{arith}
 use lib.ListN.{length, take, drop, length-drop}
-use lib.Seq.{drop-drop, take_all}
+use lib.Seq.{take_all}
 use Rattle.std.specs.Prelude.{Some, None, Ok}
 use Rattle.meaning.specs.Outcome.{Outcome, refused, passed, ask, and_then}
 use Rattle.meaning.specs.Record.{Line, Entry, line, end, two, width, places_whole, entry_at, lines_from}
@@ -77,32 +77,28 @@ module _ (places : ℕ) (s : List ℕ) (k bound : ℕ) where
 pub lent : (day : List ℕ) (at : ℕ) → take (length day - at) (drop at day) ≡ drop at day
 lent day at = take_all (length day - at) (drop at day) (omega (arith, length-drop at day))
 
--- a turn of the loop, `lines` lines having been passed
-module _ (day : List ℕ) (places at lines : ℕ) (passed-by : 3 + 10 * lines ≤ at) (inside : at ≤ length day) where
-  left : length day - lines ≡ suc (length day - (lines + 1))
-  left = omega (arith, passed-by)
+-- a turn of the loop, `lines` lines having been passed and these bytes of a record of `bound` being left
+module _ (bound places : ℕ) (rest : List ℕ) (lines : ℕ) (room : 3 + 10 * lines + length rest ≤ bound) where
+  left : bound - lines ≡ suc (bound - (lines + 1))
+  left = omega (arith, room)
 
-  further-on : (n : ℕ) → drop (at + n) day ≡ drop n (drop at day)
-  further-on n = sym (drop-drop n at day)
-
-  pub turn : (n : ℕ) → outcome (Ok (Some n)) ≡ mapped entry_width (entry_at places lines (take (length day - at) (drop at day)))
-      → (10 ≤ n) × (at + n ≤ length day) × (lines < 4096)
-      × (counted (lines + 1) (lines_from (length day - (lines + 1)) places (lines + 1) (drop (at + n) day)) ≡ counted lines (lines_from (length day - lines) places lines (drop at day)))
+  pub turn : (n : ℕ) → outcome (Ok (Some n)) ≡ mapped entry_width (entry_at places lines rest)
+      → (10 ≤ n) × (n ≤ length rest) × (lines < 4096)
+      × (counted (lines + 1) (lines_from (bound - (lines + 1)) places (lines + 1) (take (length rest - n) (drop n rest))) ≡ counted lines (lines_from (bound - lines) places lines rest))
   turn n t =
-      let h = at-line places (drop at day) lines (length day - (lines + 1)) n (subst (λ (s : List ℕ). outcome (Ok (Some n)) ≡ mapped entry_width (entry_at places lines s)) (lent day at) t) in
-      let further : drop (at + n) day ≡ drop n (drop at day) = further-on n in (
+      let h = at-line places rest lines (bound - (lines + 1)) n t in (
         h.0,
-        omega (arith, length-drop at day, h.0, h.1, inside),
+        h.1,
         h.2,
-        ap (λ s. counted (lines + 1) (lines_from (length day - (lines + 1)) places (lines + 1) s)) further
-            ∙ (sym h.3 ∙ ap (λ b. counted lines (lines_from b places lines (drop at day))) (sym left)),
+        ap (λ s. counted (lines + 1) (lines_from (bound - (lines + 1)) places (lines + 1) s)) (lent rest n)
+            ∙ (sym h.3 ∙ ap (λ b. counted lines (lines_from b places lines rest)) (sym left)),
       )
 
-  pub stop-here : outcome (Ok None) ≡ mapped entry_width (entry_at places lines (take (length day - at) (drop at day))) → passed lines ≡ counted lines (lines_from (length day - lines) places lines (drop at day))
-  stop-here t = rw left (at-end places (drop at day) lines (length day - (lines + 1)) (subst (λ (s : List ℕ). outcome (Ok None) ≡ mapped entry_width (entry_at places lines s)) (lent day at) t))
+  pub stop-here : outcome (Ok None) ≡ mapped entry_width (entry_at places lines rest) → passed lines ≡ counted lines (lines_from (bound - lines) places lines rest)
+  stop-here t = rw left (at-end places rest lines (bound - (lines + 1)) t)
 
-  pub refused-here : (r : Refusal) → refused (number r) ≡ mapped entry_width (entry_at places lines (take (length day - at) (drop at day))) → refused (number r) ≡ counted lines (lines_from (length day - lines) places lines (drop at day))
-  refused-here r t = rw left (at-refusal places (drop at day) lines (length day - (lines + 1)) r (subst (λ (s : List ℕ). refused (number r) ≡ mapped entry_width (entry_at places lines s)) (lent day at) t))
+  pub refused-here : (r : Refusal) → refused (number r) ≡ mapped entry_width (entry_at places lines rest) → refused (number r) ≡ counted lines (lines_from (bound - lines) places lines rest)
+  refused-here r t = rw left (at-refusal places rest lines (bound - (lines + 1)) r t)
 
 -- ---- the places command, and the whole record
 

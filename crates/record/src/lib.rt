@@ -158,10 +158,8 @@ pub fn line_asked(w: Written, places: usize) -> Result<usize, Refusal>
     ensures { outcome result ≡ ask_line places (written_shown w) (passed (width (written_shown w))) }
 {
     let l = w.line;
-    if places <= usize::from(l.from) {
-        return Err(Refusal::LinePlaceNotThere);
-    }
-    if places <= usize::from(l.to) {
+    // both places in one test
+    if places <= usize::from(l.from.max(l.to)) {
         return Err(Refusal::LinePlaceNotThere);
     }
     if l.kind == 0 {
@@ -215,15 +213,16 @@ fn entry_at(s: &[u8], places: usize, lines: usize) -> Result<Option<usize>, Refu
     Err(Refusal::EntryNotKnown)
 }
 
-// The questions of all that stands after the places command. Returns how many lines there are.
+// The questions of all that stands after the places command. Returns how many lines there are. It goes on with the bytes that are left, and not
+// with an offset: the loop is shorter so, and an untimed line takes three fifths of the time (docs/PERFORMANCE.md, "After the look back").
 fn lines_from(day: &[u8], places: usize) -> Result<usize, Refusal>
     requires { (3 ≤ length day.now) × (length day.now ≤ 57348) }
     ensures { outcome result ≡ mapped length (lines_from (length day.now) places 0 (drop 3 day.now)) }
 {
-    let mut at = FIRST_LINE;
+    let mut rest = &day[FIRST_LINE..];
     let mut lines = 0;
-    while let Some(width) = entry_at(&day[at..], places, lines)? {
-        at += width;
+    while let Some(width) = entry_at(rest, places, lines)? {
+        rest = &rest[width..];
         lines += 1;
     }
     Ok(lines)

@@ -14,4 +14,4 @@ returns-in_err-width c =
     let long : leb (width (line_of s)) (length s) ≡ true = le-leb _ _ (omega (arith, c.if-s-width_of.false, c.width_of.ensures, width_read c.args.timed s c.requires)) in
     let asked : refused (number c.in_err-width.field-0.0) ≡ ask_line c.args.places (line_of s) (passed (width (line_of s))) =
     c.in_err-width.ensures ∙ ap (λ l. ask_line c.args.places l (passed (width l))) c.written_of.ensures.0 in
-    handed _ _ c.from_residual.ensures.1 ∙ simp (lt-ltb _ _ c.if-lines-ge-MOST_LINES.false, long) (line-refused c.args.places (line_of s) _ asked)
+    handed _ _ c.from_residual.ensures.1 ∙ simp (lt-ltb c.args.lines 4096 (omega arith), long) (line-refused c.args.places (line_of s) _ asked)

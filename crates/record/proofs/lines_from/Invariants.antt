@@ -7,8 +7,8 @@ use Rattle.record.proofs.lines_from.Given as goal
 
 abbrev pub invariant-loop-width : goal.invariant-loop-width
 invariant-loop-width l =
-    (3 + 10 * l.lines ≤ l.at) × (l.at ≤ length l.day) × (length l.day ≤ 57348)
-    × (counted l.lines (lines_from (length l.day - l.lines) l.places l.lines (drop l.at l.day)) ≡ counted 0 (lines_from (length l.day) l.places 0 (drop 3 l.day)))
+    (3 + 10 * l.lines + length l.rest ≤ length l.day) × (length l.day ≤ 57348)
+    × (counted l.lines (lines_from (length l.day - l.lines) l.places l.lines l.rest) ≡ counted 0 (lines_from (length l.day) l.places 0 (drop 3 l.day)))
 
 abbrev pub decreases-loop-width : goal.decreases-loop-width
-decreases-loop-width l = length l.day - l.at
+decreases-loop-width l = length l.rest
