@@ -125,24 +125,31 @@ fn fail(rt: &impl Eprint, what: impl Display + Drop, error: &io::Error) {
     let _ = eprintln!(rt; "{what}: {words}");
 }
 
-// The first bytes of a file, at most N: none of a file that is missing.
-fn first_bytes<const N: usize>(rt: &impl Files, name: &str) -> io::Result<ArrayVec<u8, N>> {
-    let mut bytes = ArrayVec::new();
+// Puts the first bytes of a file into a vector, as many as it has room for: none of a file that is missing. The vector is lent, since one that is
+// returned is moved, and each place that it is moved to has 64 KiB of the stack.
+fn first_bytes<const N: usize>(
+    rt: &impl Files,
+    name: &str,
+    bytes: &mut ArrayVec<u8, N>,
+) -> io::Result<u64> {
     match fs::open(rt, name) {
-        Ok(file) => io::copy(&mut file.take(N as u64), &mut bytes)?,
-        Err(e) if e.kind() == ErrorKind::NotFound => 0,
-        Err(e) => return Err(e),
-    };
-    Ok(bytes)
+        Ok(file) => io::copy(&mut file.take(N as u64), bytes),
+        Err(e) if e.kind() == ErrorKind::NotFound => Ok(0),
+        Err(e) => Err(e),
+    }
 }
 
-// The first bytes of a file, at most N, or none and a word on standard error where it cannot be read.
-fn read_file<const N: usize, R: Files + Eprint>(rt: &R, name: &str) -> Option<ArrayVec<u8, N>> {
-    match first_bytes(rt, name) {
-        Ok(bytes) => Some(bytes),
+// Puts the first bytes of a file into a vector, and says whether it can be read; where it cannot, standard error has a word on it.
+fn read_file<const N: usize, R: Files + Eprint>(
+    rt: &R,
+    name: &str,
+    bytes: &mut ArrayVec<u8, N>,
+) -> bool {
+    match first_bytes(rt, name, bytes) {
+        Ok(_) => true,
         Err(e) => {
             fail(rt, format_args!("chains: {name} cannot be read"), &e);
-            None
+            false
         }
     }
 }
@@ -161,7 +168,8 @@ fn print_answer<R: Print + Eprint>(rt: &R, day: &[u8], ask: &[u8]) {
 // bytes of at most 63 commands, 3 each at most, and for the byte after these, for question 8, 9 or 14. It is in the first 190, so the
 // reader finds the same bytes, and the same lack of a byte, in a pattern that is cut at 4,092 bytes as in the whole one.
 fn ask_file<R: Files + Print + Eprint>(rt: &R, day: &[u8]) {
-    if let Some(ask) = read_file::<4096, _>(rt, "ask.pat") {
+    let mut ask = ArrayVec::<u8, 4096>::new();
+    if read_file(rt, "ask.pat", &mut ask) {
         print_answer(rt, day, ask.as_slice());
     }
 }
@@ -170,7 +178,8 @@ fn ask_file<R: Files + Print + Eprint>(rt: &R, day: &[u8]) {
 // read. A longer record is cut, which changes no answer: at 65,536 bytes it is longer than 57,348, as the whole one is, and both are
 // refused at question 1.
 fn main(rt: HostRuntime) {
-    if let Some(day) = read_file::<65536, _>(&rt, "day.rec") {
+    let mut day = ArrayVec::<u8, 65536>::new();
+    if read_file(&rt, "day.rec", &mut day) {
         ask_file(&rt, day.as_slice());
     }
 }

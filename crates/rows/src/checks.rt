@@ -46,7 +46,7 @@ fn asked(r: &[u8], area: &mut WorkArea) -> Result<bool, Refusal> {
 }
 
 pub fn row(rt: &impl Print, r: &[u8]) {
-    let mut area = WorkArea::new();
+    let mut area = WorkArea([7; 16384]);
     print::bytes(rt, file::field(r, 0));
     let said = Said(asked(r, &mut area));
     print::line(rt, format_args!(": {said}, {area}"));

@@ -8,13 +8,13 @@ use std::io::Read;
 use std::rt::Files;
 use std::{fs, io};
 
-// The first 65,536 bytes of a file, or those before its end or before a read fails: none where there is no such file.
-pub fn load(rt: &impl Files, name: &str) -> ArrayVec<u8, 65536> {
-    let mut table = ArrayVec::new();
+// Puts the first 65,536 bytes of a file into the table, or those before its end or before a read fails: none where there is no such file. The
+// table is lent, since one that is returned is moved, and each place that it is moved to has 64 KiB of the stack.
+pub fn load(rt: &impl Files, name: &str, table: &mut ArrayVec<u8, 65536>) {
+    table.clear();
     if let Ok(file) = fs::open(rt, name) {
-        let _ = io::copy(&mut file.take(65536), &mut table);
+        let _ = io::copy(&mut file.take(65536), table);
     }
-    table
 }
 
 // ---- fields

@@ -39,7 +39,7 @@ fn asked(r: &[u8], area: &mut WorkArea, out: &mut [u16]) -> Result<Option<usize>
 }
 
 pub fn row(rt: &impl Print, r: &[u8]) {
-    let mut area = WorkArea::new();
+    let mut area = WorkArea([7; 16384]);
     let mut out = [65535u16; 2048];
     print::bytes(rt, file::field(r, 0));
     let reply = asked(r, &mut area, &mut out);

@@ -3,15 +3,11 @@ ghost use Rattle.std.specs.Prelude.{◌≡◌, length, min};
 
 use std::fmt;
 
-// 16,384 words, which are 7 before a reply.
+// 16,384 words, which are 7 before a reply. A row makes them where they stand: a function that returned them would move 64 KiB.
 #[derive(Drop)]
-pub struct WorkArea([u32; 16384]);
+pub struct WorkArea(pub [u32; 16384]);
 
 impl WorkArea {
-    pub fn new() -> WorkArea {
-        WorkArea([7; 16384])
-    }
-
     // So many of its words, or all where those are fewer.
     pub fn words(&mut self, n: usize) -> &mut [u32]
         ensures { length result.now ≡ min n 16384 }
@@ -19,9 +15,13 @@ impl WorkArea {
         lent(&mut self.0, n)
     }
 
-    // How many words are v.
+    // How many words are v. By a `for`, which is compiled to a sum; `filter` and `count` ask of each word by a jump, in three times the time.
     fn count(&self, v: u32) -> usize {
-        self.0.iter().filter(|word| **word == v).count()
+        let mut n: usize = 0;
+        for word in &self.0 {
+            n = n.wrapping_add(usize::from(*word == v));
+        }
+        n
     }
 }
 
