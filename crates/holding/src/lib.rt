@@ -3,7 +3,7 @@
 // Of the four stretches no word is read here: there are up to four million, and a state taken up meets a few. Who reads one checks it.
 #![tactic(auto)]
 
-ghost use Rattle.std.specs.Prelude.{◌≡◌, true, ◌≤◌, ◌<◌, length};
+ghost use Rattle.std.specs.Prelude.{◌≡◌, true, ◌≤◌, ◌<◌, length, take};
 ghost use Rattle.request.specs.Layout.{Laid};
 ghost use Rattle.area.specs.Area.{patch};
 ghost use Rattle.states.specs.Spots.{front};
@@ -119,17 +119,18 @@ fn numbers_sound(work: &[u32]) -> bool
 
 // ---- the pattern's bytes
 
-// The pattern's bytes, as many as there is room for, out of their words into the front of `bytes`, which is returned.
-pub fn pattern_bytes<'a>(work: &[u32], bytes: &'a mut [u8; 192]) -> &'a [u8]
+// The pattern's bytes, as many as there is room for, out of their words into the front of `bytes`. Returns how many.
+pub fn pattern_bytes(work: &[u32], bytes: &mut [u8; 192]) -> usize
     requires { tables_at ≤ length work.now }
-    ensures { result.now ≡ bytes_in work.now }
+    ensures { (result ≡ length (bytes_in work.now)) × (take result bytes.new ≡ bytes_in work.now) }
 {
     let said = area::word(work, 4) as usize;
-    let front = &mut bytes[..said.min(LONGEST)];
+    let many = said.min(LONGEST);
+    let front = &mut bytes[..many];
     for (i, byte) in front.iter_mut().enumerate() {
         *byte = (area::word(work, BYTES + i) % 256) as u8;
     }
-    front
+    many
 }
 
 // ---- the plan

@@ -155,7 +155,8 @@ pub fn move_search(work: &mut [u32], amount: usize) -> Result<usize, Refusal>
         return Err(Refusal::NoSearch);
     }
     let mut bytes: [u8; 192] = [0; 192];
-    let pattern = holding::pattern_bytes(work, &mut bytes);
+    let long = holding::pattern_bytes(work, &mut bytes);
+    let pattern = &bytes[..long];
     let s = holding::taken_out(work, pattern).ok_or(Refusal::NoSearch)?;
     Ok(move_taken(work, s, pattern, amount))
 }
@@ -197,7 +198,8 @@ pub fn finish_search(work: &mut [u32], out: &mut [u16]) -> Result<Option<usize>,
         return Err(OutputError::Refused(Refusal::NoSearch));
     }
     let mut bytes: [u8; 192] = [0; 192];
-    let pattern = holding::pattern_bytes(work, &mut bytes);
+    let long = holding::pattern_bytes(work, &mut bytes);
+    let pattern = &bytes[..long];
     let s = holding::taken_out(work, pattern).ok_or(Refusal::NoSearch)?;
     let length = finish_taken(work, s, pattern, out);
     request::clear(work);

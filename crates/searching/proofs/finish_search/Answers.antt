@@ -14,7 +14,7 @@ pub returns-in_err-s : goal.returns-in_err-s
 returns-in_err-s c =
     let (none, is) = none-taken _ _ (sym c.in_err-s.ensures.value) in
     let never = rw none at c.taken_out.ensures in
-    rw (output-handed _ _ c.from_residual.ensures.1, is) (finish-none c.args.work.now c.args.out.now (none-sound c.args.work.now _ c.pattern_bytes-pattern.ensures never))
+    rw (output-handed _ _ c.from_residual.ensures.1, is) (finish-none c.args.work.now c.args.out.now (none-sound c.args.work.now _ c.pattern_bytes-long.ensures.1 never))
 
 pub returns : goal.returns
 returns c =
@@ -22,4 +22,4 @@ returns c =
     let cleared = all-zero (length c.finish_taken-length.new.work) (length c.args.work.now) _ c.clear.ensures (omega arith) in
     let long : length c.finish_taken-length.new.out ≡ length c.args.out.now = omega arith in
     let reply = c.answered.ensures ∙ ap (told_by c.finish_taken-length.result) long in
-    finish-some c.args.work.now c.args.out.now _ c.pattern_bytes-pattern.ensures _ sound _ _ c.finish_taken-length.ensures _ cleared _ reply
+    finish-some c.args.work.now c.args.out.now _ c.pattern_bytes-long.ensures.1 _ sound _ _ c.finish_taken-length.ensures _ cleared _ reply

@@ -12,9 +12,9 @@ pub returns-in_err-s : goal.returns-in_err-s
 returns-in_err-s c =
     let (none, is) = none-taken _ _ (sym c.in_err-s.ensures.value) in
     let never = rw none at c.taken_out.ensures in
-    rw (reply-handed _ _ c.from_residual.ensures.1, is) (move-none c.args.amount c.args.work.now (none-sound c.args.work.now _ c.pattern_bytes-pattern.ensures never))
+    rw (reply-handed _ _ c.from_residual.ensures.1, is) (move-none c.args.amount c.args.work.now (none-sound c.args.work.now _ c.pattern_bytes-long.ensures.1 never))
 
 pub returns : goal.returns
 returns c =
     let sound = rw c.in_ok-s.ensures.ok_part at c.taken_out.ensures in
-    move_some c.args.amount c.args.work.now _ c.pattern_bytes-pattern.ensures _ sound _ _ c.move_taken.ensures
+    move_some c.args.amount c.args.work.now _ c.pattern_bytes-long.ensures.1 _ sound _ _ c.move_taken.ensures
