@@ -385,7 +385,7 @@ fn by_sorted(
 {
     let undo = undo_of(plan, spot, target, d, leaves);
     let run = ways::lines_for(work, plan, spot, target);
-    over_stacked(work, plan, undo, c, run.start, run.end, tail)
+    over_stacked(work, plan, undo, c, run.lo, run.hi, tail)
 }
 
 // The lines of the kind that the key `k` says, for a lane that asks for classes: by the thin ones of its sieve where they are there. It is

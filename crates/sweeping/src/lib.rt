@@ -129,7 +129,7 @@ fn lead_on(
 {
     let at = plan.base + 4 * plan.size;
     let run = sorted::run_at(work, plan, Order::Start, at, states::place_of(plan, s));
-    for k in run.start..run.end {
+    for k in run.lo..run.hi {
         let i = area::word(work, k) as usize;
         if noted < i {
             return noted;

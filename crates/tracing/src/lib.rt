@@ -130,7 +130,7 @@ fn over_into(
     let run = sorted::run_at(work, plan, Order::End, at, place);
     let boats = wanted_by(plan, undo);
     let mut t = tail;
-    for k in run.start..run.end {
+    for k in run.lo..run.hi {
         let i = area::word(work, k) as usize;
         if worth_going(work, plan, undo, boats, c, i, t) {
             t = one_traced(work, plan, undo, place, c, i, parent, t);

@@ -115,7 +115,7 @@ fn choose_here(
 {
     let q = place_of(work, plan, lo, tail);
     let run = sorted::run_of(work, plan, Order::Start, q);
-    for k in run.start..run.end {
+    for k in run.lo..run.hi {
         let line = area::word(work, k) as usize;
         let t = gather_line(work, plan, program, want, line, lo, tail);
         if t != tail {

@@ -17,9 +17,8 @@ ghost use Rattle.states.specs.Spots.{front, boats_in, read_but, sister_of, forei
 
 use positions::Rule;
 use request::Plan;
-use sorted::{Order, PACK};
+use sorted::{Bounds, Order, PACK};
 use states::{Kin, Sieve, Spot, Takes, Target};
-use std::ops::Range;
 
 // Which words are taken: all, only those with a number, those of read boats with another, and of these only those of the same class or, whatever
 // their numbers, those of another class.
@@ -314,7 +313,7 @@ pub fn over_run<const CLASSES: bool>(
     ensures { StepBack plan (run_lines order plan work.old k d lane) tail work.old result work.new }
 {
     let run = sorted::run_of(work, plan, order, k);
-    over_words::<CLASSES>(work, plan, lane, d, run.start, run.end, tail)
+    over_words::<CLASSES>(work, plan, lane, d, run.lo, run.hi, tail)
 }
 
 // Are the thin lines of boats enough for the lane? Their numbers must have no weight, and those that it takes be a set that is served.
@@ -360,18 +359,18 @@ pub fn over_thin<const CLASSES: bool>(
     ensures { StepBack plan (run_lines Orders.Kind plan work.old k d lane) tail work.old result work.new }
 {
     let run = thinned::thin_of(work, plan, sieve, k);
-    over_words::<CLASSES>(work, plan, lane, d, run.start, run.end, tail)
+    over_words::<CLASSES>(work, plan, lane, d, run.lo, run.hi, tail)
 }
 
 // ---- the tables
 
 // The words that are enough for a position whose stacks are gone over one by one: the lines of its kind, and of them the thin ones where
 // they do and are there.
-pub fn lines_for(work: &[u32], plan: Plan, spot: Spot, target: Target) -> Range<usize>
+pub fn lines_for(work: &[u32], plan: Plan, spot: Spot, target: Target) -> Bounds
     requires laid { Laid plan (length work.now) × Told plan (front plan work.now) }
     requires filed { Filed plan work.now }
     requires kind_bound { (spot.kind ≤ 15) × (target.place < plan.places) }
-    ensures { Enough plan spot target work.now result.start result.end }
+    ensures { Enough plan spot target work.now result.lo result.hi }
 {
     let k = target.place * 16 + spot.kind;
     match states::enough(spot) {

@@ -22,8 +22,8 @@ pub returns : goal.returns
 returns c =
     let x = c.args in
     let w = x.work.now in
-    let n = c.lines_for-run.result.end - c.lines_for-run.result.start in
+    let n = c.lines_for-run.result.hi - c.lines_for-run.result.lo in
     let st = found x.plan.base x.plan.size x.tail w in
     step-as _ (c.over_stacked.ensures.sound c.requires.ready_back.good)
     (c.lines_for-run.ensures.same x.d x.c _ c.requires.d_nonzero.0 c.requires.before.position-low (undo-fits c.requires.before) st (found-long x.plan.base x.plan.size x.tail w c.requires.ready_back)
-    ∙ (by_word x.plan x.spot x.target x.d x.c x.leaves st (boats_in x.plan w) w c.lines_for-run.result.start n ∙ sym (ap (λ u. turns (λ p. word_undone x.plan u (boats_in x.plan w) x.c (get_or w p 0)) c.lines_for-run.result.start n st) c.undo_of-undo.ensures)))
+    ∙ (by_word x.plan x.spot x.target x.d x.c x.leaves st (boats_in x.plan w) w c.lines_for-run.result.lo n ∙ sym (ap (λ u. turns (λ p. word_undone x.plan u (boats_in x.plan w) x.c (get_or w p 0)) c.lines_for-run.result.lo n st) c.undo_of-undo.ensures)))

@@ -36,8 +36,8 @@ loop-k-init c =
     let b = c.run_at-run.result in
     let there : c.place_of.result < p.places = subst (◌< p.places) (sym is) (place-below fit.laid c.args.s c.requires.s_lt_size.0) in
     let (el, eh, rises, within) = c.run_at-run.ensures in
-    let lined : Lined p (c.args.s / p.stacks / (p.done + 1)) b.start b.end c.args.work.now =
-    subst (λ q. Lined p q b.start b.end c.args.work.now) is (lined-of ordered there b.start b.end el eh) in
+    let lined : Lined p (c.args.s / p.stacks / (p.done + 1)) b.lo b.hi c.args.work.now =
+    subst (λ q. Lined p q b.lo b.hi c.args.work.now) is (lined-of ordered there b.lo b.hi el eh) in
     (refl, lined, looking-start fit.laid c.args.program.now c.args.want lined refl rises)
 
 pub word-i-requires : goal.word-i-requires

@@ -17,7 +17,7 @@ thin_run-end-requires-clause-ahead c =
     let (under, made) = c.requires.k_bound in
     let run = c.run_of-run in
     let stamp : x.k + 1 ≡ suc x.k = omega arith in
-    subst (λ n. Ahead x.table.marks n x.plan.places (x.k + 1) run.result.start run.result.end c.word-start.result x.work.now) (sym t.groups-are)
+    subst (λ n. Ahead x.table.marks n x.plan.places (x.k + 1) run.result.lo run.result.hi c.word-start.result x.work.now) (sym t.groups-are)
     (made-ahead d under made t.marks-at stamp run.ensures.0 run.ensures.1 c.word-start.ensures)
 
 pub returns : goal.returns
@@ -28,7 +28,7 @@ returns c =
     let run = c.run_of-run in
     let B = boats_in x.plan x.work.now in
     let at = x.table.at in
-    let going = subst (λ n. Going x.table.sieve B x.table.marks n (x.k + 1) run.result.start c.word-start.result run.result.end c.thin_run-end.result x.work.now c.thin_run-end.new.work) t.groups-are c.thin_run-end.ensures in
+    let going = subst (λ n. Going x.table.sieve B x.table.marks n (x.k + 1) run.result.lo c.word-start.result run.result.hi c.thin_run-end.result x.work.now c.thin_run-end.new.work) t.groups-are c.thin_run-end.ensures in
     let stamp : x.k + 1 ≡ suc x.k = omega arith in
     let here : at + (x.k + 1) ≡ at + suc x.k = omega arith in
     let back = sym c.write.ensures in

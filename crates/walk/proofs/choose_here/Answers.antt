@@ -18,8 +18,8 @@ loop-k-init c =
     let room = start-room h.fit.laid c.requires.ordered_value in
     let (el, eh, rises, within) = c.run_of-run.ensures in
     let b = c.run_of-run.result in
-    let all = here-all room run b.start b.end el eh h.fit c.args.want c.args.lo c.args.tail c.requires.ready_forth stand in
-    record { here = here_of room run b.start b.end el eh; whole = all; under = under-as _ _ c.requires.ready_forth (listed_same _ _ _ _ _ _ _ all) }
+    let all = here-all room run b.lo b.hi el eh h.fit c.args.want c.args.lo c.args.tail c.requires.ready_forth stand in
+    record { here = here_of room run b.lo b.hi el eh; whole = all; under = under-as _ _ c.requires.ready_forth (listed_same _ _ _ _ _ _ _ all) }
 
 -- the word at k is a line
 pub gather_line-t-requires : goal.gather_line-t-requires
@@ -71,6 +71,6 @@ loop-k-preserved c =
 -- no line of the run leads on
 pub returns : goal.returns
 returns c =
-    let past : c.run_of-run.result.end ≤ c.loop-k.k = omega (arith, c.loop-k-test.false) in
+    let past : c.run_of-run.result.hi ≤ c.loop-k.k = omega (arith, c.loop-k-test.false) in
     let none = listed-none _ _ _ c.args.plan.lines c.loop-k.k _ _ _ past in
     record { line-is = ap (λ (y : Tried). y.line) (sym none ∙ c.loop-k.invariant.whole); low = omega arith; step = under-end c.loop-k.invariant.under (listed-table _ _ _ _ _ _ _ none) }

@@ -34,5 +34,5 @@ returns g c =
     let st = found x.plan.base x.plan.size x.tail w in
     let all = turns-run x.order x.plan at w x.k (s x.k c.requires.laid.1) room _ (lane_turn (boats_in x.plan x.work.now) x.d x.lane) (λ i less b. run-turn _ _ _ _ _ i b) st in
     let turn : ℕ → Search → Search = λ p. lane_turn (boats_in x.plan x.work.now) x.d x.lane (get_or w p 0) in
-    let bounds : turns turn c.run_of-run.result.start (c.run_of-run.result.end - c.run_of-run.result.start) st ≡ turns turn (get_or w (at + x.k) 0) (get_or w (at + suc x.k) 0 - get_or w (at + x.k) 0) st = λ t. turns turn (lo t) (hi t - lo t) st in
+    let bounds : turns turn c.run_of-run.result.lo (c.run_of-run.result.hi - c.run_of-run.result.lo) st ≡ turns turn (get_or w (at + x.k) 0) (get_or w (at + suc x.k) 0 - get_or w (at + x.k) 0) st = λ t. turns turn (lo t) (hi t - lo t) st in
     step-as _ c.over_words.ensures (all ∙ sym bounds)

@@ -45,5 +45,5 @@ returns g c =
     let few = get_or w (at + suc x.k) 0 - first in
     let all = thin-turns x.sieve (boats_in x.plan w) x.plan of at w x.k run (made.thin x.k low) made.room (kinds-fit laid filed.basic) (lane-pushing x.sieve (boats_in x.plan w) x.lane enough x.d some) st
     (λ y m s gets. subst (◌< length st.dist) (sym (gets.3 ∙ sym (flat-state x.sieve (boats_in x.plan w) x.lane enough y))) (subst (lane_state x.lane y <◌) (sym long) (run-gives x.plan of w x.k run x.lane gives y m))) in
-    let bounds : turns (λ p. turn (get_or w p 0)) c.thin_of-run.result.start (c.thin_of-run.result.end - c.thin_of-run.result.start) st ≡ turns (λ p. turn (get_or w p 0)) first few st = λ i. turns (λ p. turn (get_or w p 0)) (lo i) (hi i - lo i) st in
+    let bounds : turns (λ p. turn (get_or w p 0)) c.thin_of-run.result.lo (c.thin_of-run.result.hi - c.thin_of-run.result.lo) st ≡ turns (λ p. turn (get_or w p 0)) first few st = λ i. turns (λ p. turn (get_or w p 0)) (lo i) (hi i - lo i) st in
     step-as _ c.over_words.ensures (all ∙ sym bounds)
