@@ -71,7 +71,7 @@ module _ {s : List ℕ} {task : Task} {r : Step} {o : Outside} {x : Part} {scope
         → Inner r task p inner → CompiledAt s inner mid now → Written task.base (compile x.tree task.base scope K) before now
     around-written one plain says i w =
         let q = one-after (led e.stands f) one in
-        let two = one-pattern-of (led e.stands f) plain q.code in
+        let two = one-pattern-of _ (led e.stands f).ok plain q.code in
         let reads = inner-part f e q (no-skip (byte_of r.op) r.second plain) in
         let b = g.begins (inside (byte_of r.op) r.second o) q.inner reads in
         written_as (ap (λ y. compile y.tree task.base scope K) (sym q.is) ∙ compile-around r task.base q.inner.tree scope K two)

@@ -4,7 +4,7 @@ use mathlib.Core.Bool.{Bool, true, false, cond}
 use mathlib.Core.List.{List, [], ◌∷◌, ◌++◌, append-nil}
 use mathlib.Core.Logic.{inl, inr}
 use mathlib.Core.Option.{Option, none, some}
-use Prim.Native.Nat.{ℕ, zero, suc, ◌+◌, ◌≤◌}
+use Prim.Native.Nat.{ℕ, zero, suc, ◌+◌, ◌<◌, ◌≤◌}
 use native.Mathlib.Omega.{arith}
 use lib.Dec.{eqb}
 use lib.ListN.{length}
@@ -72,10 +72,10 @@ level-some code none level e = cc
 level-some code (some j) level e = let same : level ≡ j = cc in rw same (against-rule (eqb code 0x22) (eqb code 0x23) (eqb code 0x28) j)
 
 -- the level is below the depth
-pub level-fits : (slot : ℕ) (scope : List ℕ) (level : ℕ) → level_shown (level_of slot scope) ≡ Some level → level ≤ length scope
+pub level-fits : (slot : ℕ) (scope : List ℕ) (level : ℕ) → level_shown (level_of slot scope) ≡ Some level → level < length scope
 level-fits slot scope level e = go (level_of slot scope) (level-below slot scope) e
   where
-    go : (o : Option ℕ) → Below o (length scope) → level_shown o ≡ Some level → level ≤ length scope
+    go : (o : Option ℕ) → Below o (length scope) → level_shown o ≡ Some level → level < length scope
     go none h e = absurd (cc)
     go (some j) h e = let same : level ≡ j = cc in omega (arith, h, same)
 

@@ -277,10 +277,10 @@ once-most {c = c} p e code = go (eqb c.second 1) refl (subst (λ (n : ℕ). roun
     go true f h = let one = eqb-true c.second 1 f in (omega (arith, one, (counts-below p (eq-eqb _ _ code)).0), one)
     go false f h = absurd (false≢true (sym h))
 
-pub one-pattern-of : {s : List ℕ} {at before : ℕ} {o : Outside} {x : Part} {r : Step} → Led s at before o x r → rounded (byte_of r.op) r.second ≡ false → OneOf (byte_of r.op) → OnePattern r
-one-pattern-of l e (inl c) = inl c
-one-pattern-of l e (inr (inl c)) = inr (inl c)
-one-pattern-of l e (inr (inr c)) = let (low, one) = once-most l.ok e c in inr (inr (c, low, one))
+pub one-pattern-of : {s : List ℕ} {at before : ℕ} {o : Outside} (r : Step) → Passed s at before o (command_of r) → rounded (byte_of r.op) r.second ≡ false → OneOf (byte_of r.op) → OnePattern r
+one-pattern-of r p e (inl c) = inl c
+one-pattern-of r p e (inr (inl c)) = inr (inl c)
+one-pattern-of r p e (inr (inr c)) = let (low, one) = once-most p e c in inr (inr (c, low, one))
 
 pub inside-depth : (code slot : ℕ) (o : Outside) → (inside code slot o).depth ≡ depth_in code o.depth
 inside-depth code slot o = go (is_keep code)
