@@ -56,8 +56,8 @@ fn first_from(noted: &[u32], start: usize, boat: u32) -> usize
 }
 
 // The same from line 0 on. The lines are read one by one and none after the first with the boat; a turn of the loop has four of them, which
-// takes less time than a turn for each. The turns are counted: a loop that asks whether four lines are left is compiled so that one of its
-// jumps stands across 32 bytes of code, wherever it comes to lie, and takes up to twice as long.
+// takes less time than a turn for each. The turns are counted: of a loop that asks each time whether four lines are left, one jump can come
+// to stand across 32 bytes of code, and it takes up to twice as long then.
 fn first_same(noted: &[u32], boat: u32) -> usize
     ensures { FirstAt noted.now boat result }
 {

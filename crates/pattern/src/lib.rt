@@ -31,6 +31,11 @@ pub enum Op {
     Counted,
 }
 
+// The rows of the table, in the order of the commands: bytes of operands, patterns after the command.
+const OPERANDS: [usize; 11] = [0, 1, 2, 2, 0, 0, 0, 2, 2, 2, 2];
+
+const PATTERNS: [usize; 11] = [0, 0, 0, 0, 2, 2, 1, 1, 0, 0, 1];
+
 impl Op {
     // The command of a byte, if it is one.
     #[tactic(auto, unfolding(meaning::specs::Pattern::shape_of))]
@@ -54,25 +59,19 @@ impl Op {
     }
 
     // How many bytes of operands it has.
+    #[tactic(auto, unfolding(crate::specs::Reading::row_of))]
     pub fn operands(self) -> usize
         ensures { result ≡ (row_of self).operands }
     {
-        match self {
-            Op::Nothing | Op::Either | Op::Then | Op::Repeat => 0,
-            Op::Line => 1,
-            _ => 2,
-        }
+        OPERANDS[self as usize]
     }
 
     // How many patterns stand after it.
+    #[tactic(auto, unfolding(crate::specs::Reading::row_of))]
     pub fn patterns(self) -> usize
         ensures { result ≡ (row_of self).patterns }
     {
-        match self {
-            Op::Either | Op::Then => 2,
-            Op::Repeat | Op::Keep | Op::Counted => 1,
-            _ => 0,
-        }
+        PATTERNS[self as usize]
     }
 
     // Is it a test of a slot's boat?
@@ -112,13 +111,17 @@ pub fn operand_at(src: &[u8], at: usize, operands: usize, i: usize) -> u8
     if i < operands { src[at + 1 + i] } else { 0 }
 }
 
-// Question 11: a kind is 1 to 15, a slot 0 to 3. The two counts of 2A are neither.
+// Question 11: a kind is 1 to 15, a slot 0 to 3. The two counts of 2A are neither, which is asked first: asked last, it makes every
+// command take longer.
 fn in_range(op: Op, first: u8, second: u8) -> bool
     ensures { result ≡ operands_allowed (byte_of op) (row_of op).operands first second }
 {
+    if op == Op::Counted {
+        return true;
+    }
     let kind = op.operands() < 1 || (1..=15).contains(&first);
     let slot = op.operands() < 2 || second < 4;
-    op == Op::Counted || (kind && slot)
+    kind && slot
 }
 
 // Question 24: of the two counts of 2A the lowest is at most the highest, and that at most 20.

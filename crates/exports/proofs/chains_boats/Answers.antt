@@ -1,7 +1,6 @@
 -- `exports::chains_boats` meets its contract: both numbers that `count_boats` gives, where there is room for them.
 -- Assumes nothing.
 use mathlib.Core.Path.{refl, sym, ap, ◌∙◌, subst}
-use Prim.Native.Nat.{ℕ, ◌+◌, ◌*◌}
 use native.Mathlib.Omega.{arith}
 use borrow.Author.Tests.{le-leb, lt-leb}
 use Rattle.meaning.specs.Count.{count_of}
@@ -23,7 +22,7 @@ put_two-requires c =
 pub returns-in-Err : goal.returns-in-Err
 returns-in-Err c =
     let a = c.args in
-    rw (told-refused (count_of a.rec.now) _ _ (ap count_reply (sym c.in-Err.is) ∙ c.count_boats.ensures)) (record { reply = refused-is _ _ (c.refusal.ensures ∙ ap (λ (n : ℕ). n * 4294967296 + 0) c.number.ensures); words = refl })
+    rw (told-refused (count_of a.rec.now) _ _ (ap count_reply (sym c.in-Err.is) ∙ c.count_boats.ensures)) (record { reply = refused-is _ _ (omega (arith, c.refusal.ensures, c.number.ensures)); words = refl })
 
 pub returns-else-room-lt2 : goal.returns-else-room-lt2
 returns-else-room-lt2 c =

@@ -28,7 +28,7 @@ returns c =
       long = omega arith;
       begun = λ rec from to options q k left.
           let compiled = c.turned-moved.ensures.compiled q.pattern (left-parts left).pattern-read in
-          let is : c.min-many.result ≡ min c.args.amount (2 * size_of (met_asked q) + 2) = c.min-many.ensures ∙ ap (λ (n : ℕ). min c.args.amount n) (c.all_turns.ensures ∙ ap (λ (n : ℕ). 2 * n + 2) (left-size left c.requires)) in
+          let is : c.min-many.result ≡ min c.args.amount (2 * size_of (met_asked q) + 2) = omega (arith, c.min-many.ensures, c.all_turns.ensures, left-size left c.requires) in
           let put = c.put_back.ensures ∙ ap (patch 5 7 (numbers_of c.turned-moved.result.state.at)) (c.clear_stretch.ensures ∙ ap (λ (n : ℕ). patch (index_at c.args.s.plan) n (replicate n 0) c.turned-moved.new.work) (table c.args.s.plan.places c.args.s.plan.lines)) in
           (moved-count left c.requires compiled c.turned-moved.ensures.moved c.args.amount is, put ∙ moved-held left c.requires compiled c.turned-moved.ensures.moved c.args.amount is);
     }

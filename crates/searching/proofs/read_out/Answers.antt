@@ -15,7 +15,7 @@ returns-then-out-length c =
     let (some, is) = c.in_ok-length.ensures in
     record {
       short = omega (arith, is);
-      length-is = length-found c.args.s.at.phase c.args.s.at.far _ c.if-at-ne1.false some is;
+      length-is = length-found c.args.s.at.phase c.args.s.at.far _ (omega arith) some is;
       kept = λ _. refl;
       after_is = λ _. rw (lt-leb _ _ c.if-out-length.true) refl;
     }
@@ -25,7 +25,7 @@ returns c =
     let (some, is) = c.in_ok-length.ensures in
     record {
       short = omega (arith, is);
-      length-is = length-found c.args.s.at.phase c.args.s.at.far _ c.if-at-ne1.false some is;
+      length-is = length-found c.args.s.at.phase c.args.s.at.far _ (omega arith) some is;
       kept = λ less. absurd (omega (arith, less, c.if-out-length.false));
       after_is = λ g. rw (le-leb _ _ c.if-out-length.false, is) (c.chain_out.ensures g);
     }
